@@ -1,0 +1,4 @@
+pub mod Lookups
+pub mod LineFaults
+pub mod Expansions
+pub mod FirstFaults

@@ -1,0 +1,164 @@
+-- A text has one value, bytes have one fault, and never both.
+use Rattle.std.proofs.Common.{◌≡◌, ◌≢◌, ℕ, ◌+◌, ◌<◌, ◌≤◌, List, [], ◌∷◌, ◌++◌, length, get_or, refl, sym, ap, subst, ◌∙◌, append_assoc, arith, inl, inr, ◌⊎◌}
+use Rattle.std.specs.List.{join_with_byte}
+use Rattle.plaintext.specs.Plain.{line_of, text_lines}
+use Rattle.plaintext.specs.Fronts.{to_end, IsClosedUnderFronts, IsFirstFaultyLine}
+use Rattle.plaintext.proofs.Cuts.{first_part}
+use Rattle.plaintext.proofs.Ascii.{ascii_clash}
+use Rattle.plaintext.proofs.Texts.{line_of_injective}
+use Rattle.plaintext.proofs.FirstFaults.{heads, same_line, no_faulty_line, closed_begin, begins_whole}
+use Rattle.calltext.specs.declared.call.CallLine.{CallLine}
+use Rattle.calltext.specs.declared.call.Policy.{Policy}
+use Rattle.calltext.specs.declared.call.Policy.TheVariants as policies
+use Rattle.calltext.specs.declared.fault.ReadFault.{ReadFault}
+use Rattle.calltext.specs.declared.fault.ReadFault.TheVariants as faults
+use Rattle.calltext.specs.Grammar.{ProgramText, call_words, ranks_words, policy_word, policy_words, rank_words, rank_lines, program_lines, Fits, IsText}
+use Rattle.calltext.specs.Fault.{CanGoOn, Why, HasFault}
+use Rattle.calltext.specs.RefusedWords.{refused_word, refused_words}
+use Rattle.calltext.proofs.Places.{refused_word_injective}
+use Rattle.calltext.proofs.RefusedLaws.{plain_refused}
+use Rattle.calltext.proofs.Lines.{plain_policy}
+use Rattle.calltext.proofs.Once.{call_line_injective, text_of_lines}
+use Rattle.calltext.proofs.Blocks.{call_lines, call_no_rank, call_no_end}
+
+-- ---- lines have one value
+
+calls_injective : (i : ℕ) (cs ds : List CallLine) (us vs : List (List CallLine)) → (rank_lines (i + 1) us ++ [] ∷ [] ≡ rank_lines (i + 1) vs ++ [] ∷ [] → us ≡ vs)
+    → call_lines cs ++ (rank_lines (i + 1) us ++ [] ∷ []) ≡ call_lines ds ++ (rank_lines (i + 1) vs ++ [] ∷ []) → cs ∷ us ≡ ds ∷ vs
+calls_injective i [] [] us vs ih e = ap (λ (r : List (List CallLine)). [] ∷ r) (ih e)
+calls_injective i (c ∷ cs) [] us [] ih e = absurd (call_no_end c (heads _ _ _ _ e).0)
+calls_injective i (c ∷ cs) [] us (b ∷ vs) ih e = absurd (call_no_rank c (i + 1) (heads _ _ _ _ e).0)
+calls_injective i [] (d ∷ ds) [] vs ih e = absurd (call_no_end d (sym (heads _ _ _ _ e).0))
+calls_injective i [] (d ∷ ds) (a ∷ us) vs ih e = absurd (call_no_rank d (i + 1) (sym (heads _ _ _ _ e).0))
+calls_injective i (c ∷ cs) (d ∷ ds) us vs ih e =
+    let h = heads (line_of (call_words c)) (line_of (call_words d)) (call_lines cs ++ (rank_lines (i + 1) us ++ [] ∷ [])) (call_lines ds ++ (rank_lines (i + 1) vs ++ [] ∷ [])) e in
+    let one : c ≡ d = call_line_injective c d h.0 in
+    let rest : cs ∷ us ≡ ds ∷ vs = calls_injective i cs ds us vs ih h.1 in
+    cc
+
+ranks_injective : (i : ℕ) (us vs : List (List CallLine)) → rank_lines i us ++ [] ∷ [] ≡ rank_lines i vs ++ [] ∷ [] → us ≡ vs
+ranks_injective i [] [] e = refl
+ranks_injective i [] (b ∷ vs) e = absurd cc
+ranks_injective i (a ∷ us) [] e = absurd cc
+ranks_injective i (a ∷ us) (b ∷ vs) e =
+    calls_injective i a b us vs (λ f. ranks_injective (i + 1) us vs f)
+    (sym (append_assoc (call_lines a) (rank_lines (i + 1) us) ([] ∷ [])) ∙ (heads (line_of (rank_words i)) (line_of (rank_words i)) _ _ e).1 ∙ append_assoc (call_lines b) (rank_lines (i + 1) vs) ([] ∷ []))
+
+policy_key : (p q : Policy) → policy_word p ≡ policy_word q → p ≡ q
+policy_key policies.Any policies.Any e = refl
+policy_key policies.Never policies.Never e = refl
+policy_key policies.Always policies.Always e = refl
+policy_key policies.Any policies.Never e = absurd (omega (arith, ap (λ (l : List ℕ). get_or l 1 0) e))
+policy_key policies.Any policies.Always e = absurd (omega (arith, ap (λ (l : List ℕ). get_or l 1 0) e))
+policy_key policies.Never policies.Any e = absurd (omega (arith, ap (λ (l : List ℕ). get_or l 1 0) e))
+policy_key policies.Never policies.Always e = absurd (omega (arith, ap (λ (l : List ℕ). get_or l 1 0) e))
+policy_key policies.Always policies.Any e = absurd (omega (arith, ap (λ (l : List ℕ). get_or l 1 0) e))
+policy_key policies.Always policies.Never e = absurd (omega (arith, ap (λ (l : List ℕ). get_or l 1 0) e))
+
+second_word : (a b x y : List ℕ) → a ∷ x ∷ [] ≡ b ∷ y ∷ [] → x ≡ y
+second_word a b x y e = cc
+
+policy_line_injective : (p q : Policy) → line_of (policy_words p) ≡ line_of (policy_words q) → p ≡ q
+policy_line_injective p q e = policy_key p q (second_word _ _ (policy_word p) (policy_word q) (line_of_injective (policy_words p) (policy_words q) (omega arith) (omega arith) (plain_policy p) (plain_policy q) e))
+
+pub lines_of_text : (bytes : List ℕ) (p : ProgramText) → IsText bytes p → text_lines bytes ≡ to_end (program_lines p)
+lines_of_text bytes p t = ap text_lines t.text ∙ text_of_lines p
+
+pub one_program : (p q : ProgramText) → to_end (program_lines p) ≡ to_end (program_lines q) → p ≡ q
+one_program p q e =
+    let one = heads (line_of (ranks_words (length p.ranks))) (line_of (ranks_words (length q.ranks))) _ _ e in
+    let two = heads (line_of (policy_words p.policy)) (line_of (policy_words q.policy)) _ _ one.1 in
+    let policy : p.policy ≡ q.policy = policy_line_injective p.policy q.policy two.0 in
+    let ranks : p.ranks ≡ q.ranks = ranks_injective 0 p.ranks q.ranks two.1 in
+    λ i. record { policy = policy i; ranks = ranks i }
+
+pub one_value : (bytes : List ℕ) (p q : ProgramText) → IsText bytes p → IsText bytes q → p ≡ q
+one_value bytes p q s t = one_program p q (sym (lines_of_text bytes p s) ∙ lines_of_text bytes q t)
+
+-- ---- a text has no fault
+
+closed : IsClosedUnderFronts CanGoOn
+closed = closed_begin ProgramText Fits program_lines
+
+no_first_fault : (bytes : List ℕ) (p : ProgramText) (before : List (List ℕ)) (line : List ℕ) → IsText bytes p → IsFirstFaultyLine CanGoOn bytes before line → ⊥
+no_first_fault bytes p before line t f = no_faulty_line CanGoOn bytes before line closed (begins_whole ProgramText Fits program_lines p bytes t.fits (lines_of_text bytes p t)) f
+
+pub text_has_no_fault : (bytes : List ℕ) (p : ProgramText) (fault : ReadFault) → IsText bytes p → HasFault bytes fault → fault ≡ faults.Memory
+text_has_no_fault bytes p faults.Memory t h = refl
+text_has_no_fault bytes p faults.TooLarge t h = absurd (omega (arith, t.small, h))
+text_has_no_fault bytes p (faults.NotAscii k) t h = absurd (no_first_fault bytes p h.1 h.2 t h.3)
+text_has_no_fault bytes p (faults.Syntax k) t h = absurd (no_first_fault bytes p h.1 h.2 t h.3)
+text_has_no_fault bytes p (faults.OutOfProfile k w) t h = absurd (no_first_fault bytes p h.1 h.2 t h.3)
+text_has_no_fault bytes p (faults.Range k) t h = absurd (no_first_fault bytes p h.1 h.2 t h.3)
+
+-- ---- bytes have one fault
+
+-- a line's first word stands at one place
+one_refused : (line : List ℕ) (v w : ℕ) (xs ys : List (List ℕ)) → v < length refused_words → w < length refused_words → line ≡ line_of (refused_word v ∷ xs) → line ≡ line_of (refused_word w ∷ ys) → v ≡ w
+one_refused line v w xs ys p q e f =
+    let content : List ℕ = join_with_byte 32 (refused_word v ∷ xs) in
+    let a = first_part (refused_word v) xs content (plain_refused v p) refl in
+    let b = first_part (refused_word w) ys content (plain_refused w q) (sym e ∙ f) in
+    refused_word_injective v w p q (heads (refused_word v) (refused_word w) a.0 b.0 (sym a.1 ∙ b.1)).0
+
+-- why a line is faulty is one thing
+one_why : (a b : ReadFault) (before : List (List ℕ)) (line : List ℕ) → Why a before line → Why b before line → a ≡ b
+one_why (faults.NotAscii j) (faults.NotAscii k) before line v w = ap (λ (x : ℕ). faults.NotAscii x) (v.0 ∙ sym w.0)
+one_why (faults.NotAscii j) (faults.Syntax k) before line v w = absurd (ascii_clash line v.1 w.1)
+one_why (faults.NotAscii j) (faults.OutOfProfile k x) before line v w = absurd (ascii_clash line v.1 w.1)
+one_why (faults.NotAscii j) (faults.Range k) before line v w = absurd (ascii_clash line v.1 w.1)
+one_why (faults.Syntax j) (faults.NotAscii k) before line v w = absurd (ascii_clash line w.1 v.1)
+one_why (faults.Syntax j) (faults.Syntax k) before line v w = ap (λ (x : ℕ). faults.Syntax x) (v.0 ∙ sym w.0)
+one_why (faults.Syntax j) (faults.OutOfProfile k x) before line v w = absurd (v.2 x w.2)
+one_why (faults.Syntax j) (faults.Range k) before line v w = absurd (v.3 w.2)
+one_why (faults.OutOfProfile j x) (faults.NotAscii k) before line v w = absurd (ascii_clash line w.1 v.1)
+one_why (faults.OutOfProfile j x) (faults.Syntax k) before line v w = absurd (w.2 x v.2)
+one_why (faults.OutOfProfile j x) (faults.OutOfProfile k y) before line v w =
+    let same : x ≡ y = one_refused line x y v.2.2 w.2.2 v.2.1 w.2.1 v.2.3 w.2.3 in
+    let at : j ≡ k = v.0 ∙ sym w.0 in
+    cc
+one_why (faults.OutOfProfile j x) (faults.Range k) before line v w = absurd (v.3 w.2)
+one_why (faults.Range j) (faults.NotAscii k) before line v w = absurd (ascii_clash line w.1 v.1)
+one_why (faults.Range j) (faults.Syntax k) before line v w = absurd (w.3 v.2)
+one_why (faults.Range j) (faults.OutOfProfile k x) before line v w = absurd (w.3 v.2)
+one_why (faults.Range j) (faults.Range k) before line v w = ap (λ (x : ℕ). faults.Range x) (v.0 ∙ sym w.0)
+one_why faults.Memory b before line v w = absurd v
+one_why faults.TooLarge b before line v w = absurd v
+one_why a faults.Memory before line v w = absurd w
+one_why a faults.TooLarge before line v w = absurd w
+
+-- a fault of a line
+OfLine : List ℕ → ReadFault → Type 0
+OfLine bytes fault = (length bytes ≤ 1048576) × (before : List (List ℕ)) × (line : List ℕ) × IsFirstFaultyLine CanGoOn bytes before line × Why fault before line
+
+one_of_line : (bytes : List ℕ) (a b : ReadFault) → OfLine bytes a → OfLine bytes b → a ≡ b
+unfolding OfLine
+one_of_line bytes a b (s, x, l, f, v) (t, y, m, g, w) =
+    let same = same_line CanGoOn bytes x y l m closed f g in
+    one_why a b x l v (subst (λ (k : List ℕ). Why b x k) (sym same.1) (subst (λ (k : List (List ℕ)). Why b k m) (sym same.0) w))
+
+cases : (bytes : List ℕ) (a : ReadFault) → HasFault bytes a → a ≢ faults.Memory → OfLine bytes a ⊎ ((a ≡ faults.TooLarge) × (1048576 < length bytes))
+unfolding OfLine
+cases bytes faults.Memory h n = absurd (n refl)
+cases bytes faults.TooLarge h n = inr (refl, h)
+cases bytes (faults.NotAscii k) h n = inl h
+cases bytes (faults.Syntax k) h n = inl h
+cases bytes (faults.OutOfProfile k w) h n = inl h
+cases bytes (faults.Range k) h n = inl h
+
+size : (bytes : List ℕ) (a : ReadFault) → OfLine bytes a → length bytes ≤ 1048576
+unfolding OfLine
+size bytes a h = h.0
+
+pub one_fault : (bytes : List ℕ) (a b : ReadFault) → HasFault bytes a → HasFault bytes b → a ≢ faults.Memory → b ≢ faults.Memory → a ≡ b
+one_fault bytes a b h k m n =
+    elim (cases bytes a h m) [
+      | inl x ↦ elim (cases bytes b k n) [
+        | inl y ↦ one_of_line bytes a b x y
+        | inr y ↦ absurd (omega (arith, size bytes a x, y.1))
+      ]
+      | inr x ↦ elim (cases bytes b k n) [
+        | inl y ↦ absurd (omega (arith, size bytes b y, x.1))
+        | inr y ↦ x.0 ∙ sym y.0
+      ]
+    ]

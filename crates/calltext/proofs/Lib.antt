@@ -1,0 +1,9 @@
+pub mod Places
+pub mod RefusedLaws
+pub mod Lines
+pub mod Once
+pub mod Blocks
+pub mod BodyLaws
+pub mod Faults
+pub mod Exact
+pub mod PrintLaws

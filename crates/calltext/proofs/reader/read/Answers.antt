@@ -1,0 +1,44 @@
+use Rattle.std.proofs.Common.{◌≤◌, length, arith, sym, subst}
+use Rattle.calltext.specs.Fault.{HasFault}
+use Rattle.calltext.specs.Body.{views}
+use Rattle.calltext.proofs.Faults.{first_heading, second_heading, third_heading, stopped, is_text, readable}
+use Rattle.calltext.specs.Grammar.{IsText}
+use Rattle.calltext.proofs.reader.read.Goals as goal
+
+pub returns-in-Err-clause-fault : goal.returns-in-Err-clause-fault
+returns-in-Err-clause-fault c =
+    let small : length c.args.bytes.now ≤ 1048576 = omega arith in
+    subst (HasFault c.args.bytes.now) (sym c.at_line.ensures) (first_heading c.in-Err.fault c.args.bytes.now small c.in-Err.ensures.err)
+
+pub returns-in-Err-policy_line-clause-fault : goal.returns-in-Err-policy_line-clause-fault
+returns-in-Err-policy_line-clause-fault c =
+    let small : length c.args.bytes.now ≤ 1048576 = omega arith in
+    subst (HasFault c.args.bytes.now) (sym c.at_line-in-Err-policy_line.ensures)
+    (second_heading c.in-Err-policy_line.fault c.args.bytes.now c.in-Ok.found.1.now c.in-Ok.found.0 small c.in-Ok.ensures.number.0 c.in-Ok.ensures.number.1 c.in-Ok.ensures.ok c.in-Err-policy_line.ensures.err)
+
+pub returns-in-Err-first_rank_line-clause-fault : goal.returns-in-Err-first_rank_line-clause-fault
+returns-in-Err-first_rank_line-clause-fault c =
+    let small : length c.args.bytes.now ≤ 1048576 = omega arith in
+    subst (HasFault c.args.bytes.now) (sym c.at_line-in-Err-first_rank_line.ensures)
+    (third_heading c.in-Err-first_rank_line.fault c.args.bytes.now c.in-Ok.found.1.now c.in-Ok-policy_line.found.1.now c.in-Ok.found.0 c.in-Ok-policy_line.found.0 small c.in-Ok.ensures.number.0 c.in-Ok.ensures.number.1
+    c.in-Ok.ensures.ok c.in-Ok-policy_line.ensures.ok c.in-Err-first_rank_line.ensures.err)
+
+pub new-requires : goal.new-requires
+new-requires c =
+    let small : length c.args.bytes.now ≤ 1048576 = omega arith in
+    readable c.args.bytes.now _ (is_text c.args.bytes.now c.in-Ok.found.1.now c.in-Ok-policy_line.found.1.now c.in-Ok-first_rank_line.found.now c.in-Ok.found.0 c.in-Ok-policy_line.found.0 (views c.in-Ok-ranks_from.ranks.items) small
+    c.in-Ok.ensures.number.0 c.in-Ok.ensures.number.1 c.in-Ok.ensures.ok c.in-Ok-policy_line.ensures.ok c.in-Ok-first_rank_line.ensures.ok c.in-Ok-ranks_from.ensures.ok)
+
+pub returns-in-Ok-ranks_from-clause-text : goal.returns-in-Ok-ranks_from-clause-text
+returns-in-Ok-ranks_from-clause-text c =
+    let small : length c.args.bytes.now ≤ 1048576 = omega arith in
+    subst (IsText c.args.bytes.now) (sym c.new.ensures)
+    (is_text c.args.bytes.now c.in-Ok.found.1.now c.in-Ok-policy_line.found.1.now c.in-Ok-first_rank_line.found.now c.in-Ok.found.0 c.in-Ok-policy_line.found.0 (views c.in-Ok-ranks_from.ranks.items) small
+    c.in-Ok.ensures.number.0 c.in-Ok.ensures.number.1 c.in-Ok.ensures.ok c.in-Ok-policy_line.ensures.ok c.in-Ok-first_rank_line.ensures.ok c.in-Ok-ranks_from.ensures.ok)
+
+pub returns-in-Err-ranks_from-clause-fault : goal.returns-in-Err-ranks_from-clause-fault
+returns-in-Err-ranks_from-clause-fault c =
+    let small : length c.args.bytes.now ≤ 1048576 = omega arith in
+    subst (HasFault c.args.bytes.now) (sym c.at_line-in-Err-ranks_from.ensures)
+    (stopped c.in-Err-ranks_from.stop.fault c.in-Err-ranks_from.stop.line c.args.bytes.now c.in-Ok.found.1.now c.in-Ok-policy_line.found.1.now c.in-Ok-first_rank_line.found.now c.in-Ok.found.0 c.in-Ok-policy_line.found.0 small
+    c.in-Ok.ensures.number.0 c.in-Ok.ensures.number.1 c.in-Ok.ensures.ok c.in-Ok-policy_line.ensures.ok c.in-Ok-first_rank_line.ensures.ok c.in-Err-ranks_from.ensures.err)

@@ -1,0 +1,14 @@
+-- A call line as it is first read: each number above 2,147,483,647 as 2,147,483,648, which is above every limit.
+use Rattle.std.specs.Prelude.{ℕ, min, Option, Some, None}
+use Rattle.calltext.specs.declared.call.CallLine.{CallLine}
+use Rattle.calltext.specs.declared.call.CallLine.TheVariants.{Send, Receive}
+
+-- A number, if there is one, as it is first read.
+abbrev pub capped_option : Option ℕ → Option ℕ
+capped_option None = None
+capped_option (Some n) = Some (min n 2147483648)
+
+-- A call line, as it is first read.
+abbrev pub capped_call : CallLine → CallLine
+capped_call (Send destination tag communicator) = Send (min destination 2147483648) (min tag 2147483648) (capped_option communicator)
+capped_call (Receive source tag communicator) = Receive (capped_option source) (capped_option tag) (capped_option communicator)

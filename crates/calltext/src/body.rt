@@ -1,0 +1,90 @@
+//! The ranks and their calls.
+
+ghost use Rattle.std.specs.Prelude.{◌≡◌, ◌≤◌, IfOk, IfErr, length};
+ghost use Rattle.calltext.specs.Body.{HasRanks, IsStopped, views};
+ghost use Rattle.calltext.specs.declared.body.Stopped.{Stopped};
+ghost use Rattle.calltext.specs.declared.line.LineFault.TheVariants.{Memory};
+
+use crate::call::CallLine;
+use crate::heading::unended;
+use crate::line::{Item, LineFault, item_of};
+use plaintext::next_line;
+use std::alloc::{AllocError, AllocFailed, Global};
+use std::mem;
+
+/// Where reading stopped, and why.
+#[derive(Clone, Copy, Debug)]
+pub struct Stopped {
+    pub fault: LineFault,
+    pub line: u32,
+}
+
+impl From<AllocError> for Stopped {
+    ghost from_gives = { λ _ e. e.fault ≡ Memory };
+
+    fn from(_e: AllocError) -> Stopped {
+        Stopped {
+            fault: LineFault::Memory,
+            line: 0,
+        }
+    }
+}
+
+impl<T: Drop> From<AllocFailed<T>> for Stopped {
+    ghost from_gives = { λ _ e. e.fault ≡ Memory };
+
+    fn from(_e: AllocFailed<T>) -> Stopped {
+        Stopped {
+            fault: LineFault::Memory,
+            line: 0,
+        }
+    }
+}
+
+/// The calls of each rank, from the line after the first rank's heading to the end of the text.
+pub fn ranks_from(alloc: Global, total: u32, bytes: &[u8]) -> Result<Vec<Vec<CallLine>>, Stopped>
+    requires low { 1 ≤ total }
+    requires high { total ≤ 64 }
+    requires small { length bytes.now ≤ 1048576 }
+    ensures ok { IfOk result (λ ranks. HasRanks total bytes.now (views ranks.items)) }
+    ensures err { IfErr result (λ stop. IsStopped stop.fault stop.line total bytes.now) }
+{
+    let mut ranks: Vec<Vec<CallLine>> = Vec::new(alloc);
+    let mut calls: Vec<CallLine> = Vec::new(alloc);
+    let mut number: u32 = 4;
+    let mut rest = bytes;
+    while let Some((line, after)) = next_line(rest) {
+        let item = match item_of(alloc, line, ranks.len() as u32 + 1, total) {
+            Ok(item) => item,
+            Err(fault) => {
+                return Err(Stopped {
+                    fault,
+                    line: number,
+                });
+            }
+        };
+        match item {
+            Item::Call(call) => calls.push(call)?,
+            Item::Rank => {
+                let full = mem::replace(&mut calls, Vec::new(alloc));
+                ranks.push(full)?;
+            }
+        }
+        number += 1;
+        rest = after;
+    }
+    if !rest.is_empty() {
+        return Err(Stopped {
+            fault: unended(rest),
+            line: number,
+        });
+    }
+    ranks.push(calls)?;
+    if (ranks.len() as u32) < total {
+        return Err(Stopped {
+            fault: LineFault::Syntax,
+            line: number,
+        });
+    }
+    Ok(ranks)
+}

@@ -1,0 +1,49 @@
+//! Why a text is no program.
+
+ghost use Rattle.std.specs.Prelude.{◌≡◌};
+ghost use Rattle.calltext.specs.declared.fault.ReadFault.TheVariants.{Memory};
+
+use crate::refused::RefusedWord;
+use std::alloc::{AllocError, AllocFailed};
+use thiserror::Error;
+
+/// Why a text was not read. Lines count from 1. The first faulty line is told, and on it the
+/// first of these that holds, in the order in which they stand here.
+#[derive(Clone, Copy, Debug, PartialEq, Eq, Error)]
+pub enum ReadFault {
+    /// The allocator refused memory.
+    #[error("memory")]
+    Memory,
+    /// The line has a byte of 128 or more.
+    #[error("line {line} not ascii")]
+    NotAscii { line: u32 },
+    /// The line has none of the shapes that may stand in its place, or it is missing or lacks its
+    /// LF.
+    #[error("line {line} syntax")]
+    Syntax { line: u32 },
+    /// A call may stand there, and the line's first word is one that is refused by name.
+    #[error("line {line} out of profile {word}")]
+    OutOfProfile { line: u32, word: RefusedWord },
+    /// The line has a right shape, and a number beyond the limits.
+    #[error("line {line} range")]
+    Range { line: u32 },
+    /// The text has more than 1,048,576 bytes; told before any line is looked at.
+    #[error("text too large")]
+    TooLarge,
+}
+
+impl From<AllocError> for ReadFault {
+    ghost from_gives = { λ _ e. e ≡ Memory };
+
+    fn from(_e: AllocError) -> ReadFault {
+        ReadFault::Memory
+    }
+}
+
+impl<T: Drop> From<AllocFailed<T>> for ReadFault {
+    ghost from_gives = { λ _ e. e ≡ Memory };
+
+    fn from(_e: AllocFailed<T>) -> ReadFault {
+        ReadFault::Memory
+    }
+}

@@ -1,0 +1,28 @@
+//! The text of a program of MPI calls: it is read, and printed again as it was.
+//!
+//! `specs/Grammar.antt` defines the text by its printer, `specs/Fault.antt` what is wrong with
+//! bytes that are no program's text.
+#![tactic(auto)]
+
+mod body;
+mod call;
+mod fault;
+mod heading;
+mod laws;
+mod line;
+mod printer;
+mod reader;
+mod refused;
+mod source;
+mod words;
+
+pub use call::{CallLine, Policy};
+pub use fault::ReadFault;
+pub use laws::{one_fault, one_value, text_has_no_fault};
+pub use printer::print;
+pub use reader::read;
+pub use refused::RefusedWord;
+pub use source::Source;
+
+#[cfg(test)]
+mod tests;

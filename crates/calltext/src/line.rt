@@ -1,0 +1,120 @@
+//! What one line is, in its place.
+
+ghost use Rattle.std.specs.Prelude.{◌↔◌, ◌≡◌, ◌≤◌, ◌++◌, ◌∷◌, [], ◌<◌, ◌≢◌, ℕ, List, map, length, IsTrue, IfOk, IfErr, IfNone, IfSome};
+ghost use Rattle.calltext.specs.Grammar.{CallFits, IsCommunicator, UpTo, rank_words};
+ghost use Rattle.calltext.specs.RefusedWords.{refused_word, refused_words};
+ghost use Rattle.calltext.specs.Item.{IsItem, IsWrong};
+ghost use Rattle.calltext.specs.declared.line.LineFault.TheVariants.{Memory};
+
+use crate::call::CallLine;
+use crate::refused::RefusedWord;
+use crate::words::{call_of, is_rank};
+use plaintext::words_of;
+use std::alloc::{AllocError, Global};
+
+/// What a line is, once the first rank has begun.
+#[derive(Clone, Copy, Debug)]
+pub enum Item {
+    Call(CallLine),
+    Rank,
+}
+
+/// Why a line can't stand in its place.
+#[derive(Clone, Copy, Debug)]
+pub enum LineFault {
+    Memory,
+    NotAscii,
+    Syntax,
+    OutOfProfile(RefusedWord),
+    Range,
+}
+
+impl From<AllocError> for LineFault {
+    ghost from_gives = { λ _ e. e ≡ Memory };
+
+    fn from(_e: AllocError) -> LineFault {
+        LineFault::Memory
+    }
+}
+
+fn is_communicator(number: Option<u32>) -> bool
+    ensures { IsTrue result ↔ IsCommunicator number }
+{
+    match number {
+        None => true,
+        Some(n) => n >= 1 && n <= 255,
+    }
+}
+
+fn is_at_most(most: u32, number: Option<u32>) -> bool
+    ensures { IsTrue result ↔ UpTo most number }
+{
+    match number {
+        None => true,
+        Some(n) => n <= most,
+    }
+}
+
+/// Whether the call's numbers are within the limits.
+fn call_fits(call: CallLine) -> bool
+    ensures { IsTrue result ↔ CallFits call }
+{
+    match call {
+        CallLine::Send {
+            destination,
+            tag,
+            communicator,
+        } => destination <= 63 && tag <= 32767 && is_communicator(communicator),
+        CallLine::Receive {
+            source,
+            tag,
+            communicator,
+        } => is_at_most(63, source) && is_at_most(32767, tag) && is_communicator(communicator),
+    }
+}
+
+/// Whether the words are the heading of the rank `next`, and that is below `total`.
+fn rank_follows(words: &[&[u8]], next: u32, total: u32) -> bool
+    requires { next ≤ 64 }
+    ensures { IsTrue result ↔ ((next < total) × (rank_words next ≡ map (λ w. w.now) words.now)) }
+{
+    next < total && is_rank(words, next)
+}
+
+/// The refused word that stands first.
+fn refused_in(words: &[&[u8]]) -> Option<RefusedWord>
+    ensures none { IfNone result ((place : ℕ) (others : List (List ℕ)) → place < length refused_words → refused_word place ∷ others ≢ map (λ x. x.now) words.now) }
+    ensures some { IfSome result (λ place. (place < length refused_words) × (others : List (List ℕ)) × (refused_word place ∷ others ≡ map (λ x. x.now) words.now)) }
+{
+    let [first, ..] = words else {
+        return None;
+    };
+    let word = RefusedWord::find(first)?;
+    Some(word)
+}
+
+/// The line, which an LF ends, as a call or as the heading of the rank `next`, which may stand
+/// here if it is below `total`.
+pub fn item_of(alloc: Global, line: &[u8], next: u32, total: u32) -> Result<Item, LineFault>
+    requires { next ≤ 64 }
+    ensures ok { IfOk result (λ item. IsItem item next total (line.now ++ 10 ∷ [])) }
+    ensures err { IfErr result (λ fault. IsWrong fault next total (line.now ++ 10 ∷ [])) }
+{
+    if !line.is_ascii() {
+        return Err(LineFault::NotAscii);
+    }
+    let words = words_of(alloc, line)?;
+    if let Some(call) = call_of(&words) {
+        if call_fits(call) {
+            return Ok(Item::Call(call));
+        }
+        return Err(LineFault::Range);
+    }
+    if rank_follows(&words, next, total) {
+        return Ok(Item::Rank);
+    }
+    if let Some(word) = refused_in(&words) {
+        return Err(LineFault::OutOfProfile(word));
+    }
+    Err(LineFault::Syntax)
+}

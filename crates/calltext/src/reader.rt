@@ -1,0 +1,55 @@
+//! Reading a program's text.
+
+ghost use Rattle.std.specs.Prelude.{◌≡◌, IfOk, IfErr};
+ghost use Rattle.calltext.specs.Grammar.{IsText};
+ghost use Rattle.calltext.specs.Fault.{HasFault};
+ghost use Rattle.calltext.specs.AtLine.{at_line};
+
+use crate::body::ranks_from;
+use crate::fault::ReadFault;
+use crate::heading::{first_rank_line, policy_line, ranks_line};
+use crate::line::LineFault;
+use crate::source::Source;
+use std::alloc::Global;
+
+/// The line's fault, told with the line's number.
+fn at_line(fault: LineFault, line: u32) -> ReadFault
+    ensures { result ≡ at_line fault line }
+{
+    match fault {
+        LineFault::Memory => ReadFault::Memory,
+        LineFault::NotAscii => ReadFault::NotAscii { line },
+        LineFault::Syntax => ReadFault::Syntax { line },
+        LineFault::OutOfProfile(word) => ReadFault::OutOfProfile { line, word },
+        LineFault::Range => ReadFault::Range { line },
+    }
+}
+
+/// The program that the bytes are the text of, or the fault that they have.
+///
+/// `Ok` comes for a program's text alone, and `Err` for the fault alone that `ReadFault` tells of:
+/// the first faulty line's. It takes time linear in the text's length.
+pub fn read(alloc: Global, bytes: &[u8]) -> Result<Source, ReadFault>
+    ensures text { IfOk result (λ source. IsText bytes.now source) }
+    ensures fault { IfErr result (λ fault. HasFault bytes.now fault) }
+{
+    if bytes.len() > 1_048_576 {
+        return Err(ReadFault::TooLarge);
+    }
+    let (total, rest) = match ranks_line(alloc, bytes) {
+        Ok(found) => found,
+        Err(fault) => return Err(at_line(fault, 1)),
+    };
+    let (policy, rest) = match policy_line(alloc, rest) {
+        Ok(found) => found,
+        Err(fault) => return Err(at_line(fault, 2)),
+    };
+    let rest = match first_rank_line(alloc, rest) {
+        Ok(found) => found,
+        Err(fault) => return Err(at_line(fault, 3)),
+    };
+    match ranks_from(alloc, total, rest) {
+        Ok(ranks) => Ok(Source::new(policy, ranks)),
+        Err(stop) => Err(at_line(stop.fault, stop.line)),
+    }
+}

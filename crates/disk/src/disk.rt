@@ -1,0 +1,150 @@
+//! A disk in memory.
+ghost use Rattle.std.specs.Prelude.{◌≤◌, IfOk};
+
+use files::{FileSet, OpenFault};
+use std::cell::{Cell, RefCell};
+use std::io;
+use std::io::{Read, Write};
+
+/// The most bytes that one read or one write moves, so that a longer text takes several.
+const PIECE: usize = 7;
+
+/// What an open, a read or a write meets.
+#[derive(Clone, Copy, Debug, PartialEq, Eq)]
+pub enum Trouble {
+    /// It fails.
+    Device,
+    /// It fails for want of memory.
+    Memory,
+    /// It is interrupted. An open is never interrupted.
+    Interrupted,
+    /// A write takes no byte. An open or a read fails.
+    NoByte,
+}
+
+/// Two files that can be read, `program` and `evidence`, and one that can be written, `out`. The path
+/// `memory` can't be opened for want of memory, and every other path isn't there.
+#[derive(Drop)]
+pub struct Disk<'a> {
+    /// What the file `program` holds.
+    pub program: &'a [u8],
+    /// What the file `evidence` holds.
+    pub evidence: &'a [u8],
+    /// What was written to the file `out`.
+    pub written: RefCell<Vec<u8>>,
+    /// How often `out` was opened.
+    pub writers: Cell<u64>,
+    /// How many opens, reads and writes there were.
+    pub steps: Cell<u64>,
+    /// The open, read or write, from 1, that meets trouble; 0 for none.
+    pub trouble_at: u64,
+    /// The trouble.
+    pub trouble: Trouble,
+}
+
+impl Disk<'_> {
+    /// Counts an open, a read or a write, and gives the trouble where it is the one that meets it.
+    fn step(&self) -> Option<Trouble> {
+        let count = self.steps.get().saturating_add(1);
+        self.steps.set(count);
+        if count == self.trouble_at {
+            Some(self.trouble)
+        } else {
+            None
+        }
+    }
+
+    /// Counts an open.
+    fn open(&self) -> Result<(), OpenFault> {
+        match self.step() {
+            Some(Trouble::Memory) => Err(OpenFault::Memory),
+            Some(Trouble::Device) | Some(Trouble::NoByte) => Err(OpenFault::Device),
+            Some(Trouble::Interrupted) | None => Ok(()),
+        }
+    }
+
+    /// Counts a read or a write that is to move so many bytes, and answers how many it may move.
+    pub(crate) fn transfer(&self, wanted: usize) -> io::Result<usize>
+        ensures { IfOk result (λ count. count ≤ wanted) }
+    {
+        match self.step() {
+            Some(Trouble::Memory) => Err(io::Error::from(io::ErrorKind::OutOfMemory)),
+            Some(Trouble::Device) => Err(io::Error::from(io::ErrorKind::StorageFull)),
+            Some(Trouble::Interrupted) => Err(io::Error::from(io::ErrorKind::Interrupted)),
+            Some(Trouble::NoByte) => Ok(0),
+            None => Ok(PIECE.min(wanted)),
+        }
+    }
+}
+
+/// The files of a disk.
+#[derive(Drop)]
+pub struct DiskFiles<'a> {
+    /// The disk.
+    pub disk: &'a Disk<'a>,
+}
+
+impl<'a> FileSet for DiskFiles<'a> {
+    type Reader = DiskReader<'a>;
+
+    type Writer = DiskWriter<'a>;
+
+    fn open_read(&mut self, path: &str) -> Result<DiskReader<'a>, OpenFault> {
+        let disk = self.disk;
+        disk.open()?;
+        let rest = match path {
+            "program" => disk.program,
+            "evidence" => disk.evidence,
+            "memory" => return Err(OpenFault::Memory),
+            _ => return Err(OpenFault::Device),
+        };
+        Ok(DiskReader { rest, disk })
+    }
+
+    fn open_write(&mut self, path: &str) -> Result<DiskWriter<'a>, OpenFault> {
+        let disk = self.disk;
+        disk.open()?;
+        match path {
+            "out" => {
+                disk.writers.set(disk.writers.get().saturating_add(1));
+                Ok(DiskWriter { disk })
+            }
+            "memory" => Err(OpenFault::Memory),
+            _ => Err(OpenFault::Device),
+        }
+    }
+}
+
+/// Reads a file of a disk in pieces.
+#[derive(Drop)]
+pub struct DiskReader<'a> {
+    rest: &'a [u8],
+    disk: &'a Disk<'a>,
+}
+
+impl Read for DiskReader<'_> {
+    fn read(&mut self, buf: &mut [u8]) -> io::Result<usize> {
+        let count = self.disk.transfer(buf.len())?;
+        if count == 0 && !buf.is_empty() {
+            return Err(io::Error::from(io::ErrorKind::Other));
+        }
+        self.rest.read(&mut buf[..count])
+    }
+}
+
+/// Writes the file `out` in pieces.
+#[derive(Drop)]
+pub struct DiskWriter<'a> {
+    disk: &'a Disk<'a>,
+}
+
+impl Write for DiskWriter<'_> {
+    fn write(&mut self, buf: &[u8]) -> io::Result<usize> {
+        let count = self.disk.transfer(buf.len())?;
+        self.disk.written.try_borrow_mut()?.write(&buf[..count])
+    }
+
+    fn flush(&mut self) -> io::Result<()> {
+        Ok(())
+    }
+}

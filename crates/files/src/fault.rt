@@ -1,0 +1,57 @@
+//! Why a file can't be opened, read or written.
+ghost use Rattle.std.specs.IoError.{error_kind};
+ghost use Rattle.std.specs.Prelude.{◌≡◌};
+ghost use Rattle.files.specs.Faults.{load_fault, open_fault};
+
+use std::io;
+use thiserror::Error;
+
+/// Why a file can't be opened.
+#[derive(Clone, Copy, Debug, PartialEq, Eq, Error)]
+pub enum OpenFault {
+    #[error("out of memory")]
+    Memory,
+    /// The system refused, as for a file that isn't there.
+    #[error("the file can't be opened")]
+    Device,
+}
+
+impl From<io::Error> for OpenFault {
+    ghost from_gives = { λ error fault. fault ≡ open_fault (error_kind error) };
+
+    fn from(error: io::Error) -> OpenFault {
+        match error.kind() {
+            io::ErrorKind::OutOfMemory => OpenFault::Memory,
+            _ => OpenFault::Device,
+        }
+    }
+}
+
+/// Why a file can't be read to its end.
+#[derive(Clone, Copy, Debug, PartialEq, Eq, Error)]
+pub enum LoadFault {
+    #[error("out of memory")]
+    Memory,
+    /// A read failed.
+    #[error("the file can't be read")]
+    Device,
+}
+
+impl From<io::Error> for LoadFault {
+    ghost from_gives = { λ error fault. fault ≡ load_fault (error_kind error) };
+
+    fn from(error: io::Error) -> LoadFault {
+        match error.kind() {
+            io::ErrorKind::OutOfMemory => LoadFault::Memory,
+            _ => LoadFault::Device,
+        }
+    }
+}
+
+/// Why bytes can't all be written.
+#[derive(Clone, Copy, Debug, PartialEq, Eq, Error)]
+pub enum StoreFault {
+    /// A write failed or took no byte.
+    #[error("the file can't be written")]
+    Device,
+}

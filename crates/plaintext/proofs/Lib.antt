@@ -1,0 +1,5 @@
+pub mod Numerals
+pub mod Cuts
+pub mod Ascii
+pub mod Texts
+pub mod FirstFaults

@@ -1,0 +1,67 @@
+//! Why no answer is known.
+
+ghost use Rattle.std.specs.Prelude.{◌≡◌};
+ghost use Rattle.pool.specs.PoolStates.{why_number, smaller_of, IsSmallest};
+
+use std::fmt;
+
+/// Why a worker left without an answer. Of several reasons the earlier variant is told.
+#[derive(Clone, Copy, Debug, PartialEq, Eq)]
+pub enum Why {
+    /// The search's budget is used up, or the search it has found nothing.
+    Budget,
+    /// The log of proof lines is full.
+    Full,
+    /// Memory ran out.
+    Memory,
+    /// Something is left open for another reason.
+    Left,
+}
+
+impl fmt::Display for Why {
+    fn fmt<W: fmt::Write>(&self, f: &mut fmt::Formatter<W>) -> fmt::Result {
+        f.write_str(match self {
+            Why::Budget => "budget",
+            Why::Full => "full",
+            Why::Memory => "memory",
+            Why::Left => "left",
+        })
+    }
+}
+
+impl Why {
+    fn number(self) -> u32
+        ensures { result ≡ why_number self }
+    {
+        match self {
+            Why::Budget => 1,
+            Why::Full => 2,
+            Why::Memory => 3,
+            Why::Left => 4,
+        }
+    }
+}
+
+/// The smallest of the reasons.
+pub(crate) fn smallest(reasons: &[Why]) -> Option<Why>
+    ensures { IsSmallest reasons.now result }
+{
+    let mut smallest = None;
+    for why in reasons {
+        smallest = match smallest {
+            Some(known) => Some(smaller(known, *why)),
+            None => Some(*why),
+        };
+    }
+    smallest
+}
+
+fn smaller(one: Why, other: Why) -> Why
+    ensures { result ≡ smaller_of one other }
+{
+    if one.number() <= other.number() {
+        one
+    } else {
+        other
+    }
+}

@@ -1,0 +1,5 @@
+pub mod WordLaws
+pub mod StepLines
+pub mod Schedules
+pub mod Headings
+pub mod Exact

@@ -1,0 +1,5 @@
+use Rattle.prooflog.proofs.Exact as exact
+use Rattle.prooflog.proofs.laws.one_fault.Goals as goal
+
+pub returns : goal.returns
+returns c = exact.one_fault

@@ -1,0 +1,139 @@
+//! A step's line.
+
+ghost use Rattle.std.specs.Prelude.{◌≡◌, ◌≢◌, ◌↔◌, ◌++◌, Bool, IsTrue, IfNone, IfSome, OnOk};
+ghost use Rattle.std.specs.Option.{option_copied};
+ghost use Rattle.prooflog.specs.declared.step.WrittenStep.{WrittenStep};
+ghost use Rattle.prooflog.specs.Steps.{step_words, step_line, buffered_words, IsStepInRange, written};
+ghost use Rattle.prooflog.specs.Reading.{words_of, words_after, capped_step};
+
+use crate::words::cut_word;
+use plaintext::{is_word, number_of, put_number};
+use semantics::Step;
+use std::alloc::AllocError;
+
+/// The largest number in a text.
+const MOST_NUMBER: u32 = 2_147_483_647;
+
+/// A step as its line has it: ranks from 0, and numbers of calls from 1.
+#[derive(Clone, Copy, Debug)]
+pub enum WrittenStep {
+    Issue { rank: u32, buffered: bool },
+    Match { send: u32, taker: u32 },
+}
+
+/// Whether `buffered` follows, where that or nothing does.
+fn buffered_of(others: Option<&[u8]>) -> Option<bool>
+    ensures none { IfNone result ((b : Bool) → buffered_words b ≢ words_after (option_copied others.entry)) }
+    ensures some { IfSome result (λ b. buffered_words b ≡ words_after (option_copied others.entry)) }
+{
+    let Some(word) = others else {
+        return Some(false);
+    };
+    if is_word(word, "buffered") {
+        return Some(true);
+    }
+    None
+}
+
+/// The step of a line; a number above the largest is told as `plaintext::MOST`.
+pub fn step_of(line: &[u8]) -> Option<WrittenStep>
+    ensures none { IfNone result ((s : WrittenStep) → step_words s ≢ words_of line.now) }
+    ensures some { IfSome result (λ found. (s : WrittenStep) × (step_words s ≡ words_of line.now) × (found ≡ capped_step s)) }
+{
+    let (kind, others) = cut_word(line);
+    let (first, others) = cut_word(others?);
+    if is_word(kind, "issue") {
+        let rank = number_of(first)?;
+        let buffered = buffered_of(others)?;
+        return Some(WrittenStep::Issue { rank, buffered });
+    }
+    if is_word(kind, "match") {
+        let send = number_of(first)?;
+        let taker = number_of(others?)?;
+        return Some(WrittenStep::Match { send, taker });
+    }
+    None
+}
+
+/// The machine's step, where the numbers are in range.
+pub fn step_in_range(step: WrittenStep) -> Option<Step>
+    ensures none { IfNone result (¬ IsStepInRange step) }
+    ensures some { IfSome result (λ found. IsStepInRange step × (written found ≡ step)) }
+{
+    match step {
+        WrittenStep::Issue { rank, buffered } => {
+            if rank > MOST_NUMBER {
+                return None;
+            }
+            Some(Step::Issue { rank, buffered })
+        }
+        WrittenStep::Match { send, taker } => {
+            if send < 1 || send > MOST_NUMBER || taker < 1 || taker > MOST_NUMBER {
+                return None;
+            }
+            Some(Step::Match {
+                send: send as usize - 1,
+                taker: taker as usize - 1,
+            })
+        }
+    }
+}
+
+/// Whether the step's rank and its calls' numbers are in range.
+pub fn is_in_range(step: Step) -> bool
+    ensures { IsTrue result ↔ IsStepInRange (written step) }
+{
+    match step {
+        Step::Issue { rank, .. } => rank <= MOST_NUMBER,
+        Step::Match { send, taker } => {
+            send < MOST_NUMBER as usize && taker < MOST_NUMBER as usize
+        }
+    }
+}
+
+/// The step as its line has it.
+pub fn written(step: Step) -> WrittenStep
+    requires { IsStepInRange (written step) }
+    ensures { result ≡ written step }
+{
+    match step {
+        Step::Issue { rank, buffered } => WrittenStep::Issue { rank, buffered },
+        Step::Match { send, taker } => WrittenStep::Match {
+            send: send as u32 + 1,
+            taker: taker as u32 + 1,
+        },
+    }
+}
+
+fn put_issue(out: &mut Vec<u8>, rank: u32, buffered: bool) -> Result<(), AllocError>
+    ensures { OnOk result (out.new.items ≡ out.old.items ++ step_line (WrittenStep.Issue rank buffered)) }
+{
+    out.extend_from_slice(b"issue ")?;
+    put_number(out, rank)?;
+    if buffered {
+        out.extend_from_slice(b" buffered")?;
+    }
+    out.push(b'\n')?;
+    Ok(())
+}
+
+fn put_match(out: &mut Vec<u8>, send: u32, taker: u32) -> Result<(), AllocError>
+    ensures { OnOk result (out.new.items ≡ out.old.items ++ step_line (WrittenStep.Match send taker)) }
+{
+    out.extend_from_slice(b"match ")?;
+    put_number(out, send)?;
+    out.push(b' ')?;
+    put_number(out, taker)?;
+    out.push(b'\n')?;
+    Ok(())
+}
+
+/// Writes the step's line at the end.
+pub fn put_step(out: &mut Vec<u8>, step: WrittenStep) -> Result<(), AllocError>
+    ensures { OnOk result (out.new.items ≡ out.old.items ++ step_line step) }
+{
+    match step {
+        WrittenStep::Issue { rank, buffered } => put_issue(out, rank, buffered),
+        WrittenStep::Match { send, taker } => put_match(out, send, taker),
+    }
+}

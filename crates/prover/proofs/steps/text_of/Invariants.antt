@@ -1,0 +1,10 @@
+use Rattle.std.proofs.Common.{◌≡◌, take}
+use Rattle.semantics.specs.Machine.{IsConfigurationOf, opening, after_all}
+use Rattle.prover.proofs.steps.text_of.Given as goal
+
+abbrev pub invariant-loop-step : goal.invariant-loop-step
+invariant-loop-step l =
+    record {
+      of : IsConfigurationOf l.program l.state;
+      now : l.state ≡ after_all (opening l.program) (take l.step-index l.steps);
+    }

@@ -1,0 +1,33 @@
+-- What the prover's answers say of a program's text.
+use Rattle.std.specs.Prelude.{◌≢◌, ℕ, List}
+use Rattle.callorder.specs.Programs.{MpiProgram}
+use Rattle.semantics.specs.declared.state.Step.{Step}
+use Rattle.semantics.specs.Machine.{IsStuckRun}
+use Rattle.prooflog.specs.declared.evidence.Evidence.TheVariants.{Schedule}
+use Rattle.prooflog.specs.Grammar.{IsEvidenceText}
+use Rattle.checker.specs.declared.reason.Reason.TheVariants as reasons
+use Rattle.checker.specs.Verdicts.{Shows, IsReason, IsProgramReason}
+use Rattle.prover.specs.declared.answer.Answer.{Answer}
+use Rattle.prover.specs.declared.answer.Answer.TheVariants as answers
+use Rattle.prover.specs.declared.steps.Replayed.{Replayed}
+use Rattle.prover.specs.declared.steps.Replayed.TheVariants as replays
+
+-- A deadlock comes with the text of an evidence that shows it. A program is refused for a fault of its own text, and
+-- never for want of memory. That there is no deadlock isn't answered yet.
+abbrev pub Answers : List ℕ → Answer → Type 0
+Answers program (answers.NoDeadlock evidence) = ⊥
+Answers program (answers.Deadlock evidence) = Shows program evidence.items
+Answers program (answers.Unknown why) = Unit {0}
+Answers program (answers.Refused reason) = IsProgramReason program reason × (reason ≢ reasons.Memory)
+
+-- A replay that ends stuck is one of a schedule that shows a deadlock. Else the first reason why it isn't one is told.
+abbrev pub Replays : List ℕ → List ℕ → Replayed → Type 0
+Replays program evidence (replays.Stuck text) = Shows program evidence
+Replays program evidence (replays.Refused reason) = IsReason program evidence reason
+
+-- a deadlock comes with the text of a schedule that is a stuck run of the program
+abbrev pub AnswersPool : MpiProgram → Answer → Type 0
+AnswersPool p (answers.NoDeadlock evidence) = ⊥
+AnswersPool p (answers.Deadlock evidence) = (steps : List Step) × IsEvidenceText evidence.items (Schedule steps) × IsStuckRun p steps
+AnswersPool p (answers.Unknown why) = Unit {0}
+AnswersPool p (answers.Refused reason) = ⊥

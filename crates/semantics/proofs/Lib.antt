@@ -1,0 +1,3 @@
+pub mod Runs
+pub mod MachineLaws
+pub mod Lengths

@@ -1,0 +1,2 @@
+pub mod DeadlockLines
+pub mod Deadlocks

@@ -1,0 +1,4 @@
+pub mod Lines
+pub mod Pages
+pub mod Endings
+pub mod Deadlocks

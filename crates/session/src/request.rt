@@ -1,0 +1,164 @@
+//! What the words of a command line ask for.
+use clap::builder::{Command, ValueParser};
+use clap::error::ErrorKind;
+use clap::{Arg, ArgAction, ArgMatches, Error, value_parser};
+use prover::Options;
+use std::alloc::{AllocError, Global};
+
+/// What a command line asks for, with the paths of its files.
+#[derive(Clone, Copy, Debug)]
+pub enum Request<'a> {
+    /// Search for an answer, and write its evidence to the file `out`.
+    Prove {
+        program: &'a str,
+        out: Option<&'a str>,
+        options: Options,
+        json: bool,
+    },
+    /// Judge a program by an evidence.
+    Check {
+        program: &'a str,
+        evidence: &'a str,
+        json: bool,
+    },
+    /// Print the steps of a schedule.
+    Replay {
+        program: &'a str,
+        evidence: &'a str,
+    },
+}
+
+/// What the words ask for. The first word is the program's own name. An error is a fault of usage, a
+/// question for help, or want of memory.
+pub fn request_of(alloc: Global, words: &[String]) -> Result<Request<'_>, Error> {
+    let mut command = command(alloc)?;
+    let matches = command.try_get_matches_from_mut(words)?;
+    match matches.subcommand().and_then(requested) {
+        Some(request) => Ok(request),
+        None => Err(command.error(ErrorKind::ValueValidation, "a value is missing")?),
+    }
+}
+
+/// The request of a subcommand's matches. There is one wherever its required arguments have values
+/// in their ranges, as after each parse.
+fn requested<'a>(subcommand: (&'a str, &ArgMatches<'a>)) -> Option<Request<'a>> {
+    let (name, matches) = subcommand;
+    let program = matches.get_str(PROGRAM)?;
+    match name {
+        "prove" => {
+            let workers = matches.get_one::<u32>(WORKERS)?;
+            let depth = matches.get_one::<u32>(DEPTH)?;
+            let budget = matches.get_one::<u32>(BUDGET)?;
+            Some(Request::Prove {
+                program,
+                out: matches.get_str(OUT),
+                options: Options::make(workers, depth, budget)?,
+                json: matches.get_flag(JSON),
+            })
+        }
+        "check" => Some(Request::Check {
+            program,
+            evidence: matches.get_str(EVIDENCE)?,
+            json: matches.get_flag(JSON),
+        }),
+        "replay" => Some(Request::Replay {
+            program,
+            evidence: matches.get_str(EVIDENCE)?,
+        }),
+        _ => None,
+    }
+}
+
+const PROGRAM: &str = "PROGRAM";
+
+const EVIDENCE: &str = "EVIDENCE";
+
+const OUT: &str = "out";
+
+const WORKERS: &str = "workers";
+
+const DEPTH: &str = "depth";
+
+const BUDGET: &str = "budget";
+
+const JSON: &str = "json";
+
+/// The whole command line.
+fn command<'a>(alloc: Global) -> Result<Command<'a>, AllocError> {
+    Command::new(alloc, "mpiprove")
+        .about("Finds deadlocks of single-path MPI programs, with evidence that can be checked")
+        .subcommand_required(true)
+        .subcommand(prove_command(alloc)?)?
+        .subcommand(check_command(alloc)?)?
+        .subcommand(replay_command(alloc)?)
+}
+
+fn prove_command<'a>(alloc: Global) -> Result<Command<'a>, AllocError> {
+    Command::new(alloc, "prove")
+        .about("Decides whether some run of a program gets stuck")
+        .arg(program(alloc))?
+        .arg(
+            option(alloc, OUT)
+                .value_name("FILE")
+                .help("Write the evidence here"),
+        )?
+        .arg(
+            number(alloc, WORKERS, value_parser!(u32).range(1..=64))
+                .default_value("4")
+                .help("Workers, 1 to 64"),
+        )?
+        .arg(
+            number(alloc, DEPTH, value_parser!(u32).range(0..=15))
+                .default_value("4")
+                .help("Depth of the first tree of cubes, 0 to 15"),
+        )?
+        .arg(
+            number(alloc, BUDGET, value_parser!(u32).range(0..=1_000_000_000))
+                .default_value("1000000")
+                .help("Conflicts for each worker, 0 to 1000000000"),
+        )?
+        .arg(json(alloc))
+}
+
+fn check_command<'a>(alloc: Global) -> Result<Command<'a>, AllocError> {
+    Command::new(alloc, "check")
+        .about("Judges a program by an evidence")
+        .arg(program(alloc))?
+        .arg(evidence(alloc))?
+        .arg(json(alloc))
+}
+
+fn replay_command<'a>(alloc: Global) -> Result<Command<'a>, AllocError> {
+    Command::new(alloc, "replay")
+        .about("Prints the steps of a schedule")
+        .arg(program(alloc))?
+        .arg(evidence(alloc))
+}
+
+fn program<'a>(alloc: Global) -> Arg<'a> {
+    Arg::new(alloc, PROGRAM)
+        .required(true)
+        .action(ArgAction::Set)
+        .help("The program text")
+}
+
+fn evidence<'a>(alloc: Global) -> Arg<'a> {
+    Arg::new(alloc, EVIDENCE)
+        .required(true)
+        .action(ArgAction::Set)
+        .help("The evidence text")
+}
+
+fn json<'a>(alloc: Global) -> Arg<'a> {
+    option(alloc, JSON)
+        .action(ArgAction::SetTrue)
+        .help("Print the answer as a JSON object")
+}
+
+fn number<'a>(alloc: Global, name: &'a str, parser: ValueParser<'a>) -> Arg<'a> {
+    option(alloc, name).value_name("N").value_parser(parser)
+}
+
+fn option<'a>(alloc: Global, name: &'a str) -> Arg<'a> {
+    Arg::new(alloc, name).long(name).action(ArgAction::Set)
+}
