@@ -19,6 +19,14 @@ pub struct Stopped {
     pub line: u32,
 }
 
+impl Stopped {
+    fn at(line: u32, fault: LineFault) -> Stopped
+        ensures { result ≡ record { fault = fault; line = line } }
+    {
+        Stopped { fault, line }
+    }
+}
+
 impl From<AllocError> for Stopped {
     ghost from_gives = { λ _ e. e.fault ≡ Memory };
 
@@ -56,12 +64,7 @@ pub fn ranks_from(alloc: Global, total: u32, bytes: &[u8]) -> Result<Vec<Vec<Cal
     while let Some((line, after)) = next_line(rest) {
         let item = match item_of(alloc, line, ranks.len() as u32 + 1, total) {
             Ok(item) => item,
-            Err(fault) => {
-                return Err(Stopped {
-                    fault,
-                    line: number,
-                });
-            }
+            Err(fault) => return Err(Stopped::at(number, fault)),
         };
         match item {
             Item::Call(call) => calls.push(call)?,
@@ -74,17 +77,11 @@ pub fn ranks_from(alloc: Global, total: u32, bytes: &[u8]) -> Result<Vec<Vec<Cal
         rest = after;
     }
     if !rest.is_empty() {
-        return Err(Stopped {
-            fault: unended(rest),
-            line: number,
-        });
+        return Err(Stopped::at(number, unended(rest)));
     }
     ranks.push(calls)?;
     if (ranks.len() as u32) < total {
-        return Err(Stopped {
-            fault: LineFault::Syntax,
-            line: number,
-        });
+        return Err(Stopped::at(number, LineFault::Syntax));
     }
     Ok(ranks)
 }

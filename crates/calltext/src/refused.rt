@@ -1,6 +1,6 @@
 //! The words that are refused by name.
 
-ghost use Rattle.std.specs.Prelude.{◌≡◌, ◌≢◌, ◌<◌, ℕ, length, map, IfNone, IfSome};
+ghost use Rattle.std.specs.Prelude.{◌≡◌, ◌≢◌, ◌<◌, ℕ, length, map, Some, IfNone, IfSome};
 ghost use Rattle.calltext.specs.RefusedWords.{refused_word, refused_words};
 
 use plaintext::is_word;
@@ -130,6 +130,8 @@ impl RefusedWord {
 }
 
 impl fmt::Display for RefusedWord {
+    ghost output = { λ word. Some (refused_word word) };
+
     fn fmt<W: fmt::Write>(&self, f: &mut fmt::Formatter<W>) -> fmt::Result {
         f.write_str(self.text())
     }

@@ -19,7 +19,7 @@ fn told(rt: &HostRuntime, text: &[u8]) -> Result<String, AllocError> {
 }
 
 #[test]
-fn texts(rt: HostRuntime) -> Result<(), Fail> {
+fn headings(rt: HostRuntime) -> Result<(), Fail> {
     for (text, want) in [
         (
             "ranks 1\npolicy any\nrank 0\nsend 0 1\nrecv 0 *\nrecv * 3 comm 255\n",
@@ -39,6 +39,15 @@ fn texts(rt: HostRuntime) -> Result<(), Fail> {
         ("ranks 1\npolicy any\n", "line 3 syntax"),
         ("ranks 1\npolicy any\nrank 00\n", "line 3 syntax"),
         ("ranks 2\npolicy any\nrank 0\nsend 1 1\n", "line 5 syntax"),
+    ] {
+        assert_eq!(rt; told(&rt, text.as_bytes())?.as_str(), want, "{text}");
+    }
+    Ok(())
+}
+
+#[test]
+fn bodies(rt: HostRuntime) -> Result<(), Fail> {
+    for (text, want) in [
         ("ranks 1\npolicy any\nrank 0\nsend 1 1", "line 4 syntax"),
         ("ranks 1\npolicy any\nrank 0\nrank 1\n", "line 4 syntax"),
         ("ranks 2\npolicy any\nrank 0\nrank 0\n", "line 4 syntax"),

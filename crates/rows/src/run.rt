@@ -61,7 +61,13 @@ pub fn run(alloc: Global, words: &str, scene: Scene<'_>) -> Result<Ended, AllocE
         disk: &disk,
     };
     let mut err = Vec::with_capacity(alloc, ROOM)?;
-    let status = session(alloc, &words, &mut DiskFiles { disk: &disk }, &mut out, &mut err);
+    let status = session(
+        alloc,
+        &words,
+        &mut DiskFiles { disk: &disk },
+        &mut out,
+        &mut err,
+    );
     let Stream { text: out, disk: _ } = out;
     let writers = disk.writers.get();
     let steps = disk.steps.get();

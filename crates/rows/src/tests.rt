@@ -1,6 +1,7 @@
-//! The rows. In their texts `/` stands for the end of a line.
+//! The rows stand in tables, a row a line, with ` | ` between its columns. In their texts `/` stands
+//! for the end of a line.
 mod faults;
-mod files;
+mod troubles;
 mod limits;
 mod machine;
 mod usage;
@@ -23,22 +24,27 @@ fn schedule(alloc: Global, steps: &str) -> Result<String, AllocError> {
     lines(alloc, &text)
 }
 
-/// Asserts that the words end with this status and print this text, in which `/` stands for the end
-/// of a line too, that standard error stays empty, and that no file is written.
+/// The first column of a row, and the rest of it.
+fn column(row: &str) -> Result<(&str, &str), Fail> {
+    Ok(row.split_once(" | ").ok_or("a row lacks a column")?)
+}
+
+/// Asserts that the words end with this status and print this line, that standard error stays empty,
+/// and that no file is written. In the line `/` stands for the end of a line too.
 fn assert_answer(
     rt: &impl Abort,
     alloc: Global,
     words: &str,
-    program: &str,
-    evidence: &str,
-    status: u8,
-    text: &str,
+    scene: Scene<'_>,
+    status: &str,
+    line: &str,
 ) -> Result<(), Fail> {
-    let ended = run(alloc, words, Scene::of(program, evidence))?;
-    let text = lines(alloc, text)?;
-    assert_eq!(rt; str::from_utf8(&ended.out)?, text.as_str(), "{words} with {program}");
-    assert_eq!(rt; ended.status, status, "{words} with {program}");
-    assert!(rt; ended.err.is_empty(), "{words} with {program}");
-    assert_eq!(rt; ended.writers, 0, "{words} with {program}");
+    let ended = run(alloc, words, scene)?;
+    let text = lines(alloc, line)?;
+    let out = str::from_utf8(&ended.out)?;
+    assert_eq!(rt; out.strip_suffix("\n"), Some(text.as_str()), "{words}");
+    assert_eq!(rt; ended.status, status.parse::<u8>()?, "{words}: {line}");
+    assert!(rt; ended.err.is_empty(), "{words}: {line}");
+    assert_eq!(rt; ended.writers, 0, "{words}: {line}");
     Ok(())
 }

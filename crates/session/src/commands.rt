@@ -43,34 +43,34 @@ pub fn prove_page<'a, F: FileSet>(
 ) -> Result<Page, Stop<'a>>
     ensures { IfOk result (λ page.
         IsProved F.tells_written (F.held files.old) (F.held files.new) program.entry.now
-            (option_map (λ path. path.now) out.entry) json page.text.items page.status) }
+        (option_map (λ path. path.now) out.entry) json page.text.items page.status) }
 {
     let text = read(alloc, program, files)?;
     match prove(alloc, &text, options, &Open) {
         Answer::NoDeadlock(evidence) => {
-            decided_page(alloc, Told::NoDeadlock, &evidence, out, json, files)
+            decided_page(alloc, &Told::NoDeadlock, &evidence, out, json, files)
         }
         Answer::Deadlock(evidence) => {
-            decided_page(alloc, Told::Deadlock, &evidence, out, json, files)
+            decided_page(alloc, &Told::Deadlock, &evidence, out, json, files)
         }
-        Answer::Unknown(why) => Ok(page_of(alloc, Told::Unknown(why), json)?),
-        Answer::Refused(reason) => Ok(page_of(alloc, Told::Refused(reason), json)?),
+        Answer::Unknown(why) => Ok(page_of(alloc, &Told::Unknown(why), json)?),
+        Answer::Refused(reason) => Ok(page_of(alloc, &Told::Refused(reason), json)?),
     }
 }
 
 /// The page of an answer that has an evidence, which is written where a file is named.
 fn decided_page<'a, F: FileSet>(
     alloc: Global,
-    told: Told,
+    told: &Told,
     evidence: &[u8],
     out: Option<&'a str>,
     json: bool,
     files: &mut F,
 ) -> Result<Page, Stop<'a>>
-    ensures line { IfOk result (λ page. IsLine told json page.text.items page.status) }
+    ensures line { IfOk result (λ page. IsLine told.now json page.text.items page.status) }
     ensures written { OnOk result
         (IsWritten F.tells_written (F.held files.old) (F.held files.new)
-            (option_map (λ path. path.now) out.entry) evidence.now) }
+        (option_map (λ path. path.now) out.entry) evidence.now) }
 {
     let page = page_of(alloc, told, json)?;
     if let Some(path) = out {
@@ -89,12 +89,12 @@ pub fn check_page<'a, F: FileSet>(
 ) -> Result<Page, Stop<'a>>
     ensures { IfOk result (λ page.
         IsChecked (F.held files.old program.entry.now) (F.held files.old evidence.entry.now) json
-            page.text.items page.status) }
+        page.text.items page.status) }
 {
     let program = read(alloc, program, files)?;
     let evidence = read(alloc, evidence, files)?;
     let told = Told::from(verdict(alloc, &program, &evidence));
-    Ok(page_of(alloc, told, json)?)
+    Ok(page_of(alloc, &told, json)?)
 }
 
 /// Replays the schedule of an evidence.
@@ -106,7 +106,7 @@ pub fn replay_page<'a, F: FileSet>(
 ) -> Result<Page, Stop<'a>>
     ensures { IfOk result (λ page.
         IsReplayed (F.held files.old program.entry.now) (F.held files.old evidence.entry.now)
-            page.text.items page.status) }
+        page.text.items page.status) }
 {
     let program = read(alloc, program, files)?;
     let evidence = read(alloc, evidence, files)?;
@@ -115,7 +115,7 @@ pub fn replay_page<'a, F: FileSet>(
             let status = Told::Deadlock.status();
             Ok(Page { text, status })
         }
-        Replayed::Refused(reason) => Ok(page_of(alloc, Told::Refused(reason), false)?),
+        Replayed::Refused(reason) => Ok(page_of(alloc, &Told::Refused(reason), false)?),
     }
 }
 
@@ -140,7 +140,7 @@ fn read<'a, F: FileSet>(alloc: Global, path: &'a str, files: &mut F) -> Result<V
 fn write<'a, F: FileSet>(path: &'a str, bytes: &[u8], files: &mut F) -> Result<(), Stop<'a>>
     ensures { OnOk result
         (IsTrue F.tells_written
-            → IfSome (F.held files.new path.entry.now) (λ held. held ≡ bytes.now)) }
+        → IfSome (F.held files.new path.entry.now) (λ held. held ≡ bytes.now)) }
 {
     let mut writer = match files.open_write(path) {
         Ok(writer) => writer,

@@ -18,8 +18,8 @@ pub enum Told {
 
 impl Told {
     /// The exit status of the program.
-    pub fn status(self) -> u8
-        ensures { result ≡ told_status self }
+    pub fn status(&self) -> u8
+        ensures { result ≡ told_status self.now }
     {
         match self {
             Told::NoDeadlock => NO_DEADLOCK,
@@ -31,14 +31,14 @@ impl Told {
     }
 
     /// The words of the line that tells it.
-    pub fn words(self, alloc: Global) -> Result<String, AllocError>
-        ensures { IfOk result (λ words. Says self (string_bytes words)) }
+    pub fn words(&self, alloc: Global) -> Result<String, AllocError>
+        ensures { IfOk result (λ words. Says self.now (string_bytes words)) }
     {
         match self {
             Told::NoDeadlock => String::from_str(alloc, "no deadlock"),
             Told::Deadlock => String::from_str(alloc, "deadlock"),
-            Told::Unknown(why) => joined(alloc, "unknown ", &why),
-            Told::Refused(reason) => joined(alloc, "refused ", &reason),
+            Told::Unknown(why) => joined(alloc, "unknown ", why),
+            Told::Refused(reason) => joined(alloc, "refused ", reason),
         }
     }
 }

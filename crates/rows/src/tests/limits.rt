@@ -1,11 +1,12 @@
 //! Each limit, at its value and one beyond.
-use super::{assert_answer, lines, schedule};
+use super::{assert_answer, column, lines, schedule};
+use crate::run::Scene;
 use std::alloc::{AllocError, Global};
 use std::test::Fail;
 
 /// A program of so many ranks, the first of which has this call line and the others none.
-fn program_of(alloc: Global, ranks: u32, line: &str) -> Result<String, AllocError> {
-    let mut text = format!(in alloc; "ranks {ranks}/policy none/rank 0/{line}/")?;
+fn program_of(alloc: Global, ranks: u32, call: &str) -> Result<String, AllocError> {
+    let mut text = format!(in alloc; "ranks {ranks}/policy none/rank 0/{call}/")?;
     for rank in 1..ranks {
         let heading = format!(in alloc; "rank {rank}/")?;
         text.push_str(&heading)?;
@@ -13,33 +14,45 @@ fn program_of(alloc: Global, ranks: u32, line: &str) -> Result<String, AllocErro
     lines(alloc, &text)
 }
 
+/// A number of ranks and the first one's call, with the status and the line of `prove`.
+const NUMBERS: &str = "\
+64 | recv 63 1 | 1 | deadlock
+64 | send 63 1 | 1 | deadlock
+64 | send 64 1 | 3 | refused line 4 range
+64 | recv 64 1 | 3 | refused line 4 range
+63 | send 63 1 | 3 | refused rank 0 place 1 peer range
+65 | recv 0 1 | 3 | refused line 1 range
+1 | send 0 32767 | 1 | deadlock
+1 | send 0 32768 | 3 | refused line 4 range
+1 | recv * 32767 | 1 | deadlock
+1 | recv * 32768 | 3 | refused line 4 range
+1 | recv 0 * comm 255 | 1 | deadlock
+1 | recv 0 * comm 256 | 3 | refused line 4 range
+1 | recv 0 * comm 0 | 3 | refused line 4 range
+1 | send 0 0 comm 1 | 1 | deadlock
+1 | send 0 99999999999999999999999999 | 3 | refused line 4 range";
+
 #[test]
 fn keeps_limits_of_numbers(rt: HostRuntime) -> Result<(), Fail> {
     let alloc = rt.alloc();
-    for (ranks, line, status, text) in [
-        (64, "recv 63 1", 1, "deadlock/"),
-        (64, "send 63 1", 1, "deadlock/"),
-        (64, "send 64 1", 3, "refused line 4 range/"),
-        (64, "recv 64 1", 3, "refused line 4 range/"),
-        (63, "send 63 1", 3, "refused rank 0 place 1 peer range/"),
-        (65, "recv 0 1", 3, "refused line 1 range/"),
-        (1, "send 0 32767", 1, "deadlock/"),
-        (1, "send 0 32768", 3, "refused line 4 range/"),
-        (1, "recv * 32767", 1, "deadlock/"),
-        (1, "recv * 32768", 3, "refused line 4 range/"),
-        (1, "recv 0 * comm 255", 1, "deadlock/"),
-        (1, "recv 0 * comm 256", 3, "refused line 4 range/"),
-        (1, "recv 0 * comm 0", 3, "refused line 4 range/"),
-        (1, "send 0 0 comm 1", 1, "deadlock/"),
-        (1, "send 0 99999999999999999999999999", 3, "refused line 4 range/"),
-    ] {
-        let program = program_of(alloc, ranks, line)?;
-        assert_answer(&rt, alloc, "prove program", &program, "", status, text)?;
+    for row in NUMBERS.lines() {
+        let (ranks, row) = column(row)?;
+        let (call, row) = column(row)?;
+        let (status, line) = column(row)?;
+        let program = program_of(alloc, ranks.parse::<u32>()?, call)?;
+        assert_answer(
+            &rt,
+            alloc,
+            "prove program",
+            Scene::of(&program, ""),
+            status,
+            line,
+        )?;
     }
     Ok(())
 }
 
-/// A program of two ranks with so many calls each.
+/// A program of two ranks with so many calls.
 fn program_of_calls(alloc: Global, first: usize, second: usize) -> Result<String, AllocError> {
     let call = "recv 0 1/";
     let mut text = String::from_str(alloc, "ranks 2/policy any/rank 0/")?;
@@ -49,19 +62,31 @@ fn program_of_calls(alloc: Global, first: usize, second: usize) -> Result<String
     lines(alloc, &text)
 }
 
+/// The numbers of calls of two ranks, with the status and the line of `prove`.
+const CALLS: &str = "\
+256 | 0 | 1 | deadlock
+128 | 128 | 1 | deadlock
+128 | 129 | 3 | refused rank 1 place 129 too many calls
+256 | 1 | 3 | refused rank 1 place 1 too many calls
+257 | 0 | 3 | refused rank 0 place 257 too many calls
+300 | 300 | 3 | refused rank 0 place 257 too many calls";
+
 #[test]
 fn keeps_the_limit_of_calls(rt: HostRuntime) -> Result<(), Fail> {
     let alloc = rt.alloc();
-    for (first, second, status, text) in [
-        (256, 0, 1, "deadlock/"),
-        (128, 128, 1, "deadlock/"),
-        (128, 129, 3, "refused rank 1 place 129 too many calls/"),
-        (256, 1, 3, "refused rank 1 place 1 too many calls/"),
-        (257, 0, 3, "refused rank 0 place 257 too many calls/"),
-        (300, 300, 3, "refused rank 0 place 257 too many calls/"),
-    ] {
-        let program = program_of_calls(alloc, first, second)?;
-        assert_answer(&rt, alloc, "prove program", &program, "", status, text)?;
+    for row in CALLS.lines() {
+        let (first, row) = column(row)?;
+        let (second, row) = column(row)?;
+        let (status, line) = column(row)?;
+        let program = program_of_calls(alloc, first.parse::<usize>()?, second.parse::<usize>()?)?;
+        assert_answer(
+            &rt,
+            alloc,
+            "prove program",
+            Scene::of(&program, ""),
+            status,
+            line,
+        )?;
     }
     Ok(())
 }
@@ -70,12 +95,13 @@ fn keeps_the_limit_of_calls(rt: HostRuntime) -> Result<(), Fail> {
 fn keeps_the_limit_of_steps(rt: HostRuntime) -> Result<(), Fail> {
     let alloc = rt.alloc();
     let program = lines(alloc, "ranks 1/policy any/rank 0/recv 0 1/")?;
-    for (steps, text) in [
-        (4096, "refused step 2 not enabled/"),
-        (4097, "refused evidence too large/"),
+    for (steps, line) in [
+        (4096, "refused step 2 not enabled"),
+        (4097, "refused evidence too large"),
     ] {
         let evidence = schedule(alloc, &"issue 0/".repeat(alloc, steps)?)?;
-        assert_answer(&rt, alloc, "check program evidence", &program, &evidence, 3, text)?;
+        let scene = Scene::of(&program, &evidence);
+        assert_answer(&rt, alloc, "check program evidence", scene, "3", line)?;
     }
     Ok(())
 }
@@ -84,13 +110,21 @@ fn keeps_the_limit_of_steps(rt: HostRuntime) -> Result<(), Fail> {
 fn keeps_the_limit_of_the_text(rt: HostRuntime) -> Result<(), Fail> {
     let alloc = rt.alloc();
     let heading = "ranks 1/policy any/rank 0/";
-    for (size, text) in [
-        (1_048_576, "refused line 4 syntax/"),
-        (1_048_577, "refused text too large/"),
+    for (size, line) in [
+        (1_048_576_usize, "refused line 4 syntax"),
+        (1_048_577, "refused text too large"),
     ] {
-        let padding = "x".repeat(alloc, size - heading.len())?;
+        let padding = "x".repeat(alloc, size.saturating_sub(heading.len()))?;
         let program = lines(alloc, &format!(in alloc; "{heading}{padding}")?)?;
-        assert_answer(&rt, alloc, "prove program", &program, "", 3, text)?;
+        assert_eq!(rt; program.len(), size);
+        assert_answer(
+            &rt,
+            alloc,
+            "prove program",
+            Scene::of(&program, ""),
+            "3",
+            line,
+        )?;
     }
     Ok(())
 }

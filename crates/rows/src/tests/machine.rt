@@ -1,5 +1,5 @@
 //! What the search, the checker and the replay answer to small programs.
-use super::{assert_answer, lines, schedule};
+use super::{assert_answer, column, lines, schedule};
 use crate::run::{Scene, run};
 use std::alloc::{AllocError, Global};
 use std::process::Abort;
@@ -9,197 +9,205 @@ use std::test::Fail;
 /// Two ranks that each send before they receive.
 const EXCHANGE: &str = "ranks 2/policy any/rank 0/send 1 1/recv 1 1/rank 1/send 0 1/recv 0 1/";
 
-const EXCHANGE_BUFFERED: &str =
-    "ranks 2/policy all/rank 0/send 1 1/recv 1 1/rank 1/send 0 1/recv 0 1/";
-
-const EXCHANGE_UNBUFFERED: &str =
-    "ranks 2/policy none/rank 0/send 1 1/recv 1 1/rank 1/send 0 1/recv 0 1/";
-
 /// A receive from any rank may take the message that the receive after it waits for.
 const WILDCARD: &str =
     "ranks 3/policy any/rank 0/send 1 1/rank 1/recv * 1/recv 0 1/rank 2/send 1 1/";
 
-/// Gets stuck where rank 0's messages are buffered and the one to rank 2 overtakes rank 1's.
-const THREE_UNBUFFERED: &str = "ranks 3/policy none/rank 0/send 1 1/send 2 1/rank 1/send 2 1/\
-    recv 0 1/rank 2/recv * 1/recv 0 1/";
-
-const THREE_ANY: &str = "ranks 3/policy any/rank 0/send 1 1/send 2 1/rank 1/send 2 1/recv 0 1/\
+/// Gets stuck where rank 0's messages are buffered and its second one arrives before rank 1's.
+const THREE: &str = "ranks 3/policy any/rank 0/send 1 1/send 2 1/rank 1/send 2 1/recv 0 1/\
     rank 2/recv * 1/recv 0 1/";
 
-const THREE_BUFFERED: &str = "ranks 3/policy all/rank 0/send 1 1/send 2 1/rank 1/send 2 1/\
-    recv 0 1/rank 2/recv * 1/recv 0 1/";
-
-const THREE_STEPS: &str = "issue 0 buffered/issue 0 buffered/issue 2/match 2 5/issue 2/\
-    issue 1 buffered/issue 1/match 1 4/";
-
-/// The second receive waits for the message that the first may not take.
+/// The second message waits for the receive that the first one may take.
 const OVERTAKING: &str = "ranks 2/policy any/rank 0/send 1 1/send 1 2/rank 1/recv 0 */recv 0 2/";
 
 /// A rank that sends to itself before it receives.
-const TO_ITSELF: &str = "ranks 1/policy any/rank 0/send 0 1/recv 0 1/";
+const ITSELF: &str = "ranks 1/policy any/rank 0/send 0 1/recv 0 1/";
 
-const TO_ITSELF_BUFFERED: &str = "ranks 1/policy all/rank 0/send 0 1/recv 0 1/";
+/// A receive that no message ever fits.
+const RECEIVE: &str = "ranks 1/policy any/rank 0/recv 0 1/";
 
-const LONE_RECEIVE: &str = "ranks 1/policy any/rank 0/recv 0 1/";
+/// A rank without calls.
+const IDLE: &str = "ranks 1/policy any/rank 0/";
 
-const NO_CALLS: &str = "ranks 1/policy any/rank 0/";
+/// The program of this policy and name.
+fn program(alloc: Global, policy_and_name: &str) -> Result<String, Fail> {
+    let (policy, name) = policy_and_name
+        .split_once(' ')
+        .ok_or("a row lacks a policy")?;
+    let text = match name {
+        "exchange" => EXCHANGE,
+        "wildcard" => WILDCARD,
+        "three" => THREE,
+        "overtaking" => OVERTAKING,
+        "itself" => ITSELF,
+        "receive" => RECEIVE,
+        "idle" => IDLE,
+        _ => return Err(Fail::new("a row names no program")),
+    };
+    Ok(lines(alloc, &text.replace(alloc, "any", policy)?)?)
+}
+
+/// Programs and schedules, with the status and the line of `check`.
+const CHECKED: &str = "\
+any exchange | issue 0/issue 1/ | 1 | deadlock
+none exchange | issue 1/issue 0/ | 1 | deadlock
+any exchange | issue 0/ | 3 | refused not stuck live
+any exchange | issue 0/issue 1/issue 0/ | 3 | refused step 3 not enabled
+any exchange | issue 2/ | 3 | refused step 1 not enabled
+any exchange | match 1 4/ | 3 | refused step 1 not enabled
+all exchange | issue 0/issue 1/ | 3 | refused step 1 not enabled
+none exchange | issue 0 buffered/ | 3 | refused step 1 not enabled
+any wildcard | issue 0/issue 1/match 1 2/issue 1/issue 2/ | 1 | deadlock
+any wildcard | issue 0/issue 1/match 1 2/issue 1/ | 3 | refused not stuck live
+any three | issue 0 buffered/issue 0 buffered/issue 2/match 2 5/issue 2/issue 1 buffered/issue 1/match 1 4/ | 1 | deadlock
+all three | issue 0 buffered/issue 0 buffered/issue 2/match 2 5/issue 2/issue 1 buffered/issue 1/match 1 4/ | 1 | deadlock
+none three | issue 0 buffered/issue 0 buffered/issue 2/match 2 5/issue 2/issue 1 buffered/issue 1/match 1 4/ | 3 | refused step 1 not enabled
+any overtaking | issue 0 buffered/issue 0/issue 1/match 2 3/ | 3 | refused step 4 not enabled
+any itself | issue 0/ | 1 | deadlock
+any itself | issue 0 buffered/issue 0/match 1 2/ | 3 | refused not stuck finished
+any receive | issue 0/ | 1 | deadlock
+any receive |  | 3 | refused not stuck live
+any idle |  | 3 | refused not stuck finished";
+
+/// Programs and schedules, with the status and the lines of `replay`.
+const REPLAYED: &str = "\
+any exchange | issue 0/issue 1/ | 1 | issue 0 call 1 send/issue 1 call 3 send/stuck
+any wildcard | issue 0/issue 1/match 1 2/issue 1/issue 2/ | 1 | issue 0 call 1 send/issue 1 call 2 recv/match 1 2/issue 1 call 3 recv/issue 2 call 4 send/stuck
+any three | issue 0 buffered/issue 0 buffered/issue 2/match 2 5/issue 2/issue 1 buffered/issue 1/match 1 4/ | 1 | issue 0 buffered call 1 send/issue 0 buffered call 2 send/issue 2 call 5 recv/match 2 5/issue 2 call 6 recv/issue 1 buffered call 3 send/issue 1 call 4 recv/match 1 4/stuck
+any receive |  | 3 | refused not stuck live
+any itself | issue 0 buffered/issue 0/match 1 2/ | 3 | refused not stuck finished
+any receive | issue 0/issue 0/ | 3 | refused step 2 not enabled
+any receive | issue 01/ | 3 | refused evidence line 3 syntax
+some receive | issue 0/ | 3 | refused line 2 syntax";
+
+/// Asserts what a command answers to each row.
+fn assert_rows(rt: &impl Abort, alloc: Global, words: &str, rows: &str) -> Result<(), Fail> {
+    for row in rows.lines() {
+        let (name, row) = column(row)?;
+        let (steps, row) = column(row)?;
+        let (status, line) = column(row)?;
+        let program = program(alloc, name)?;
+        let evidence = schedule(alloc, steps)?;
+        assert_answer(
+            rt,
+            alloc,
+            words,
+            Scene::of(&program, &evidence),
+            status,
+            line,
+        )?;
+    }
+    Ok(())
+}
 
 #[test]
 fn checks_schedules(rt: HostRuntime) -> Result<(), Fail> {
-    let alloc = rt.alloc();
-    for (program, steps, status, text) in [
-        (EXCHANGE, "issue 0/issue 1/", 1, "deadlock/"),
-        (EXCHANGE_UNBUFFERED, "issue 1/issue 0/", 1, "deadlock/"),
-        (EXCHANGE, "issue 0/", 3, "refused not stuck live/"),
-        (EXCHANGE, "issue 0/issue 1/issue 0/", 3, "refused step 3 not enabled/"),
-        (EXCHANGE, "issue 2/", 3, "refused step 1 not enabled/"),
-        (EXCHANGE, "match 1 4/", 3, "refused step 1 not enabled/"),
-        (EXCHANGE_BUFFERED, "issue 0/issue 1/", 3, "refused step 1 not enabled/"),
-        (EXCHANGE_UNBUFFERED, "issue 0 buffered/", 3, "refused step 1 not enabled/"),
-        (WILDCARD, "issue 0/issue 1/match 1 2/issue 1/issue 2/", 1, "deadlock/"),
-        (WILDCARD, "issue 0/issue 1/match 1 2/issue 1/", 3, "refused not stuck live/"),
-        (THREE_ANY, THREE_STEPS, 1, "deadlock/"),
-        (THREE_BUFFERED, THREE_STEPS, 1, "deadlock/"),
-        (THREE_UNBUFFERED, THREE_STEPS, 3, "refused step 1 not enabled/"),
-        (OVERTAKING, "issue 0 buffered/issue 0/issue 1/match 2 3/", 3, "refused step 4 not enabled/"),
-        (TO_ITSELF, "issue 0/", 1, "deadlock/"),
-        (TO_ITSELF, "issue 0 buffered/issue 0/match 1 2/", 3, "refused not stuck finished/"),
-        (LONE_RECEIVE, "issue 0/", 1, "deadlock/"),
-        (LONE_RECEIVE, "", 3, "refused not stuck live/"),
-        (NO_CALLS, "", 3, "refused not stuck finished/"),
-    ] {
-        let program = lines(alloc, program)?;
-        let evidence = schedule(alloc, steps)?;
-        assert_answer(&rt, alloc, "check program evidence", &program, &evidence, status, text)?;
-    }
-    Ok(())
-}
-
-/// Asserts that a search finds a deadlock and writes this schedule, which the checker accepts, with
-/// and without options.
-fn assert_found(
-    rt: &impl Abort,
-    alloc: Global,
-    program: &str,
-    steps: &str,
-    words: &str,
-) -> Result<(), Fail> {
-    let program = lines(alloc, program)?;
-    let evidence = schedule(alloc, steps)?;
-    let ended = run(alloc, words, Scene::of(&program, ""))?;
-    assert_eq!(rt; str::from_utf8(&ended.out)?, "deadlock\n", "{program}");
-    assert_eq!(rt; ended.status, 1, "{program}");
-    assert_eq!(rt; str::from_utf8(&ended.written)?, evidence.as_str(), "{program}");
-    assert_eq!(rt; ended.writers, 1, "{program}");
-    assert!(rt; ended.err.is_empty(), "{program}");
-    assert_answer(rt, alloc, "check program evidence", &program, &evidence, 1, "deadlock/")
-}
-
-#[test]
-fn finds_deadlocks(rt: HostRuntime) -> Result<(), Fail> {
-    for (program, steps) in [
-        (EXCHANGE, "issue 0/issue 1/"),
-        (EXCHANGE_UNBUFFERED, "issue 0/issue 1/"),
-        (WILDCARD, "issue 0/issue 1/issue 2/match 1 2/issue 1/"),
-        (
-            THREE_BUFFERED,
-            "issue 0 buffered/issue 0 buffered/issue 1 buffered/issue 1/issue 2/match 1 4/\
-             match 2 5/issue 2/",
-        ),
-        (TO_ITSELF, "issue 0/"),
-        (LONE_RECEIVE, "issue 0/"),
-    ] {
-        for words in [
-            "prove program --out out",
-            "prove --workers 64 --depth 15 --budget 1000000000 --out=out program",
-            "prove --workers 1 --depth 0 program --out out",
-        ] {
-            assert_found(&rt, rt.alloc(), program, steps, words)?;
-        }
-    }
-    Ok(())
-}
-
-#[test]
-fn finds_no_answer(rt: HostRuntime) -> Result<(), Fail> {
-    let alloc = rt.alloc();
-    for program in [
-        EXCHANGE_BUFFERED,
-        THREE_UNBUFFERED,
-        THREE_ANY,
-        OVERTAKING,
-        TO_ITSELF_BUFFERED,
-        NO_CALLS,
-    ] {
-        let program = lines(alloc, program)?;
-        for words in ["prove program", "prove program --out out"] {
-            assert_answer(&rt, alloc, words, &program, "", 2, "unknown budget/")?;
-        }
-    }
-    Ok(())
+    assert_rows(&rt, rt.alloc(), "check program evidence", CHECKED)
 }
 
 #[test]
 fn replays_schedules(rt: HostRuntime) -> Result<(), Fail> {
+    assert_rows(&rt, rt.alloc(), "replay program evidence", REPLAYED)
+}
+
+/// Programs, and the schedules that the search finds.
+const FOUND: &str = "\
+any exchange | issue 0/issue 1/
+none exchange | issue 0/issue 1/
+any wildcard | issue 0/issue 1/issue 2/match 1 2/issue 1/
+all three | issue 0 buffered/issue 0 buffered/issue 1 buffered/issue 1/issue 2/match 1 4/match 2 5/issue 2/
+any itself | issue 0/
+all receive | issue 0/";
+
+/// Asserts that these words find this schedule and write it to the file `out`, and that the checker
+/// accepts it.
+fn assert_found(
+    rt: &impl Abort,
+    alloc: Global,
+    words: &str,
+    program: &str,
+    evidence: &str,
+) -> Result<(), Fail> {
+    let ended = run(alloc, words, Scene::of(program, ""))?;
+    assert_eq!(rt; ended.status, 1, "{program}");
+    assert_eq!(rt; str::from_utf8(&ended.out)?, "deadlock\n", "{program}");
+    assert_eq!(rt; str::from_utf8(&ended.written)?, evidence, "{program}");
+    assert_eq!(rt; ended.writers, 1, "{program}");
+    assert!(rt; ended.err.is_empty(), "{program}");
+    let scene = Scene::of(program, evidence);
+    assert_answer(rt, alloc, "check program evidence", scene, "1", "deadlock")
+}
+
+#[test]
+fn finds_deadlocks(rt: HostRuntime) -> Result<(), Fail> {
     let alloc = rt.alloc();
-    for (program, steps, status, text) in [
-        (
-            EXCHANGE,
-            "issue 0/issue 1/",
-            1,
-            "issue 0 call 1 send/issue 1 call 3 send/stuck/",
-        ),
-        (
-            WILDCARD,
-            "issue 0/issue 1/match 1 2/issue 1/issue 2/",
-            1,
-            "issue 0 call 1 send/issue 1 call 2 recv/match 1 2/issue 1 call 3 recv/\
-             issue 2 call 4 send/stuck/",
-        ),
-        (
-            THREE_ANY,
-            THREE_STEPS,
-            1,
-            "issue 0 buffered call 1 send/issue 0 buffered call 2 send/issue 2 call 5 recv/\
-             match 2 5/issue 2 call 6 recv/issue 1 buffered call 3 send/issue 1 call 4 recv/\
-             match 1 4/stuck/",
-        ),
-        (LONE_RECEIVE, "", 3, "refused not stuck live/"),
-        (TO_ITSELF, "issue 0 buffered/issue 0/match 1 2/", 3, "refused not stuck finished/"),
-        (LONE_RECEIVE, "issue 0/issue 0/", 3, "refused step 2 not enabled/"),
-        (LONE_RECEIVE, "issue 01/", 3, "refused evidence line 3 syntax/"),
-        ("ranks 0/", "issue 0/", 3, "refused line 1 range/"),
-    ] {
-        let program = lines(alloc, program)?;
+    for row in FOUND.lines() {
+        let (name, steps) = column(row)?;
+        let program = program(alloc, name)?;
         let evidence = schedule(alloc, steps)?;
-        assert_answer(&rt, alloc, "replay program evidence", &program, &evidence, status, text)?;
+        let words = "prove program --out out";
+        assert_found(&rt, alloc, words, &program, &evidence)?;
+        let words = "prove --workers 64 --depth 15 --budget 1000000000 --out=out program";
+        assert_found(&rt, alloc, words, &program, &evidence)?;
+        let words = "prove --workers 1 --depth 0 --out out program";
+        assert_found(&rt, alloc, words, &program, &evidence)?;
     }
     Ok(())
 }
 
+/// Programs whose walk doesn't end stuck.
+const NOT_FOUND: &str = "\
+all exchange
+none three
+any three
+any overtaking
+all itself
+any idle";
+
+#[test]
+fn finds_no_answer(rt: HostRuntime) -> Result<(), Fail> {
+    let alloc = rt.alloc();
+    for name in NOT_FOUND.lines() {
+        let program = program(alloc, name)?;
+        let scene = Scene::of(&program, "");
+        assert_answer(
+            &rt,
+            alloc,
+            "prove program --out out",
+            scene,
+            "2",
+            "unknown budget",
+        )?;
+    }
+    Ok(())
+}
+
+/// Words and programs, with the status and the line that is a JSON object. The evidence is a schedule
+/// of the exchange.
+const IN_JSON: &str = "\
+prove program --json | any exchange | 1 | {\"answer\":\"deadlock\",\"status\":1}
+prove --json program | any overtaking | 2 | {\"answer\":\"unknown budget\",\"status\":2}
+prove program --json | some exchange | 3 | {\"answer\":\"refused line 2 syntax\",\"status\":3}
+check program evidence --json | any exchange | 1 | {\"answer\":\"deadlock\",\"status\":1}
+check --json program evidence | all exchange | 3 | {\"answer\":\"refused step 1 not enabled\",\"status\":3}";
+
 #[test]
 fn answers_in_json(rt: HostRuntime) -> Result<(), Fail> {
     let alloc = rt.alloc();
-    for (words, program, status, text) in [
-        ("prove program --json", EXCHANGE, 1, "{\"answer\":\"deadlock\",\"status\":1}/"),
-        ("prove --json program", OVERTAKING, 2, "{\"answer\":\"unknown budget\",\"status\":2}/"),
-        ("prove program --json", "ranks 0/", 3, "{\"answer\":\"refused line 1 range\",\"status\":3}/"),
-        (
-            "check program evidence --json",
-            EXCHANGE,
-            1,
-            "{\"answer\":\"deadlock\",\"status\":1}/",
-        ),
-        (
-            "check --json program evidence",
-            EXCHANGE_BUFFERED,
-            3,
-            "{\"answer\":\"refused step 1 not enabled\",\"status\":3}/",
-        ),
-    ] {
-        let program = lines(alloc, program)?;
+    for row in IN_JSON.lines() {
+        let (words, row) = column(row)?;
+        let (name, row) = column(row)?;
+        let (status, line) = column(row)?;
+        let program = program(alloc, name)?;
         let evidence = schedule(alloc, "issue 0/issue 1/")?;
-        assert_answer(&rt, alloc, words, &program, &evidence, status, text)?;
+        assert_answer(
+            &rt,
+            alloc,
+            words,
+            Scene::of(&program, &evidence),
+            status,
+            line,
+        )?;
     }
     Ok(())
 }

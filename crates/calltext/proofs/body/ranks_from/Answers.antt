@@ -2,11 +2,12 @@ use Rattle.std.proofs.Common.{◌≡◌, ℕ, ◌+◌, ◌<◌, [], ◌∷◌, �
 use Rattle.std.proofs.lemmas.Grind.{common_steps}
 use Rattle.std.proofs.lemmas.List.{map_push, length-map}
 use Rattle.plaintext.specs.Plain.{line_of}
-use Rattle.calltext.specs.Body.{views}
 use Rattle.calltext.specs.Grammar.{rank_words}
 use Rattle.calltext.specs.declared.line.Item.TheVariants as items
 use Rattle.calltext.specs.Item.{IsItem}
 use Rattle.calltext.proofs.BodyLaws.{SoFar-call, SoFar-rank, SoFar-unended}
+use Rattle.calltext.specs.Body.{IsStopped, views}
+use Rattle.calltext.specs.declared.body.Stopped.{Stopped}
 use Rattle.calltext.proofs.body.ranks_from.Goals as goal
 use Rattle.calltext.proofs.body.ranks_from.Goals.{in-Call+in_ok-push-in-Call, in-Rank+in_ok-push-in-Rank}
 
@@ -32,5 +33,6 @@ loop-line-preserved c =
 
 pub returns-then-not-is_empty-clause-err : goal.returns-then-not-is_empty-clause-err
 returns-then-not-is_empty-clause-err c =
-    SoFar-unended c.unended.result c.args.total c.args.bytes.now c.loop-line.rest.now c.loop-line.number (views c.loop-line.ranks.items) c.loop-line.calls.items
-    c.loop-line.invariant.so_far c.in_default.ensures.none c.unended.ensures (λ e. absurd (grind (arith, ap length e)))
+    subst (λ (stop : Stopped). IsStopped stop.fault stop.line c.args.total c.args.bytes.now) (sym c.at-then-not-is_empty.ensures)
+    (SoFar-unended c.unended.result c.args.total c.args.bytes.now c.loop-line.rest.now c.loop-line.number (views c.loop-line.ranks.items) c.loop-line.calls.items
+    c.loop-line.invariant.so_far c.in_default.ensures.none c.unended.ensures (λ e. absurd (grind (arith, ap length e))))
