@@ -1,5 +1,5 @@
 -- What the files of a shelf hold.
-use Rattle.std.specs.Prelude.{ℕ, List, Option, None, Some, if◌then◌else◌, codes, option_map}
+use Rattle.std.specs.Prelude.{ℕ, List, Option, None, Some, if◌then◌else◌, codes}
 use Rattle.std.specs.Prelude.{bytes_eq}
 
 -- the bytes of the file at a path: of the program, of the evidence, or of what was written and closed

@@ -1,9 +1,9 @@
 //! The rows stand in tables, a row a line, with ` | ` between its columns. In their texts `/` stands
 //! for the end of a line.
 mod faults;
-mod troubles;
 mod limits;
 mod machine;
+mod troubles;
 mod usage;
 
 use crate::run::{Scene, run};
