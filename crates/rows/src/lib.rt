@@ -1,5 +1,5 @@
-//! Worked rows: runs of the session over files in memory, with what each has to print and its exit
-//! status. All stands in tests.
+//! Worked examples: runs of the session over files in memory, with what each has to print and its
+//! exit status. All stands in tests.
 #![tactic(auto)]
 
 #[cfg(test)]
