@@ -1,6 +1,8 @@
 -- What the prover's answers say of a program's text.
 use Rattle.std.specs.Prelude.{◌≢◌, ℕ, List}
 use Rattle.callorder.specs.Programs.{MpiProgram}
+use Rattle.callorder.specs.Resolving.{IsTextOf}
+use Rattle.pool.specs.declared.why.Why.TheVariants as whys
 use Rattle.semantics.specs.declared.state.Step.{Step}
 use Rattle.semantics.specs.Machine.{IsStuckRun}
 use Rattle.prooflog.specs.declared.evidence.Evidence.TheVariants.{Schedule}
@@ -13,11 +15,12 @@ use Rattle.prover.specs.declared.steps.Replayed.{Replayed}
 use Rattle.prover.specs.declared.steps.Replayed.TheVariants as replays
 
 -- A deadlock comes with the text of an evidence that shows it. A program is refused for a fault of its own text, and
--- never for want of memory. That there is no deadlock isn't answered yet.
+-- never for want of memory; so another reason than memory for which no answer is known comes only where the text is a
+-- program's. That there is no deadlock isn't answered yet.
 abbrev pub Answers : List ℕ → Answer → Type 0
 Answers program (answers.NoDeadlock evidence) = ⊥
 Answers program (answers.Deadlock evidence) = Shows program evidence.items
-Answers program (answers.Unknown why) = Unit {0}
+Answers program (answers.Unknown why) = why ≢ whys.Memory → (p : MpiProgram) × IsTextOf program p
 Answers program (answers.Refused reason) = IsProgramReason program reason × (reason ≢ reasons.Memory)
 
 -- A replay that ends stuck is one of a schedule that shows a deadlock. Else the first reason why it isn't one is told.

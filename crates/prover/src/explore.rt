@@ -44,9 +44,10 @@ fn answer_of(alloc: Global, pool: &Pool) -> Answer
 ///
 /// `Deadlock` comes with the text of an evidence for which `verdict` answers `Deadlock` on this program's text, or
 /// want of memory: its schedule is a run of the program that ends where some rank is unfinished and no step is
-/// enabled. `Refused` tells the first fault of the program's text, and want of memory is `Unknown(Memory)`. So far the
-/// search is one walk on the calling thread: each rank goes on as far as it can, and only where none can is a message
-/// matched; where it ends finished the answer is `Unknown(Budget)`. The options are not used yet.
+/// enabled. `Refused` tells the first fault of the program's text, and want of memory is `Unknown(Memory)`; `Unknown`
+/// for another reason comes only for a program's text. So far the search is one walk on the calling thread: each rank
+/// goes on as far as it can, and only where none can is a message matched; where it ends finished the answer is
+/// `Unknown(Budget)`. The options are not used yet.
 pub fn prove<G: Gate + Sync>(alloc: Global, program: &[u8], options: Options, gate: &G) -> Answer
     ensures { Answers program.now result }
 {
