@@ -1,40 +1,20 @@
--- From the call lines of a text to a program: the expansion, the faults of call lines, and which fault is the first.
-use Rattle.std.specs.Prelude.{◌≡◌, ℕ, ◌+◌, ◌<◌, ◌≤◌, Bool, false, true, nat_le, IsTrue, List, [], ◌∷◌, ◌++◌, length, map, take, Option, Some, None, slice_get, unwrap_or, ◌⊎◌}
+-- From the call lines of a text to a program: the faults of call lines, which fault is the first, and the program where
+-- there is none.
+use Rattle.std.specs.Prelude.{◌≡◌, ℕ, ◌<◌, ◌≤◌, Bool, false, nat_le, nat_eq, IsTrue, List, [], ◌∷◌, length, Option, Some, None, slice_get, unwrap_or, ◌+◌, ◌⊎◌}
 use Rattle.calltext.specs.Grammar.{ProgramText, IsText}
-use Rattle.calltext.specs.declared.call.CallLine.{CallLine}
-use Rattle.calltext.specs.declared.call.CallLine.TheVariants as lines
 use Rattle.callorder.specs.declared.calls.Call.{Call}
 use Rattle.callorder.specs.declared.calls.Kind.{Kind}
-use Rattle.callorder.specs.declared.calls.Kind.TheVariants.{Send, Receive}
-use Rattle.callorder.specs.declared.calls.Mode.TheVariants.{Standard}
+use Rattle.callorder.specs.declared.calls.Kind.TheVariants as kinds
+use Rattle.callorder.specs.declared.part.Action.{Action}
+use Rattle.callorder.specs.declared.part.Action.TheVariants.{Send, Receive, MatchedProbe, MatchedReceive, Wait}
+use Rattle.callorder.specs.declared.part.NameKind.TheVariants.{Request, Handle}
 use Rattle.callorder.specs.declared.fault.CallFault.{CallFault}
 use Rattle.callorder.specs.declared.fault.CallFault.TheVariants as faults
 use Rattle.callorder.specs.declared.fault.ResolveFault.{ResolveFault}
 use Rattle.callorder.specs.declared.fault.ResolveFault.TheVariants as resolve
-use Rattle.callorder.specs.Programs.{MpiProgram}
-
--- ---- the expansion
-
--- a communicator that isn't written is number 0
-abbrev pub communicator_of : Option ℕ → ℕ
-communicator_of written = unwrap_or written 0
-
--- what a call line does
-abbrev pub kind_of : CallLine → Kind
-kind_of (lines.Send destination tag communicator) = Send Standard true (record { destination = destination; tag = tag; communicator = communicator_of communicator })
-kind_of (lines.Receive source tag communicator) = Receive true (record { source = source; tag = tag; communicator = communicator_of communicator })
-
--- the call of a line of a rank
-abbrev pub call_of : ℕ → CallLine → Call
-call_of rank line = record { rank = rank; kind = kind_of line }
-
--- the calls of the ranks from this one on, in rank order
-abbrev pub calls_from : ℕ → List (List CallLine) → List Call
-calls_from rank [] = []
-calls_from rank (lines ∷ others) = map (call_of rank) lines ++ calls_from (rank + 1) others
-
-abbrev pub expansion : ProgramText → MpiProgram
-expansion text = record { policy = text.policy; ranks = length text.ranks; calls = calls_from 0 text.ranks }
+use Rattle.callorder.specs.Programs.{MpiProgram, IsProgram}
+use Rattle.callorder.specs.Expansion.{NamedPart, parts_of_text}
+use Rattle.callorder.specs.Names.{uses, previous, is_unknown, is_open, is_left, end_of}
 
 -- ---- the faults of call lines
 
@@ -42,28 +22,42 @@ abbrev pub is_outside : ℕ → Option ℕ → Bool
 is_outside ranks None = false
 is_outside ranks (Some rank) = nat_le ranks rank
 
--- the line names a rank that the program doesn't have
-abbrev pub names_missing_rank : ℕ → CallLine → Bool
-names_missing_rank ranks (lines.Send destination tag communicator) = nat_le ranks destination
-names_missing_rank ranks (lines.Receive source tag communicator) = is_outside ranks source
+-- the call names a rank that the program doesn't have
+abbrev pub names_missing_rank : ℕ → Action → Bool
+names_missing_rank ranks (Send mode blocking message) = nat_le ranks message.destination
+names_missing_rank ranks (Receive blocking pattern) = is_outside ranks pattern.source
+names_missing_rank ranks (MatchedProbe pattern) = is_outside ranks pattern.source
+names_missing_rank ranks (MatchedReceive blocking) = false
+names_missing_rank ranks Wait = false
 
--- The line at an index, from 0, among a rank's lines has this fault, where the lower ranks have `before` calls.
--- Too many calls is a fault of the one line in whose expansion the 257th call stands.
-abbrev pub HasLineFault : ℕ → ℕ → List CallLine → ℕ → CallFault → Type 0
-HasLineFault ranks before lines index faults.PeerRange = (line : CallLine) × (slice_get lines index ≡ Some line) × IsTrue (names_missing_rank ranks line)
-HasLineFault ranks before lines index faults.TooManyCalls = (line : CallLine) × (slice_get lines index ≡ Some line) × (before + index ≤ 256) × (256 < before + index + 1)
+-- The call at a place, from 0, of the expansion has this fault. Too many calls is a fault of the 257th alone.
+abbrev pub has_fault : ℕ → List NamedPart → ℕ → Action → CallFault → Bool
+has_fault ranks parts k action faults.RequestUnknown = is_unknown (uses Request parts) k
+has_fault ranks parts k action faults.RequestOpen = is_open (uses Request parts) k
+has_fault ranks parts k action faults.RequestLeft = is_left (uses Request parts) k
+has_fault ranks parts k action faults.HandleUnknown = is_unknown (uses Handle parts) k
+has_fault ranks parts k action faults.HandleOpen = is_open (uses Handle parts) k
+has_fault ranks parts k action faults.HandleLeft = is_left (uses Handle parts) k
+has_fault ranks parts k action faults.PeerRange = names_missing_rank ranks action
+has_fault ranks parts k action faults.TooManyCalls = nat_eq k 256
 
--- how many calls the ranks below this one have
-abbrev pub calls_below : ProgramText → ℕ → ℕ
-calls_below text rank = length (calls_from 0 (take rank text.ranks))
-
--- the call line at a place, from 1, of a rank, from 0, has this fault
-abbrev pub HasCallFault : ProgramText → ℕ → ℕ → CallFault → Type 0
-HasCallFault text rank place fault =
-    (lines : List CallLine) × (index : ℕ) × (place ≡ index + 1) × (slice_get text.ranks rank ≡ Some lines) × HasLineFault (length text.ranks) (calls_below text rank) lines index fault
+-- The call line at a place, from 1, of a rank, from 0, has this fault: a call that it expands to has it.
+pub record HasCallFault (text : ProgramText) (rank place : ℕ) (fault : CallFault) : Type 0 where
+  pub k : ℕ
+  pub call : NamedPart
+  pub there : slice_get (parts_of_text text) k ≡ Some call
+  pub of_rank : call.part.rank ≡ rank
+  pub of_place : call.part.place ≡ place
+  pub has : IsTrue (has_fault (length text.ranks) (parts_of_text text) k call.part.action fault)
 
 -- the order in which the faults of one line are told
 abbrev pub fault_number : CallFault → ℕ
+fault_number faults.RequestUnknown = 2
+fault_number faults.RequestOpen = 3
+fault_number faults.RequestLeft = 4
+fault_number faults.HandleUnknown = 5
+fault_number faults.HandleOpen = 6
+fault_number faults.HandleLeft = 7
 fault_number faults.PeerRange = 8
 fault_number faults.TooManyCalls = 9
 
@@ -81,6 +75,31 @@ pub record IsFirstCallFault (text : ProgramText) (rank place : ℕ) (fault : Cal
 abbrev pub IsFirstFault : ProgramText → ResolveFault → Type 0
 IsFirstFault text resolve.Memory = Unit {0}
 IsFirstFault text (resolve.At rank place fault) = IsFirstCallFault text rank place fault
+
+-- ---- the program
+
+-- What a call at a place of the expansion does, with the other call that it names: a wait the start of its request, a
+-- matched probe the receive on its handle. Where no line has a fault, there is one.
+abbrev pub kind_of : List NamedPart → ℕ → Action → Kind
+kind_of parts k (Send mode blocking message) = kinds.Send mode blocking message
+kind_of parts k (Receive blocking pattern) = kinds.Receive blocking pattern
+kind_of parts k (MatchedProbe pattern) = kinds.MatchedProbe pattern (unwrap_or (end_of (uses Handle parts) k) 0)
+kind_of parts k (MatchedReceive blocking) = kinds.MatchedReceive blocking
+kind_of parts k Wait = kinds.Wait (unwrap_or (previous (uses Request parts) k) 0)
+
+abbrev pub call_of : List NamedPart → ℕ → NamedPart → Call
+call_of parts k x = record { rank = x.part.rank; kind = kind_of parts k x.part.action }
+
+-- the calls of a list of parts whose first stands at a place of the expansion
+abbrev pub calls_from : List NamedPart → ℕ → List NamedPart → List Call
+calls_from parts k [] = []
+calls_from parts k (x ∷ others) = call_of parts k x ∷ calls_from parts (k + 1) others
+
+abbrev pub calls_of : List NamedPart → List Call
+calls_of parts = calls_from parts 0 parts
+
+abbrev pub expansion : ProgramText → MpiProgram
+expansion text = record { policy = text.policy; ranks = length text.ranks; calls = calls_of (parts_of_text text) }
 
 -- the text has no fault, and the program is its expansion
 pub record IsProgramOf (text : ProgramText) (p : MpiProgram) : Type 0 where
@@ -101,26 +120,9 @@ ProgramHasNoFault = (text : ProgramText) (p : MpiProgram) (fault : ResolveFault)
 abbrev pub OneFirstFault : Type 0
 OneFirstFault = (text : ProgramText) (a b : ResolveFault) → IsFirstFault text a → IsFirstFault text b → (a ≡ resolve.Memory → ⊥) → (b ≡ resolve.Memory → ⊥) → a ≡ b
 
--- ---- the lines of one rank
-
--- the first lines of a rank have no fault
-abbrev pub NoLineFaults : ℕ → ℕ → List CallLine → ℕ → Type 0
-NoLineFaults ranks before lines count = (index : ℕ) (fault : CallFault) → index < count → HasLineFault ranks before lines index fault → ⊥
-
--- the line at this index has the fault; no line before it has one, and it has none with a smaller number
-pub record IsFirstLineFault (ranks before : ℕ) (lines : List CallLine) (index : ℕ) (fault : CallFault) : Type 0 where
-  pub here : HasLineFault ranks before lines index fault
-  pub lines_before : NoLineFaults ranks before lines index
-  pub smallest : (other : CallFault) → HasLineFault ranks before lines index other → fault_number fault ≤ fault_number other
-
--- want of memory, or the first fault of the rank's lines
-abbrev pub IsFirstOfRank : ℕ → ℕ → ℕ → List CallLine → ResolveFault → Type 0
-IsFirstOfRank ranks before rank lines resolve.Memory = Unit {0}
-IsFirstOfRank ranks before rank lines (resolve.At rank' place fault) = (rank' ≡ rank) × (index : ℕ) × (place ≡ index + 1) × IsFirstLineFault ranks before lines index fault
-
--- the ranks below this one have no fault
-abbrev pub NoRankFaults : ProgramText → ℕ → Type 0
-NoRankFaults text count = (rank : ℕ) (lines : List CallLine) → rank < count → slice_get text.ranks rank ≡ Some lines → NoLineFaults (length text.ranks) (calls_below text rank) lines (length lines)
+-- where no call line has a fault, the expansion is a program
+abbrev pub ExpansionIsProgram : Type 0
+ExpansionIsProgram = (text : ProgramText) → 1 ≤ length text.ranks → length text.ranks ≤ 64 → ((rank place : ℕ) (fault : CallFault) → HasCallFault text rank place fault → ⊥) → IsProgram (expansion text)
 
 -- ---- from bytes
 

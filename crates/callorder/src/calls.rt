@@ -3,16 +3,7 @@
 ghost use Rattle.std.specs.Prelude.{◌≡◌};
 ghost use Rattle.callorder.specs.Calls.{message_of, pattern_of, covers, fits};
 
-/// When a send completes (MPI 4.1, section 3.4).
-#[derive(Clone, Copy, Debug, PartialEq, Eq)]
-pub enum Mode {
-    /// When the message is buffered or has been received; MPI chooses.
-    Standard,
-    /// When a matching receive has started to receive the message.
-    Synchronous,
-    /// At once. Buffer space is taken to be ample.
-    Buffered,
-}
+use calltext::Mode;
 
 /// The envelope of a message, but for its source, which is the rank that sends it (MPI 4.1, section 3.2.3).
 #[derive(Clone, Copy, Debug, PartialEq, Eq)]

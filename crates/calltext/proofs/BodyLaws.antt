@@ -87,7 +87,7 @@ SoFar-stop fault total bytes rest number ranks calls line after so next why earl
 no_wrong : (fault : LineFault) (next total : ℕ) (bytes : List ℕ) → text_lines bytes ≡ bytes ∷ [] → IsUnended fault bytes → IsWrong fault next total bytes
 no_wrong wrong.Memory next total bytes one u = absurd u
 no_wrong wrong.NotAscii next total bytes one u = u
-no_wrong wrong.Syntax next total bytes one u = (u, λ c e. no_line_of bytes (call_words c) one e, λ lt e. no_line_of bytes (rank_words next) one e, λ w r. no_line_of bytes (refused_word w ∷ r.1) one (sym r.2))
+no_wrong wrong.Syntax next total bytes one u = (u, λ c names e. no_line_of bytes (call_words c) one e, λ lt e. no_line_of bytes (rank_words next) one e, λ w r. no_line_of bytes (refused_word w ∷ r.1) one (sym r.2))
 no_wrong (wrong.OutOfProfile w) next total bytes one u = absurd u
 no_wrong wrong.Range next total bytes one u = absurd u
 

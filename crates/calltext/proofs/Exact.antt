@@ -1,6 +1,6 @@
 -- A text has one value, bytes have one fault, and never both.
 use Rattle.std.proofs.Common.{◌≡◌, ◌≢◌, ℕ, ◌+◌, ◌<◌, ◌≤◌, List, [], ◌∷◌, ◌++◌, length, get_or, refl, sym, ap, subst, ◌∙◌, append_assoc, arith, inl, inr, ◌⊎◌}
-use Rattle.std.specs.List.{join_with_byte}
+use Rattle.std.specs.List.{AllByRecursion, join_with_byte}
 use Rattle.plaintext.specs.Plain.{line_of, text_lines}
 use Rattle.plaintext.specs.Fronts.{to_end, IsClosedUnderFronts, IsFirstFaultyLine}
 use Rattle.plaintext.proofs.Cuts.{first_part}
@@ -12,36 +12,37 @@ use Rattle.calltext.specs.declared.call.Policy.{Policy}
 use Rattle.calltext.specs.declared.call.Policy.TheVariants as policies
 use Rattle.calltext.specs.declared.fault.ReadFault.{ReadFault}
 use Rattle.calltext.specs.declared.fault.ReadFault.TheVariants as faults
-use Rattle.calltext.specs.Grammar.{ProgramText, call_words, ranks_words, policy_word, policy_words, rank_words, rank_lines, program_lines, Fits, IsText}
+use Rattle.calltext.specs.Grammar.{ProgramText, call_words, ranks_words, policy_word, policy_words, rank_words, rank_lines, program_lines, HasNames, AllHaveNames, Fits, IsText}
 use Rattle.calltext.specs.Fault.{CanGoOn, Why, HasFault}
 use Rattle.calltext.specs.RefusedWords.{refused_word, refused_words}
 use Rattle.calltext.proofs.Places.{refused_word_injective}
 use Rattle.calltext.proofs.RefusedLaws.{plain_refused}
 use Rattle.calltext.proofs.Lines.{plain_policy}
-use Rattle.calltext.proofs.Once.{call_line_injective, text_of_lines}
-use Rattle.calltext.proofs.Blocks.{call_lines, call_no_rank, call_no_end}
+use Rattle.calltext.proofs.Once.{call_line_injective, have_names, text_of_lines}
+use Rattle.calltext.proofs.Blocks.{AllKeep, call_lines}
+use Rattle.calltext.proofs.Verbs.{call_no_rank, call_no_end}
 
 -- ---- lines have one value
 
 calls_injective : (i : ℕ) (cs ds : List CallLine) (us vs : List (List CallLine)) → (rank_lines (i + 1) us ++ [] ∷ [] ≡ rank_lines (i + 1) vs ++ [] ∷ [] → us ≡ vs)
-    → call_lines cs ++ (rank_lines (i + 1) us ++ [] ∷ []) ≡ call_lines ds ++ (rank_lines (i + 1) vs ++ [] ∷ []) → cs ∷ us ≡ ds ∷ vs
-calls_injective i [] [] us vs ih e = ap (λ (r : List (List CallLine)). [] ∷ r) (ih e)
-calls_injective i (c ∷ cs) [] us [] ih e = absurd (call_no_end c (heads _ _ _ _ e).0)
-calls_injective i (c ∷ cs) [] us (b ∷ vs) ih e = absurd (call_no_rank c (i + 1) (heads _ _ _ _ e).0)
-calls_injective i [] (d ∷ ds) [] vs ih e = absurd (call_no_end d (sym (heads _ _ _ _ e).0))
-calls_injective i [] (d ∷ ds) (a ∷ us) vs ih e = absurd (call_no_rank d (i + 1) (sym (heads _ _ _ _ e).0))
-calls_injective i (c ∷ cs) (d ∷ ds) us vs ih e =
+    → AllByRecursion HasNames cs → AllByRecursion HasNames ds → call_lines cs ++ (rank_lines (i + 1) us ++ [] ∷ []) ≡ call_lines ds ++ (rank_lines (i + 1) vs ++ [] ∷ []) → cs ∷ us ≡ ds ∷ vs
+calls_injective i [] [] us vs ih p q e = ap (λ (r : List (List CallLine)). [] ∷ r) (ih e)
+calls_injective i (c ∷ cs) [] us [] ih p q e = absurd (call_no_end c (heads _ _ _ _ e).0)
+calls_injective i (c ∷ cs) [] us (b ∷ vs) ih p q e = absurd (call_no_rank c (i + 1) (heads _ _ _ _ e).0)
+calls_injective i [] (d ∷ ds) [] vs ih p q e = absurd (call_no_end d (sym (heads _ _ _ _ e).0))
+calls_injective i [] (d ∷ ds) (a ∷ us) vs ih p q e = absurd (call_no_rank d (i + 1) (sym (heads _ _ _ _ e).0))
+calls_injective i (c ∷ cs) (d ∷ ds) us vs ih p q e =
     let h = heads (line_of (call_words c)) (line_of (call_words d)) (call_lines cs ++ (rank_lines (i + 1) us ++ [] ∷ [])) (call_lines ds ++ (rank_lines (i + 1) vs ++ [] ∷ [])) e in
-    let one : c ≡ d = call_line_injective c d h.0 in
-    let rest : cs ∷ us ≡ ds ∷ vs = calls_injective i cs ds us vs ih h.1 in
+    let one : c ≡ d = call_line_injective c d p.0 q.0 h.0 in
+    let rest : cs ∷ us ≡ ds ∷ vs = calls_injective i cs ds us vs ih p.1 q.1 h.1 in
     cc
 
-ranks_injective : (i : ℕ) (us vs : List (List CallLine)) → rank_lines i us ++ [] ∷ [] ≡ rank_lines i vs ++ [] ∷ [] → us ≡ vs
-ranks_injective i [] [] e = refl
-ranks_injective i [] (b ∷ vs) e = absurd cc
-ranks_injective i (a ∷ us) [] e = absurd cc
-ranks_injective i (a ∷ us) (b ∷ vs) e =
-    calls_injective i a b us vs (λ f. ranks_injective (i + 1) us vs f)
+ranks_injective : (i : ℕ) (us vs : List (List CallLine)) → AllKeep HasNames us → AllKeep HasNames vs → rank_lines i us ++ [] ∷ [] ≡ rank_lines i vs ++ [] ∷ [] → us ≡ vs
+ranks_injective i [] [] p q e = refl
+ranks_injective i [] (b ∷ vs) p q e = absurd cc
+ranks_injective i (a ∷ us) [] p q e = absurd cc
+ranks_injective i (a ∷ us) (b ∷ vs) p q e =
+    calls_injective i a b us vs (λ f. ranks_injective (i + 1) us vs p.1 q.1 f) p.0 q.0
     (sym (append_assoc (call_lines a) (rank_lines (i + 1) us) ([] ∷ [])) ∙ (heads (line_of (rank_words i)) (line_of (rank_words i)) _ _ e).1 ∙ append_assoc (call_lines b) (rank_lines (i + 1) vs) ([] ∷ []))
 
 policy_key : (p q : Policy) → policy_word p ≡ policy_word q → p ≡ q
@@ -62,18 +63,18 @@ policy_line_injective : (p q : Policy) → line_of (policy_words p) ≡ line_of 
 policy_line_injective p q e = policy_key p q (second_word _ _ (policy_word p) (policy_word q) (line_of_injective (policy_words p) (policy_words q) (omega arith) (omega arith) (plain_policy p) (plain_policy q) e))
 
 pub lines_of_text : (bytes : List ℕ) (p : ProgramText) → IsText bytes p → text_lines bytes ≡ to_end (program_lines p)
-lines_of_text bytes p t = ap text_lines t.text ∙ text_of_lines p
+lines_of_text bytes p t = ap text_lines t.text ∙ text_of_lines p (have_names p t.fits)
 
-pub one_program : (p q : ProgramText) → to_end (program_lines p) ≡ to_end (program_lines q) → p ≡ q
-one_program p q e =
+pub one_program : (p q : ProgramText) → AllHaveNames p → AllHaveNames q → to_end (program_lines p) ≡ to_end (program_lines q) → p ≡ q
+one_program p q names names' e =
     let one = heads (line_of (ranks_words (length p.ranks))) (line_of (ranks_words (length q.ranks))) _ _ e in
     let two = heads (line_of (policy_words p.policy)) (line_of (policy_words q.policy)) _ _ one.1 in
     let policy : p.policy ≡ q.policy = policy_line_injective p.policy q.policy two.0 in
-    let ranks : p.ranks ≡ q.ranks = ranks_injective 0 p.ranks q.ranks two.1 in
+    let ranks : p.ranks ≡ q.ranks = ranks_injective 0 p.ranks q.ranks names names' two.1 in
     λ i. record { policy = policy i; ranks = ranks i }
 
 pub one_value : (bytes : List ℕ) (p q : ProgramText) → IsText bytes p → IsText bytes q → p ≡ q
-one_value bytes p q s t = one_program p q (sym (lines_of_text bytes p s) ∙ lines_of_text bytes q t)
+one_value bytes p q s t = one_program p q (have_names p s.fits) (have_names q t.fits) (sym (lines_of_text bytes p s) ∙ lines_of_text bytes q t)
 
 -- ---- a text has no fault
 

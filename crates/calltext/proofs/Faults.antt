@@ -2,6 +2,7 @@
 use Rattle.std.proofs.Common.{◌≡◌, ◌≢◌, ℕ, zero, suc, ◌+◌, ◌-◌, ◌<◌, ◌≤◌, List, [], ◌∷◌, ◌++◌, length, refl, sym, ap, subst, ◌∙◌, append_assoc, arith, inl, inr}
 use Rattle.std.specs.Prelude.{⊤}
 use Rattle.std.specs.Str.{IsAscii, IsNotAscii}
+use Rattle.std.specs.List.{AllByRecursion}
 use Rattle.std.proofs.lemmas.List.{append-nil, length-append, map_push}
 use Rattle.plaintext.specs.Plain.{line_of, text_lines}
 use Rattle.plaintext.specs.Fronts.{to_end, BeginsWith}
@@ -12,14 +13,15 @@ use Rattle.calltext.specs.declared.call.Policy.{Policy}
 use Rattle.calltext.specs.declared.call.Policy.TheVariants as policies
 use Rattle.calltext.specs.declared.line.LineFault.{LineFault}
 use Rattle.calltext.specs.declared.line.LineFault.TheVariants as wrong
-use Rattle.calltext.specs.Grammar.{ProgramText, call_words, ranks_words, policy_words, rank_words, rank_lines, program_lines, CallFits, Fits, IsText, IsReadable}
+use Rattle.calltext.specs.Grammar.{ProgramText, call_words, ranks_words, policy_words, rank_words, rank_lines, program_lines, HasNames, AllHaveNames, IsInRange, CallFits, Fits, IsText, IsReadable}
 use Rattle.calltext.specs.Fault.{HasShape, CanGoOn, IsOutOfProfile, HasFault}
 use Rattle.calltext.specs.Item.{IsWrong, IsRanksLine, AreRanksWithin, IsPolicyLine, IsFirstRankLine, IsWrongHeading, BeginsWrong}
 use Rattle.calltext.specs.Body.{HasRanks, StopsAt, IsStopped}
 use Rattle.calltext.specs.AtLine.{at_line}
 use Rattle.calltext.proofs.Lines.{plain_ranks, ranks_injective}
-use Rattle.calltext.proofs.Once.{call_line_injective, ascii_in_program}
-use Rattle.calltext.proofs.Blocks.{AllFit, call_lines, Follows, after_ranks, rank_lines-append, call_no_rank, call_no_end}
+use Rattle.calltext.proofs.Once.{call_line_injective, ascii_in_program, have_names, rank_names}
+use Rattle.calltext.proofs.Blocks.{AllFit, AllKeep, call_lines, Follows, after_ranks, rank_lines-append}
+use Rattle.calltext.proofs.Verbs.{call_no_rank, call_no_end}
 
 -- ---- what is wrong with a line after the lines before it
 
@@ -31,13 +33,13 @@ Judged (wrong.OutOfProfile w) before line = IsAscii line × IsOutOfProfile befor
 Judged wrong.Range before line = IsAscii line × HasShape (before ++ line ∷ []) × (CanGoOn (before ++ line ∷ []) → ⊥)
 
 shape_from : (lines : List (List ℕ)) → CanGoOn lines → HasShape lines
-shape_from lines (p, fits, begins) = (p, tt, begins)
+shape_from lines (p, fits, begins) = (p, have_names p fits, begins)
 
 pub judged_fault : (fault : LineFault) (bytes : List ℕ) (before : List (List ℕ)) (line : List ℕ) (after : List (List ℕ)) (k : ℕ) → length bytes ≤ 1048576
     → text_lines bytes ≡ before ++ line ∷ after → k ≡ length before + 1 → CanGoOn before → Judged fault before line → HasFault bytes (at_line fault k)
 judged_fault wrong.Memory bytes before line after k small cut at good j = tt
 judged_fault wrong.NotAscii bytes before line after k small cut at good j =
-    (small, before, line, record { cut = (after, cut); good = good; bad = λ (p, fits, (more, e)). ascii_in_program p before line more e j }, (at, j))
+    (small, before, line, record { cut = (after, cut); good = good; bad = λ (p, fits, (more, e)). ascii_in_program p before line more (have_names p fits) e j }, (at, j))
 judged_fault wrong.Syntax bytes before line after k small cut at good j =
     (small, before, line, record { cut = (after, cut); good = good; bad = λ g. j.2 (shape_from (before ++ line ∷ []) g) }, (at, j.0, j.1, j.2))
 judged_fault (wrong.OutOfProfile w) bytes before line after k small cut at good j =
@@ -56,11 +58,11 @@ unfolding empties
 length-empties zero = refl
 length-empties (suc k) = ap suc (length-empties k)
 
-fit-empties : (done : List (List CallLine)) (k : ℕ) → AllFit done → AllFit (done ++ empties k)
+keep-empties : (P : CallLine → Type 0) (done : List (List CallLine)) (k : ℕ) → AllKeep P done → AllKeep P (done ++ empties k)
 unfolding empties
-fit-empties [] zero fit = tt
-fit-empties [] (suc k) fit = (tt, fit-empties [] k tt)
-fit-empties (d ∷ done) k fit = (fit.0, fit-empties done k fit.1)
+keep-empties P [] zero keep = tt
+keep-empties P [] (suc k) keep = (tt, keep-empties P [] k tt)
+keep-empties P (d ∷ done) k keep = (keep.0, keep-empties P done k keep.1)
 
 pub filled : ℕ → Policy → List (List CallLine) → ProgramText
 filled n policy done = record { policy = policy; ranks = done ++ empties (n - length done) }
@@ -84,8 +86,12 @@ unfolding filled
 filled_fits n policy done low high le fit = record {
   some = omega (arith, length-filled n policy done le);
   ranks = omega (arith, length-filled n policy done le);
-  calls = fit-empties done (n - length done) fit;
+  calls = keep-empties CallFits done (n - length done) fit;
 }
+
+filled_names : (n : ℕ) (policy : Policy) (done : List (List CallLine)) → AllKeep HasNames done → AllHaveNames (filled n policy done)
+unfolding filled
+filled_names n policy done names = keep-empties HasNames done (n - length done) names
 
 pub good_body : (n : ℕ) (policy : Policy) (done : List (List CallLine)) → 1 ≤ n → n ≤ 64 → length done ≤ n → AllFit done → CanGoOn (line_of (ranks_words n) ∷ line_of (policy_words policy) ∷ rank_lines 0 done)
 good_body n policy done low high le fit = (filled n policy done, filled_fits n policy done low high le fit, filled_begins n policy done le)
@@ -118,7 +124,7 @@ first_heading fault bytes small (line, after, cut, w) = judged_fault fault bytes
     judge (wrong.OutOfProfile x) w = absurd w
     judge wrong.Range (ascii, (n, spelled), over) = (
       ascii,
-      (filled n policies.Any [], tt, (line_of (policy_words policies.Any) ∷ (filled_begins n policies.Any [] (omega arith)).0, (filled_begins n policies.Any [] (omega arith)).1 ∙ ap (λ (l : List ℕ). l ∷ line_of (policy_words policies.Any) ∷ (filled_begins n policies.Any [] (omega arith)).0) spelled)),
+      (filled n policies.Any [], filled_names n policies.Any [] tt, (line_of (policy_words policies.Any) ∷ (filled_begins n policies.Any [] (omega arith)).0, (filled_begins n policies.Any [] (omega arith)).1 ∙ ap (λ (l : List ℕ). l ∷ line_of (policy_words policies.Any) ∷ (filled_begins n policies.Any [] (omega arith)).0) spelled)),
       λ (p, fits, (more, e)). over (length p.ranks, fits.some, fits.ranks, begins p more e),
     )
 
@@ -181,6 +187,16 @@ rank_lines-push_call i (d ∷ e ∷ done) c some =
     ap (λ (ls : List (List ℕ)). line_of (rank_words i) ∷ (call_lines d ++ ls)) (rank_lines-push_call (i + 1) (e ∷ done) c (omega arith))
     ∙ ap (λ (ls : List (List ℕ)). line_of (rank_words i) ∷ ls) (sym (append_assoc (call_lines d) (rank_lines (i + 1) (e ∷ done)) (line_of (call_words c) ∷ [])))
 
+calls_push : (P : CallLine → Type 0) (calls : List CallLine) (c : CallLine) → AllByRecursion P calls → P c → AllByRecursion P (calls ++ c ∷ [])
+calls_push P [] c keep h = (h, tt)
+calls_push P (d ∷ calls) c keep h = (keep.0, calls_push P calls c keep.1 h)
+
+names-push_call : (done : List (List CallLine)) (c : CallLine) → AllKeep HasNames done → HasNames c → AllKeep HasNames (push_call done c)
+unfolding push_call
+names-push_call [] c keep h = tt
+names-push_call (d ∷ []) c keep h = (calls_push HasNames d c keep.0 h, tt)
+names-push_call (d ∷ e ∷ done) c keep h = (keep.0, names-push_call (e ∷ done) c keep.1 h)
+
 pub in_ranks : (fault : LineFault) (k : ℕ) (bytes rest rest2 rest3 : List ℕ) (n : ℕ) (policy : Policy) → length bytes ≤ 1048576 → 1 ≤ n → n ≤ 64
     → text_lines bytes ≡ line_of (ranks_words n) ∷ text_lines rest → text_lines rest ≡ line_of (policy_words policy) ∷ text_lines rest2 → text_lines rest2 ≡ line_of (rank_words 0) ∷ text_lines rest3
     → StopsAt fault k n rest3 → HasFault bytes (at_line fault k)
@@ -198,33 +214,34 @@ in_ranks fault k bytes rest rest2 rest3 n policy small low high first second thi
     before : List (List ℕ)
     before = line_of (ranks_words n) ∷ line_of (policy_words policy) ∷ rank_lines 0 done
 
-    follows : (p : ProgramText) (more : List (List ℕ)) → to_end (program_lines p) ≡ (before ++ line ∷ []) ++ more → (length p.ranks ≡ n) × Follows (AllFit p.ranks) (0 + length done) (length done) (length p.ranks) line
-    follows p more e =
+    follows : (P : CallLine → Type 0) (p : ProgramText) (more : List (List ℕ)) → to_end (program_lines p) ≡ (before ++ line ∷ []) ++ more
+        → (length p.ranks ≡ n) × Follows P (AllKeep P p.ranks) (0 + length done) (length done) (length p.ranks) line
+    follows P p more e =
         let one = heads (line_of (ranks_words (length p.ranks))) (line_of (ranks_words n)) _ _ e in
         let two = heads (line_of (policy_words p.policy)) (line_of (policy_words policy)) _ _ one.1 in
-        (ranks_line_injective (length p.ranks) n one.0, after_ranks 0 p.ranks done line more stop.some (two.1 ∙ append_assoc (rank_lines 0 done) (line ∷ []) more))
+        (ranks_line_injective (length p.ranks) n one.0, after_ranks P 0 p.ranks done line more stop.some (two.1 ∙ append_assoc (rank_lines 0 done) (line ∷ []) more))
 
-    nothing : ((c : CallLine) → line_of (call_words c) ≢ line) → (length done < n → line_of (rank_words (length done)) ≢ line) → HasShape (before ++ line ∷ []) → ⊥
-    nothing no_call no_rank (p, _, (more, e)) =
-        let f = follows p more e in
+    nothing : ((c : CallLine) → HasNames c → line_of (call_words c) ≢ line) → (length done < n → line_of (rank_words (length done)) ≢ line) → HasShape (before ++ line ∷ []) → ⊥
+    nothing no_call no_rank (p, names, (more, e)) =
+        let f = follows HasNames p more e in
         elim f.1 [
-          | inl x ↦ no_call x.0 x.1
+          | inl x ↦ no_call x.0 (x.2 names) x.1
           | inr y ↦ elim y [
             | inl x ↦ no_rank (omega (arith, f.0, x.1)) (ap (λ (j : ℕ). line_of (rank_words j)) (omega arith) ∙ x.0)
             | inr x ↦ omega (arith, f.0, x.1, stop.early x.0)
           ]
         ]
 
-    shaped : (c : CallLine) → line_of (call_words c) ≡ line → HasShape (before ++ line ∷ [])
-    shaped c spelled =
+    shaped : (c : CallLine) → HasNames c → line_of (call_words c) ≡ line → HasShape (before ++ line ∷ [])
+    shaped c names spelled =
         let begins = filled_begins n policy (push_call done c) (omega (arith, length-push_call done c, stop.within)) in
-        (filled n policy (push_call done c), tt, (begins.0, begins.1 ∙ ap (λ (ls : List (List ℕ)). line_of (ranks_words n) ∷ line_of (policy_words policy) ∷ (ls ++ begins.0)) (rank_lines-push_call 0 done c stop.some ∙ ap (λ (l : List ℕ). rank_lines 0 done ++ l ∷ []) spelled)))
+        (filled n policy (push_call done c), filled_names n policy (push_call done c) (names-push_call done c (rank_names done stop.fit) names), (begins.0, begins.1 ∙ ap (λ (ls : List (List ℕ)). line_of (ranks_words n) ∷ line_of (policy_words policy) ∷ (ls ++ begins.0)) (rank_lines-push_call 0 done c stop.some ∙ ap (λ (l : List ℕ). rank_lines 0 done ++ l ∷ []) spelled)))
 
-    over : (c : CallLine) → line_of (call_words c) ≡ line → (CallFits c → ⊥) → CanGoOn (before ++ line ∷ []) → ⊥
-    over c spelled unfit (p, fits, (more, e)) =
-        let f = follows p more e in
+    over : (c : CallLine) → HasNames c → line_of (call_words c) ≡ line → (IsInRange c → ⊥) → CanGoOn (before ++ line ∷ []) → ⊥
+    over c names spelled unfit (p, fits, (more, e)) =
+        let f = follows CallFits p more e in
         elim f.1 [
-          | inl x ↦ unfit (subst CallFits (call_line_injective x.0 c (x.1 ∙ sym spelled)) (x.2 fits.calls))
+          | inl x ↦ let fit = x.2 fits.calls in unfit (subst IsInRange (call_line_injective x.0 c fit.0 names (x.1 ∙ sym spelled)) fit.1)
           | inr y ↦ elim y [
             | inl x ↦ call_no_rank c (0 + length done) (spelled ∙ sym x.0)
             | inr x ↦ call_no_end c (spelled ∙ x.0)
@@ -240,7 +257,7 @@ in_ranks fault k bytes rest rest2 rest3 n policy small low high first second thi
         long : (done : List (List CallLine)) → 0 < length done → 3 ≤ length (line_of (ranks_words n) ∷ line_of (policy_words policy) ∷ rank_lines 0 done)
         long [] some = absurd (omega arith)
         long (d ∷ ds) some = omega arith
-    judge wrong.Range w = (w.0, shaped w.1 w.2, over w.1 w.2 w.3)
+    judge wrong.Range w = (w.0, shaped w.1 w.2 w.3, over w.1 w.2 w.3 w.4)
 
 pub stopped : (fault : LineFault) (k : ℕ) (bytes rest rest2 rest3 : List ℕ) (n : ℕ) (policy : Policy) → length bytes ≤ 1048576 → 1 ≤ n → n ≤ 64
     → text_lines bytes ≡ line_of (ranks_words n) ∷ text_lines rest → text_lines rest ≡ line_of (policy_words policy) ∷ text_lines rest2 → text_lines rest2 ≡ line_of (rank_words 0) ∷ text_lines rest3

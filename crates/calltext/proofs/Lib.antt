@@ -1,7 +1,11 @@
+pub mod Conjunctions
 pub mod Places
 pub mod RefusedLaws
+pub mod Letters
+pub mod Verbs
 pub mod Lines
 pub mod Once
+pub mod CallReads
 pub mod Blocks
 pub mod BodyLaws
 pub mod Faults

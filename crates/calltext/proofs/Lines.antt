@@ -1,23 +1,28 @@
 -- The words of each line, and what a line is by its words.
-use Rattle.std.proofs.Common.{◌≡◌, ◌≢◌, ℕ, ◌<◌, List, [], ◌∷◌, ◌++◌, Option, Some, None, length, refl, sym, ap, subst, ◌∙◌, arith}
-use Rattle.std.specs.Prelude.{codes}
+use Rattle.std.proofs.Common.{◌≡◌, ◌≢◌, ℕ, ◌<◌, ◌≤◌, true, List, [], ◌∷◌, ◌++◌, Option, Some, None, length, refl, sym, ap, subst, ◌∙◌, arith}
+use Rattle.std.specs.Prelude.{codes, ◌&&◌, nat_le}
 use Rattle.std.specs.List.{AllByRecursion}
+use Rattle.std.proofs.lemmas.List.{append-nil}
 use Rattle.plaintext.specs.Plain.{numeral, line_of, text_lines, IsPlain}
 use Rattle.plaintext.proofs.Numerals.{IsPlain-numeral, numeral_injective}
 use Rattle.plaintext.proofs.Cuts.{no_line_of, parts, words_are, line_is, first_part}
 use Rattle.plaintext.proofs.Ascii.{plain_by_test}
 use Rattle.plaintext.proofs.Texts.{capped_small}
 use Rattle.calltext.specs.declared.call.CallLine.{CallLine}
-use Rattle.calltext.specs.declared.call.CallLine.TheVariants.{Send, Receive}
+use Rattle.calltext.specs.declared.call.CallLine.TheVariants.{Send, Receive, MatchedProbe, MatchedReceive, Wait, WaitAll, SendReceive}
 use Rattle.calltext.specs.declared.call.Policy.{Policy}
 use Rattle.calltext.specs.declared.call.Policy.TheVariants as policies
-use Rattle.calltext.specs.Grammar.{or_star, communicator_words, call_words, policy_words, ranks_words, rank_words, UpTo, IsCommunicator, CallFits}
+use Rattle.calltext.specs.Grammar.{or_star, communicator_words, call_words, policy_words, ranks_words, rank_words, UpTo, IsCommunicator, HasNames, IsInRange, CallFits}
+use Rattle.calltext.specs.Names.{is_name, is_letter, is_letter_or_digit, are_letters_or_digits}
+use Rattle.calltext.specs.Verbs.{verb_of, operands, request_words, message_words, pattern_words, IsRequest}
 use Rattle.calltext.specs.RefusedWords.{refused_word, refused_words}
 use Rattle.calltext.specs.Capped.{capped_option, capped_call}
 use Rattle.calltext.specs.declared.line.LineFault.{LineFault}
 use Rattle.calltext.specs.declared.line.LineFault.TheVariants as wrong
 use Rattle.calltext.specs.Item.{IsRefused, IsUnended, BeginsWrong}
+use Rattle.calltext.proofs.Conjunctions.{and_true}
 use Rattle.calltext.proofs.RefusedLaws.{plain_refused}
+use Rattle.calltext.proofs.Verbs.{call_words_are, plain_verb}
 
 -- ---- the words are plain
 
@@ -29,9 +34,41 @@ plain_comm : (n : Option ℕ) → AllByRecursion IsPlain (communicator_words n)
 plain_comm None = tt
 plain_comm (Some n) = (plain_by_test (codes "comm") refl, (IsPlain-numeral n, tt))
 
-pub plain_call : (c : CallLine) → AllByRecursion IsPlain (call_words c)
-plain_call (Send d t k) = (plain_by_test (codes "send") refl, (IsPlain-numeral d, (IsPlain-numeral t, plain_comm k)))
-plain_call (Receive s t k) = (plain_by_test (codes "recv") refl, (plain_star s, (plain_star t, plain_comm k)))
+plain_letter : (c : ℕ) → is_letter_or_digit c ≡ true → (33 ≤ c) × (c < 128)
+plain_letter c e = grind (arith, e)
+
+plain_letters : (letters : List ℕ) → are_letters_or_digits letters ≡ true → IsPlain letters
+plain_letters [] e = tt
+plain_letters (c ∷ letters) e =
+    let both = and_true (is_letter_or_digit c) (are_letters_or_digits letters) e in
+    (plain_letter c both.0, plain_letters letters both.1)
+
+plain_name : (name : List ℕ) → is_name name ≡ true → IsPlain name
+plain_name [] e = absurd cc
+plain_name (c ∷ others) e =
+    let short = and_true (is_letter c && are_letters_or_digits others) (nat_le (length others) 15) e in
+    let letters = and_true (is_letter c) (are_letters_or_digits others) short.0 in
+    (plain_letter c (grind (arith, letters.0)), plain_letters others letters.1)
+
+plain_names : (names : List (List ℕ)) → AllByRecursion (λ name. is_name name ≡ true) names → AllByRecursion IsPlain names
+plain_names [] h = tt
+plain_names (name ∷ names) h = (plain_name name h.0, plain_names names h.1)
+
+plain_request : (request : Option (List ℕ)) (others : List (List ℕ)) → IsRequest request → AllByRecursion IsPlain others → AllByRecursion IsPlain (request_words request ++ others)
+plain_request None others h plain = plain
+plain_request (Some r) others h plain = (plain_name r h, plain)
+
+plain_operands : (c : CallLine) → HasNames c → AllByRecursion IsPlain (operands c)
+plain_operands (Send m r d t k) names = plain_request r (message_words d t k) names (IsPlain-numeral d, (IsPlain-numeral t, plain_comm k))
+plain_operands (Receive r s t k) names = plain_request r (pattern_words s t k) names (plain_star s, (plain_star t, plain_comm k))
+plain_operands (MatchedProbe h s t k) names = (plain_name h names, (plain_star s, (plain_star t, plain_comm k)))
+plain_operands (MatchedReceive r h) names = subst (AllByRecursion IsPlain) (sym (append-nil (request_words r ++ h ∷ []))) (plain_request r (h ∷ []) names.0 (plain_name h names.1, tt))
+plain_operands (Wait r) names = (plain_name r names, tt)
+plain_operands (WaitAll rs) names = subst (AllByRecursion IsPlain) (sym (append-nil rs)) (plain_names rs names.1)
+plain_operands (SendReceive d t s u k) names = (IsPlain-numeral d, (IsPlain-numeral t, (plain_star s, (plain_star u, plain_comm k))))
+
+pub plain_call : (c : CallLine) → HasNames c → AllByRecursion IsPlain (call_words c)
+plain_call c names = subst (AllByRecursion IsPlain) (sym (call_words_are c)) (plain_verb (verb_of c), plain_operands c names)
 
 pub plain_rank : (r : ℕ) → AllByRecursion IsPlain (rank_words r)
 plain_rank r = (plain_by_test (codes "rank") refl, (IsPlain-numeral r, tt))
@@ -45,13 +82,12 @@ plain_policy policies.Never = (plain_by_test (codes "policy") refl, (plain_by_te
 plain_policy policies.Always = (plain_by_test (codes "policy") refl, (plain_by_test (codes "all") refl, tt))
 
 pub some_words : (c : CallLine) → 0 < length (call_words c)
-some_words (Send d t k) = omega arith
-some_words (Receive s t k) = omega arith
+some_words c = omega (arith, ap length (call_words_are c))
 
 -- ---- a line that is no such line
 
-pub no_call_line : (line : List ℕ) → ((c : CallLine) → call_words c ≢ parts line) → (c : CallLine) → line_of (call_words c) ≢ line ++ 10 ∷ []
-no_call_line line none c e = none c (words_are (call_words c) line (some_words c) (plain_call c) e)
+pub no_call_line : (line : List ℕ) → ((c : CallLine) → HasNames c → call_words c ≢ parts line) → (c : CallLine) → HasNames c → line_of (call_words c) ≢ line ++ 10 ∷ []
+no_call_line line none c names e = none c names (words_are (call_words c) line (some_words c) (plain_call c names) e)
 
 pub rank_line_words : (r : ℕ) (line : List ℕ) → line_of (rank_words r) ≡ line ++ 10 ∷ [] → rank_words r ≡ parts line
 rank_line_words r line e = words_are (rank_words r) line (omega arith) (plain_rank r) e
@@ -71,17 +107,32 @@ comm_capped : (n : Option ℕ) → IsCommunicator (capped_option n) → capped_o
 comm_capped None fits = refl
 comm_capped (Some n) fits = ap (λ (x : ℕ). Some x) (capped_small n 255 (omega arith) fits.1)
 
-pub capped_same : (c : CallLine) → CallFits (capped_call c) → capped_call c ≡ c
-capped_same (Send d t k) fits =
+pub capped_same : (c : CallLine) → IsInRange (capped_call c) → capped_call c ≡ c
+capped_same (Send m r d t k) fits =
     let a = capped_small d 63 (omega arith) fits.0 in
     let b = capped_small t 32767 (omega arith) fits.1 in
-    let d = comm_capped k fits.2 in
-    rw (a, b, d) refl
-capped_same (Receive s t k) fits =
+    let e = comm_capped k fits.2 in
+    rw (a, b, e) refl
+capped_same (Receive r s t k) fits =
     let a = upto_capped 63 s (omega arith) fits.0 in
     let b = upto_capped 32767 t (omega arith) fits.1 in
-    let d = comm_capped k fits.2 in
-    rw (a, b, d) refl
+    let e = comm_capped k fits.2 in
+    rw (a, b, e) refl
+capped_same (MatchedProbe h s t k) fits =
+    let a = upto_capped 63 s (omega arith) fits.0 in
+    let b = upto_capped 32767 t (omega arith) fits.1 in
+    let e = comm_capped k fits.2 in
+    rw (a, b, e) refl
+capped_same (MatchedReceive r h) fits = refl
+capped_same (Wait r) fits = refl
+capped_same (WaitAll rs) fits = refl
+capped_same (SendReceive d t s u k) fits =
+    let a = capped_small d 63 (omega arith) fits.0 in
+    let b = capped_small t 32767 (omega arith) fits.1 in
+    let x = upto_capped 63 s (omega arith) fits.2 in
+    let y = upto_capped 32767 u (omega arith) fits.3 in
+    let e = comm_capped k fits.4 in
+    rw (a, b, x, y, e) refl
 
 upto_fits : (most : ℕ) (n : Option ℕ) → UpTo most n → UpTo most (capped_option n)
 upto_fits most None fits = tt
@@ -91,20 +142,27 @@ comm_fits : (n : Option ℕ) → IsCommunicator n → IsCommunicator (capped_opt
 comm_fits None fits = tt
 comm_fits (Some n) fits = (omega arith, omega arith)
 
-pub capped_fits : (c : CallLine) → CallFits c → CallFits (capped_call c)
-capped_fits (Send d t k) fits = (omega arith, omega arith, comm_fits k fits.2)
-capped_fits (Receive s t k) fits = (upto_fits 63 s fits.0, upto_fits 32767 t fits.1, comm_fits k fits.2)
+capped_fits : (c : CallLine) → IsInRange c → IsInRange (capped_call c)
+capped_fits (Send m r d t k) fits = (omega (arith, fits.0), omega (arith, fits.1), comm_fits k fits.2)
+capped_fits (Receive r s t k) fits = (upto_fits 63 s fits.0, upto_fits 32767 t fits.1, comm_fits k fits.2)
+capped_fits (MatchedProbe h s t k) fits = (upto_fits 63 s fits.0, upto_fits 32767 t fits.1, comm_fits k fits.2)
+capped_fits (MatchedReceive r h) fits = tt
+capped_fits (Wait r) fits = tt
+capped_fits (WaitAll rs) fits = tt
+capped_fits (SendReceive d t s u k) fits = (omega (arith, fits.0), omega (arith, fits.1), upto_fits 63 s fits.2, upto_fits 32767 u fits.3, comm_fits k fits.4)
 
 -- ---- what a line is, by its words
 
-pub item_call : (line : List ℕ) (words : List (List ℕ)) (found : CallLine) → words ≡ parts line → (c : CallLine) × (call_words c ≡ words) × (found ≡ capped_call c) → CallFits found → CallFits found × (line_of (call_words found) ≡ line ++ 10 ∷ [])
-item_call line words found seen (c, spelled, capped) fits =
-    let same : found ≡ c = capped ∙ capped_same c (subst CallFits capped fits) in
-    (fits, line_is (call_words found) line (ap call_words same ∙ spelled ∙ seen))
+pub item_call : (line : List ℕ) (words : List (List ℕ)) (found : CallLine) → words ≡ parts line → (c : CallLine) × HasNames c × (call_words c ≡ words) × (found ≡ capped_call c) → IsInRange found
+    → CallFits found × (line_of (call_words found) ≡ line ++ 10 ∷ [])
+item_call line words found seen (c, names, spelled, capped) fits =
+    let same : found ≡ c = capped ∙ capped_same c (subst IsInRange capped fits) in
+    ((subst HasNames (sym same) names, fits), line_is (call_words found) line (ap call_words same ∙ spelled ∙ seen))
 
-pub item_range : (line : List ℕ) (words : List (List ℕ)) (found : CallLine) → words ≡ parts line → (c : CallLine) × (call_words c ≡ words) × (found ≡ capped_call c) → (CallFits found → ⊥) → (c : CallLine) × (line_of (call_words c) ≡ line ++ 10 ∷ []) × (CallFits c → ⊥)
-item_range line words found seen (c, spelled, capped) over =
-    (c, line_is (call_words c) line (spelled ∙ seen), λ fits. over (subst CallFits (sym capped) (capped_fits c fits)))
+pub item_range : (line : List ℕ) (words : List (List ℕ)) (found : CallLine) → words ≡ parts line → (c : CallLine) × HasNames c × (call_words c ≡ words) × (found ≡ capped_call c) → (IsInRange found → ⊥)
+    → (c : CallLine) × HasNames c × (line_of (call_words c) ≡ line ++ 10 ∷ []) × (IsInRange c → ⊥)
+item_range line words found seen (c, names, spelled, capped) over =
+    (c, names, line_is (call_words c) line (spelled ∙ seen), λ fits. over (subst IsInRange (sym capped) (capped_fits c fits)))
 
 -- ---- headings
 

@@ -1,6 +1,6 @@
 -- The printer's pieces make the text.
 use Rattle.std.proofs.Common.{◌≡◌, ℕ, ◌+◌, List, [], ◌∷◌, ◌++◌, length, refl, sym, ap, ◌∙◌, ◌<◌, get_or, take, append_assoc, arith, add-zero}
-use Rattle.std.specs.List.{flat_map}
+use Rattle.std.specs.List.{flat_map, join_with_byte}
 use Rattle.std.proofs.lemmas.Grind.{flat_map-append}
 use Rattle.std.proofs.lemmas.List.Concat.{flat_map-cons}
 use Rattle.std.proofs.lemmas.List.{append-nil, take_more, map_push, length-map, length-take}
@@ -9,8 +9,35 @@ use Rattle.plaintext.specs.Plain.{line_of}
 use Rattle.calltext.specs.declared.call.CallLine.{CallLine}
 use Rattle.calltext.specs.Body.{views}
 use Rattle.calltext.specs.Grammar.{ProgramText, call_words, rank_words, ranks_words, policy_words, rank_lines, text_of}
-use Rattle.calltext.specs.Printed.{rank_text, ranks_text, heads}
+use Rattle.calltext.specs.Printed.{spaced, rank_text, ranks_text, heads}
+use Rattle.calltext.specs.Verbs.{verb_of, verb_word, name_words, number_words, operands}
+use Rattle.calltext.proofs.Verbs.{call_words_are}
 use Rattle.calltext.proofs.Blocks.{call_lines}
+
+pub spaced-append : (xs ys : List (List ℕ)) → spaced (xs ++ ys) ≡ spaced xs ++ spaced ys
+spaced-append [] ys = refl
+spaced-append (x ∷ xs) ys = ap (λ (t : List ℕ). 32 ∷ (x ++ t)) (spaced-append xs ys) ∙ ap (λ (t : List ℕ). 32 ∷ t) (sym (append_assoc x (spaced xs) (spaced ys)))
+
+spaced-join : (word : List ℕ) (others : List (List ℕ)) → join_with_byte 32 (word ∷ others) ≡ word ++ spaced others
+spaced-join word [] = sym (append-nil word)
+spaced-join word (v ∷ others) = ap (λ (t : List ℕ). word ++ 32 ∷ t) (spaced-join v others)
+
+-- one more word
+pub spaced_more : (base out out' : List ℕ) (words : List (List ℕ)) (i : ℕ) (word : List ℕ) → i < length words → word ≡ get_or words i word
+    → out ≡ base ++ spaced (take i words) → out' ≡ out ++ spaced (word ∷ []) → out' ≡ base ++ spaced (take (i + 1) words)
+spaced_more base out out' words i word lt is so wrote =
+    wrote ∙ ap (λ (t : List ℕ). t ++ spaced (word ∷ [])) so ∙ append_assoc base (spaced (take i words)) (spaced (word ∷ []))
+    ∙ ap (λ (t : List ℕ). base ++ t) (sym (spaced-append (take i words) (word ∷ [])) ∙ ap (λ (w : List ℕ). spaced (take i words ++ w ∷ [])) is ∙ ap spaced (sym (take_more words i word lt)))
+
+-- a line is its verb, its operands with a space before each, and an LF
+pub call_line : (out : List ℕ) (c : CallLine) → (((out ++ verb_word (verb_of c)) ++ spaced (name_words c)) ++ spaced (number_words c)) ++ 10 ∷ [] ≡ out ++ line_of (call_words c)
+call_line out c =
+    let word : List ℕ = verb_word (verb_of c) in
+    let rest : List ℕ = spaced (operands c) in
+    ap (λ (t : List ℕ). t ++ 10 ∷ []) (append_assoc (out ++ word) (spaced (name_words c)) (spaced (number_words c)) ∙ ap (λ (t : List ℕ). (out ++ word) ++ t) (sym (spaced-append (name_words c) (number_words c))))
+    ∙ append_assoc (out ++ word) rest (10 ∷ []) ∙ append_assoc out word (rest ++ 10 ∷ []) ∙ ap (λ (t : List ℕ). out ++ t) (sym (append_assoc word rest (10 ∷ [])))
+    ∙ ap (λ (t : List ℕ). out ++ (t ++ 10 ∷ [])) (sym (spaced-join word (operands c)))
+    ∙ ap (λ (ws : List (List ℕ)). out ++ line_of ws) (sym (call_words_are c))
 
 pub ranks_text-push : (r : ℕ) (ranks : List (List CallLine)) (calls : List CallLine) → ranks_text r (ranks ++ calls ∷ []) ≡ ranks_text r ranks ++ rank_text (r + length ranks) calls
 ranks_text-push r [] calls = append-nil (rank_text r calls) ∙ ap (λ (k : ℕ). rank_text k calls) (sym (add-zero r))

@@ -1,19 +1,15 @@
 -- The list of refused words: its words are plain, and the table of the code holds them.
-use Rattle.std.proofs.Common.{◌≡◌, ℕ, ◌<◌, Bool, true, false, List, [], ◌∷◌, length, refl}
+use Rattle.std.proofs.Common.{◌≡◌, ℕ, ◌<◌, Bool, true, List, [], ◌∷◌, length, refl}
 use Rattle.std.specs.Prelude.{nat_le, nat_lt, ◌&&◌}
 use Rattle.std.specs.List.{AllByRecursion, list_all}
 use Rattle.std.proofs.lemmas.List.Elements.{All-from_recursion, All-contains, Contains-get_or}
 use Rattle.plaintext.specs.Plain.{IsPlain}
 use Rattle.plaintext.proofs.Ascii.{plain_by_test}
 use Rattle.calltext.specs.RefusedWords.{refused_words, refused_word}
+use Rattle.calltext.proofs.Conjunctions.{and_true}
 
 plain_test : List ℕ → Bool
 plain_test word = list_all (λ b. nat_le 33 b && nat_lt b 128) word
-
-and_true : (a b : Bool) → (a && b) ≡ true → (a ≡ true) × (b ≡ true)
-and_true true true e = (refl, refl)
-and_true true false e = absurd cc
-and_true false b e = absurd cc
 
 all_plain : (words : List (List ℕ)) → list_all plain_test words ≡ true → AllByRecursion IsPlain words
 unfolding plain_test

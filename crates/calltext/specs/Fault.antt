@@ -4,14 +4,14 @@ use Rattle.std.specs.Prelude.{◌≡◌, ◌≢◌, ℕ, ◌+◌, ◌<◌, ◌�
 use Rattle.std.specs.Str.{IsAscii, IsNotAscii}
 use Rattle.plaintext.specs.Plain.{line_of}
 use Rattle.plaintext.specs.Fronts.{CanBegin, IsFirstFaultyLine}
-use Rattle.calltext.specs.Grammar.{ProgramText, Fits, IsText, program_lines}
+use Rattle.calltext.specs.Grammar.{ProgramText, AllHaveNames, Fits, IsText, program_lines}
 use Rattle.calltext.specs.RefusedWords.{refused_word, refused_words}
 use Rattle.calltext.specs.declared.fault.ReadFault.{ReadFault}
 use Rattle.calltext.specs.declared.fault.ReadFault.TheVariants as faults
 
--- The lines have a shape if some program with numbers of any size begins so.
+-- The lines have a shape if some program begins so whose names are names and whose numbers are of any size.
 abbrev pub HasShape : List (List ℕ) → Type 0
-HasShape = CanBegin ProgramText (λ p. ⊤) program_lines
+HasShape = CanBegin ProgramText AllHaveNames program_lines
 
 -- The lines can go on if some program within the limits begins so.
 abbrev pub CanGoOn : List (List ℕ) → Type 0

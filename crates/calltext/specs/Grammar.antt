@@ -1,12 +1,15 @@
 -- The text of a program. It is defined by its printer: a value has one text. Numbers may be of any size here, and the limits
 -- stand apart, so that a number out of range is told apart from a line of the wrong shape.
-use Rattle.std.specs.Prelude.{codes, ◌≡◌, ℕ, ◌+◌, ◌≤◌, List, [], ◌∷◌, ◌++◌, length, map, Option, Some, None, IfSome}
+use Rattle.std.specs.Prelude.{codes, ◌≡◌, ℕ, ◌+◌, ◌≤◌, List, [], ◌∷◌, ◌++◌, length, map, Option, Some, None, IfSome, IsTrue, ⊤}
 use Rattle.std.specs.List.{AllByRecursion, flat_map}
 use Rattle.plaintext.specs.Plain.{numeral, line_of}
 use Rattle.calltext.specs.declared.call.CallLine.{CallLine}
-use Rattle.calltext.specs.declared.call.CallLine.TheVariants.{Send, Receive}
+use Rattle.calltext.specs.declared.call.CallLine.TheVariants.{Send, Receive, MatchedProbe, MatchedReceive, Wait, WaitAll, SendReceive}
+use Rattle.calltext.specs.declared.call.Mode.{Mode}
+use Rattle.calltext.specs.declared.call.Mode.TheVariants.{Standard, Synchronous, Buffered}
 use Rattle.calltext.specs.declared.call.Policy.{Policy}
 use Rattle.calltext.specs.declared.call.Policy.TheVariants as policies
+use Rattle.calltext.specs.Names.{is_name, AreNames}
 
 -- What a program's text says: the policy for standard sends, and the call lines of each rank, from rank 0 on.
 pub record ProgramText : Type 0 where
@@ -25,10 +28,29 @@ abbrev pub communicator_words : Option ℕ → List (List ℕ)
 communicator_words None = []
 communicator_words (Some n) = codes "comm" ∷ numeral n ∷ []
 
--- A send names its destination and tag, a receive its source and tag, and each may name a communicator.
+-- A nonblocking call's word has an `i` before the blocking call's, and its request's name follows.
+abbrev pub started : Option (List ℕ) → List ℕ → List (List ℕ) → List (List ℕ)
+started None word others = word ∷ others
+started (Some request) word others = (105 ∷ word) ∷ request ∷ others
+
+-- The word of a blocking send.
+abbrev pub send_word : Mode → List ℕ
+send_word Standard = codes "send"
+send_word Synchronous = codes "ssend"
+send_word Buffered = codes "bsend"
+
+-- A send names its destination and tag; a receive and a matched probe name a source and a tag; each of them may name a
+-- communicator. The receive on a matched probe's handle names the handle, a wait its request. A joined send and receive names
+-- its destination and send tag, then its source and receive tag.
 abbrev pub call_words : CallLine → List (List ℕ)
-call_words (Send destination tag communicator) = codes "send" ∷ numeral destination ∷ numeral tag ∷ communicator_words communicator
-call_words (Receive source tag communicator) = codes "recv" ∷ or_star source ∷ or_star tag ∷ communicator_words communicator
+call_words (Send mode request destination tag communicator) = started request (send_word mode) (numeral destination ∷ numeral tag ∷ communicator_words communicator)
+call_words (Receive request source tag communicator) = started request (codes "recv") (or_star source ∷ or_star tag ∷ communicator_words communicator)
+call_words (MatchedProbe handle source tag communicator) = codes "mprobe" ∷ handle ∷ or_star source ∷ or_star tag ∷ communicator_words communicator
+call_words (MatchedReceive request handle) = started request (codes "mrecv") (handle ∷ [])
+call_words (Wait request) = codes "wait" ∷ request ∷ []
+call_words (WaitAll requests) = codes "waitall" ∷ requests
+call_words (SendReceive destination send_tag source receive_tag communicator) =
+    codes "sendrecv" ∷ numeral destination ∷ numeral send_tag ∷ or_star source ∷ or_star receive_tag ∷ communicator_words communicator
 
 -- The word of a policy: any standard send may be buffered, none is, or all are.
 abbrev pub policy_word : Policy → List ℕ
@@ -73,10 +95,34 @@ UpTo most n = IfSome n (λ x. x ≤ most)
 abbrev pub IsCommunicator : Option ℕ → Type 0
 IsCommunicator n = IfSome n (λ c. (1 ≤ c) × (c ≤ 255))
 
+-- Names are names; numbers may be of any size.
+abbrev pub HasNames : CallLine → Type 0
+HasNames (Send mode request destination tag communicator) = IfSome request (λ name. IsTrue (is_name name))
+HasNames (Receive request source tag communicator) = IfSome request (λ name. IsTrue (is_name name))
+HasNames (MatchedProbe handle source tag communicator) = IsTrue (is_name handle)
+HasNames (MatchedReceive request handle) = IfSome request (λ name. IsTrue (is_name name)) × IsTrue (is_name handle)
+HasNames (Wait request) = IsTrue (is_name request)
+HasNames (WaitAll requests) = AreNames requests
+HasNames (SendReceive destination send_tag source receive_tag communicator) = ⊤
+
 -- Peers are at most 63 and tags at most 32,767.
+abbrev pub IsInRange : CallLine → Type 0
+IsInRange (Send mode request destination tag communicator) = (destination ≤ 63) × (tag ≤ 32767) × IsCommunicator communicator
+IsInRange (Receive request source tag communicator) = UpTo 63 source × UpTo 32767 tag × IsCommunicator communicator
+IsInRange (MatchedProbe handle source tag communicator) = UpTo 63 source × UpTo 32767 tag × IsCommunicator communicator
+IsInRange (MatchedReceive request handle) = ⊤
+IsInRange (Wait request) = ⊤
+IsInRange (WaitAll requests) = ⊤
+IsInRange (SendReceive destination send_tag source receive_tag communicator) =
+    (destination ≤ 63) × (send_tag ≤ 32767) × UpTo 63 source × UpTo 32767 receive_tag × IsCommunicator communicator
+
+-- Names are names, and numbers are within the limits.
 abbrev pub CallFits : CallLine → Type 0
-CallFits (Send destination tag communicator) = (destination ≤ 63) × (tag ≤ 32767) × IsCommunicator communicator
-CallFits (Receive source tag communicator) = UpTo 63 source × UpTo 32767 tag × IsCommunicator communicator
+CallFits call = HasNames call × IsInRange call
+
+-- Each call's names are names; this is what a program's text with numbers of any size keeps.
+abbrev pub AllHaveNames : ProgramText → Type 0
+AllHaveNames p = AllByRecursion (AllByRecursion HasNames) p.ranks
 
 -- A program is within the limits if it has 1 to 64 ranks and each call's numbers are in range.
 pub record Fits (p : ProgramText) : Type 0 where

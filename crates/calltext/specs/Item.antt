@@ -2,7 +2,7 @@
 use Rattle.std.specs.Prelude.{◌≡◌, ◌≢◌, ℕ, ◌<◌, ◌≤◌, List, ◌∷◌, length, ⊤}
 use Rattle.std.specs.Str.{IsAscii, IsNotAscii}
 use Rattle.plaintext.specs.Plain.{line_of, text_lines}
-use Rattle.calltext.specs.Grammar.{CallFits, call_words, rank_words, ranks_words, policy_words}
+use Rattle.calltext.specs.Grammar.{CallFits, HasNames, IsInRange, call_words, rank_words, ranks_words, policy_words}
 use Rattle.calltext.specs.RefusedWords.{refused_word, refused_words}
 use Rattle.calltext.specs.declared.call.CallLine.{CallLine}
 use Rattle.calltext.specs.declared.call.Policy.{Policy}
@@ -26,9 +26,9 @@ IsRefused place line = (place < length refused_words) × (others : List (List �
 abbrev pub IsWrong : LineFault → ℕ → ℕ → List ℕ → Type 0
 IsWrong wrong.Memory next total line = ⊤
 IsWrong wrong.NotAscii next total line = IsNotAscii line
-IsWrong wrong.Syntax next total line = IsAscii line × ((c : CallLine) → line_of (call_words c) ≢ line) × (next < total → line_of (rank_words next) ≢ line) × ((place : ℕ) → IsRefused place line → ⊥)
-IsWrong (wrong.OutOfProfile place) next total line = IsAscii line × ((c : CallLine) → line_of (call_words c) ≢ line) × (next < total → line_of (rank_words next) ≢ line) × IsRefused place line
-IsWrong wrong.Range next total line = IsAscii line × (c : CallLine) × (line_of (call_words c) ≡ line) × (CallFits c → ⊥)
+IsWrong wrong.Syntax next total line = IsAscii line × ((c : CallLine) → HasNames c → line_of (call_words c) ≢ line) × (next < total → line_of (rank_words next) ≢ line) × ((place : ℕ) → IsRefused place line → ⊥)
+IsWrong (wrong.OutOfProfile place) next total line = IsAscii line × ((c : CallLine) → HasNames c → line_of (call_words c) ≢ line) × (next < total → line_of (rank_words next) ≢ line) × IsRefused place line
+IsWrong wrong.Range next total line = IsAscii line × (c : CallLine) × HasNames c × (line_of (call_words c) ≡ line) × (IsInRange c → ⊥)
 
 -- ---- the three lines that a text begins with
 

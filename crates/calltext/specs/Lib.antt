@@ -1,7 +1,9 @@
 pub mod RefusedWords
+pub mod Names
 pub mod Grammar
 pub mod Fault
 pub mod Capped
+pub mod Verbs
 pub mod Item
 pub mod Body
 pub mod AtLine

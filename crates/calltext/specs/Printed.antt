@@ -1,15 +1,15 @@
 -- Parts of a text, as they are printed one after another.
-use Rattle.std.specs.Prelude.{codes, ℕ, ◌+◌, List, [], ◌∷◌, ◌++◌, Option, Some, None}
+use Rattle.std.specs.Prelude.{ℕ, ◌+◌, List, [], ◌∷◌, ◌++◌}
 use Rattle.std.specs.List.{flat_map}
-use Rattle.plaintext.specs.Plain.{numeral, line_of}
+use Rattle.plaintext.specs.Plain.{line_of}
 use Rattle.calltext.specs.Grammar.{call_words, rank_words, ranks_words, policy_words}
 use Rattle.calltext.specs.declared.call.CallLine.{CallLine}
 use Rattle.calltext.specs.declared.call.Policy.{Policy}
 
--- What follows the tag of a call line.
-abbrev pub line_end : Option ℕ → List ℕ
-line_end None = 10 ∷ []
-line_end (Some n) = codes " comm " ++ numeral n ++ 10 ∷ []
+-- The words, with a space before each.
+abbrev pub spaced : List (List ℕ) → List ℕ
+spaced [] = []
+spaced (word ∷ others) = 32 ∷ (word ++ spaced others)
 
 -- A rank's heading and its call lines.
 abbrev pub rank_text : ℕ → List CallLine → List ℕ

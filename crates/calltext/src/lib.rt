@@ -6,19 +6,23 @@
 
 mod body;
 mod call;
+mod calls;
 mod fault;
 mod heading;
 mod laws;
 mod line;
+mod name;
 mod printer;
 mod reader;
 mod refused;
 mod source;
+mod verb;
 mod words;
 
-pub use call::{CallLine, Policy};
+pub use call::{CallLine, Mode, Policy};
 pub use fault::ReadFault;
 pub use laws::{one_fault, one_value, text_has_no_fault};
+pub use name::{Name, Names};
 pub use printer::print;
 pub use reader::read;
 pub use refused::RefusedWord;

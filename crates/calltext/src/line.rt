@@ -1,19 +1,20 @@
 //! What one line is, in its place.
 
 ghost use Rattle.std.specs.Prelude.{◌↔◌, ◌≡◌, ◌≤◌, ◌++◌, ◌∷◌, [], ◌<◌, ◌≢◌, ℕ, List, map, length, IsTrue, IfOk, IfErr, IfNone, IfSome};
-ghost use Rattle.calltext.specs.Grammar.{CallFits, IsCommunicator, UpTo, rank_words};
+ghost use Rattle.calltext.specs.Grammar.{IsInRange, IsCommunicator, UpTo, rank_words};
 ghost use Rattle.calltext.specs.RefusedWords.{refused_word, refused_words};
 ghost use Rattle.calltext.specs.Item.{IsItem, IsWrong};
 ghost use Rattle.calltext.specs.declared.line.LineFault.TheVariants.{Memory};
 
 use crate::call::CallLine;
+use crate::calls::call_of;
 use crate::refused::RefusedWord;
-use crate::words::{call_of, is_rank};
+use crate::words::is_rank;
 use plaintext::words_of;
 use std::alloc::{AllocError, Global};
 
 /// What a line is, once the first rank has begun.
-#[derive(Clone, Copy, Debug)]
+#[derive(Debug, Drop)]
 pub enum Item {
     Call(CallLine),
     Rank,
@@ -55,21 +56,48 @@ fn is_at_most(most: u32, number: Option<u32>) -> bool
     }
 }
 
+/// Whether a source, a tag and a communicator are within the limits.
+fn pattern_is_in_range(source: Option<u32>, tag: Option<u32>, communicator: Option<u32>) -> bool
+    ensures { IsTrue result ↔ (UpTo 63 source × UpTo 32767 tag × IsCommunicator communicator) }
+{
+    is_at_most(63, source) && is_at_most(32767, tag) && is_communicator(communicator)
+}
+
 /// Whether the call's numbers are within the limits.
-fn call_fits(call: CallLine) -> bool
-    ensures { IsTrue result ↔ CallFits call }
+fn is_in_range(call: &CallLine) -> bool
+    ensures { IsTrue result ↔ IsInRange call.now }
 {
     match call {
         CallLine::Send {
             destination,
             tag,
             communicator,
-        } => destination <= 63 && tag <= 32767 && is_communicator(communicator),
+            ..
+        } => *destination <= 63 && *tag <= 32767 && is_communicator(*communicator),
         CallLine::Receive {
             source,
             tag,
             communicator,
-        } => is_at_most(63, source) && is_at_most(32767, tag) && is_communicator(communicator),
+            ..
+        }
+        | CallLine::MatchedProbe {
+            source,
+            tag,
+            communicator,
+            ..
+        } => pattern_is_in_range(*source, *tag, *communicator),
+        CallLine::MatchedReceive { .. } | CallLine::Wait { .. } | CallLine::WaitAll { .. } => true,
+        CallLine::SendReceive {
+            destination,
+            send_tag,
+            source,
+            receive_tag,
+            communicator,
+        } => {
+            *destination <= 63
+                && *send_tag <= 32767
+                && pattern_is_in_range(*source, *receive_tag, *communicator)
+        }
     }
 }
 
@@ -104,8 +132,9 @@ pub fn item_of(alloc: Global, line: &[u8], next: u32, total: u32) -> Result<Item
         return Err(LineFault::NotAscii);
     }
     let words = words_of(alloc, line)?;
-    if let Some(call) = call_of(&words) {
-        if call_fits(call) {
+    let found = call_of(alloc, &words)?;
+    if let Some(call) = found {
+        if is_in_range(&call) {
             return Ok(Item::Call(call));
         }
         return Err(LineFault::Range);

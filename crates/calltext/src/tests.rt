@@ -53,7 +53,7 @@ fn bodies(rt: HostRuntime) -> Result<(), Fail> {
         ("ranks 2\npolicy any\nrank 0\nrank 0\n", "line 4 syntax"),
         ("ranks 1\npolicy any\nrank 0\nsend * 1\n", "line 4 syntax"),
         ("ranks 1\npolicy any\nrank 0\nsend 0  1\n", "line 4 syntax"),
-        ("ranks 1\npolicy any\nrank 0\nssend 0 1\n", "line 4 syntax"),
+        ("ranks 1\npolicy any\nrank 0\nscend 0 1\n", "line 4 syntax"),
         (
             "ranks 1\npolicy any\nrank 0\nsend 0 1 comm 00\n",
             "line 4 syntax",
@@ -135,31 +135,205 @@ fn refused_words(rt: HostRuntime) -> Result<(), Fail> {
     Ok(())
 }
 
+/// The name's letters; `-` where there is none.
+fn told_name(rt: &HostRuntime, name: Option<&Name>) -> Result<String, AllocError> {
+    let letters: &[u8] = match name {
+        Some(name) => name.letters(),
+        None => b"-",
+    };
+    let mut told = String::new(rt.alloc());
+    for letter in letters {
+        told.push(*letter as char)?;
+    }
+    Ok(told)
+}
+
+/// The parts of a call line's value.
+fn told_call(rt: &HostRuntime, call: &CallLine) -> Result<String, AllocError> {
+    let alloc = rt.alloc();
+    match call {
+        CallLine::Send {
+            mode,
+            request,
+            destination,
+            tag,
+            communicator,
+        } => {
+            let request = told_name(rt, request.as_ref())?;
+            format!(in alloc; "{mode:?} {request} {destination} {tag} {communicator:?}")
+        }
+        CallLine::Receive {
+            request,
+            source,
+            tag,
+            communicator,
+        } => {
+            let request = told_name(rt, request.as_ref())?;
+            format!(in alloc; "Receive {request} {source:?} {tag:?} {communicator:?}")
+        }
+        CallLine::MatchedProbe {
+            handle,
+            source,
+            tag,
+            communicator,
+        } => {
+            let handle = told_name(rt, Some(handle))?;
+            format!(in alloc; "MatchedProbe {handle} {source:?} {tag:?} {communicator:?}")
+        }
+        CallLine::MatchedReceive { request, handle } => {
+            let request = told_name(rt, request.as_ref())?;
+            let handle = told_name(rt, Some(handle))?;
+            format!(in alloc; "MatchedReceive {request} {handle}")
+        }
+        CallLine::Wait { request } => {
+            let request = told_name(rt, Some(request))?;
+            format!(in alloc; "Wait {request}")
+        }
+        CallLine::WaitAll { requests } => {
+            let mut told = format!(in alloc; "WaitAll")?;
+            for request in requests.as_slice() {
+                told.push_str(" ")?;
+                told.push_str(told_name(rt, Some(request))?.as_str())?;
+            }
+            Ok(told)
+        }
+        CallLine::SendReceive {
+            destination,
+            send_tag,
+            source,
+            receive_tag,
+            communicator,
+        } => {
+            format!(in alloc;
+                "SendReceive {destination} {send_tag} {source:?} {receive_tag:?} {communicator:?}"
+            )
+        }
+    }
+}
+
 #[test]
 fn values(rt: HostRuntime) -> Result<(), Fail> {
-    let text = b"ranks 2\npolicy none\nrank 0\nsend 1 7\nrank 1\nrecv * 7 comm 3\n";
-    match read(rt.alloc(), text) {
+    let mut text = format!(in rt.alloc(); "ranks 2\npolicy none\nrank 0\nrank 1\n")?;
+    let lines = [
+        ("send 1 7", "Standard - 1 7 None"),
+        ("ssend 1 7 comm 3", "Synchronous - 1 7 Some(3)"),
+        ("bsend 63 32767", "Buffered - 63 32767 None"),
+        ("isend q 1 7", "Standard q 1 7 None"),
+        ("issend q2 1 7 comm 255", "Synchronous q2 1 7 Some(255)"),
+        ("ibsend comm 1 7", "Buffered comm 1 7 None"),
+        ("recv * 7 comm 3", "Receive - None Some(7) Some(3)"),
+        ("recv 0 *", "Receive - Some(0) None None"),
+        ("irecv r 2 3", "Receive r Some(2) Some(3) None"),
+        ("mprobe h * *", "MatchedProbe h None None None"),
+        (
+            "mprobe h 4 5 comm 6",
+            "MatchedProbe h Some(4) Some(5) Some(6)",
+        ),
+        ("mrecv h", "MatchedReceive - h"),
+        ("imrecv q h", "MatchedReceive q h"),
+        ("wait comm", "Wait comm"),
+        ("waitall q", "WaitAll q"),
+        ("waitall a b2 a", "WaitAll a b2 a"),
+        (
+            "sendrecv 0 1 * * comm 3",
+            "SendReceive 0 1 None None Some(3)",
+        ),
+        ("sendrecv 0 1 2 3", "SendReceive 0 1 Some(2) Some(3) None"),
+    ];
+    for (line, _want) in lines {
+        text.push_str(line)?;
+        text.push_str("\n")?;
+    }
+    assert_eq!(rt; told(&rt, text.as_bytes())?.as_str(), "text");
+    match read(rt.alloc(), text.as_bytes()) {
         Ok(source) => {
             assert_eq!(rt; source.policy(), Policy::Never);
             let ranks = source.ranks();
             assert_eq!(rt; ranks.len(), 2);
-            let send = CallLine::Send {
-                destination: 1,
-                tag: 7,
-                communicator: None,
-            };
-            let receive = CallLine::Receive {
-                source: None,
-                tag: Some(7),
-                communicator: Some(3),
-            };
-            for (rank, call) in [(0, send), (1, receive)] {
-                if rank < ranks.len() {
-                    assert_eq!(rt; source.lines(rank).first(), Some(&call));
+            if ranks.len() == 2 {
+                assert_eq!(rt; source.lines(0).len(), 0);
+                assert_eq!(rt; source.lines(1).len(), lines.len());
+                for ((_line, want), call) in lines.iter().zip(source.lines(1)) {
+                    assert_eq!(rt; told_call(&rt, call)?.as_str(), *want);
                 }
             }
         }
         Err(fault) => assert_eq!(rt; fault, ReadFault::Memory),
+    }
+    Ok(())
+}
+
+#[test]
+fn call_words(rt: HostRuntime) -> Result<(), Fail> {
+    for (line, want) in [
+        ("wait a", "text"),
+        ("wait abcdefghijklmno0", "text"),
+        ("wait abcdefghijklmnopq", "line 4 syntax"),
+        ("wait 0a", "line 4 syntax"),
+        ("wait A", "line 4 syntax"),
+        ("wait aB", "line 4 syntax"),
+        ("wait a_b", "line 4 syntax"),
+        ("wait", "line 4 syntax"),
+        ("wait a b", "line 4 syntax"),
+        ("wait a comm 1", "line 4 syntax"),
+        ("waitall", "line 4 syntax"),
+        ("waitall a 1", "line 4 syntax"),
+        ("mrecv h comm 1", "line 4 syntax"),
+        ("mrecv", "line 4 syntax"),
+        ("imrecv q", "line 4 syntax"),
+        ("isend 1 1", "line 4 syntax"),
+        ("isend comm 1 1", "text"),
+        ("ssend 0", "line 4 syntax"),
+        ("irecv q * 1 comm", "line 4 syntax"),
+        ("mprobe * *", "line 4 syntax"),
+        ("improbe h * *", "line 4 out of profile improbe"),
+        ("sendrecv * 1 1 1", "line 4 syntax"),
+        ("sendrecv 0 1 2", "line 4 syntax"),
+        ("isendrecv 0 1 2 3", "line 4 out of profile isendrecv"),
+        ("iwait q", "line 4 syntax"),
+        ("iirecv q 0 0", "line 4 syntax"),
+        ("SEND 0 0", "line 4 syntax"),
+        ("bsend 64 0", "line 4 range"),
+        ("issend q 0 32768", "line 4 range"),
+        ("irecv q 64 *", "line 4 range"),
+        ("mprobe h * 32768", "line 4 range"),
+        ("mprobe h * * comm 0", "line 4 range"),
+        ("sendrecv 64 0 0 0", "line 4 range"),
+        ("sendrecv 0 32768 0 0", "line 4 range"),
+        ("sendrecv 0 0 64 0", "line 4 range"),
+        ("sendrecv 0 0 0 32768", "line 4 range"),
+        ("sendrecv 0 0 * * comm 256", "line 4 range"),
+    ] {
+        let text = format!(in rt.alloc(); "ranks 1\npolicy any\nrank 0\n{line}\n")?;
+        assert_eq!(rt; told(&rt, text.as_bytes())?.as_str(), want, "{line}");
+    }
+    Ok(())
+}
+
+/// Each of these programs, with a `/` for each LF, is printed as it was read.
+#[test]
+fn programs(rt: HostRuntime) -> Result<(), Fail> {
+    for program in [
+        "ranks 2/policy any/rank 0/send 1 1/recv 1 1/rank 1/send 0 1/recv 0 1/",
+        "ranks 2/policy all/rank 0/send 1 1/recv 1 1/rank 1/send 0 1/recv 0 1/",
+        "ranks 2/policy any/rank 0/isend q 1 1/recv 1 1/wait q/rank 1/isend q 0 1/recv 0 1/wait q/",
+        "ranks 3/policy any/rank 0/send 1 1/rank 1/recv * 1/recv 0 1/rank 2/send 1 1/",
+        "ranks 3/policy none/rank 0/send 1 1/send 2 1/rank 1/send 2 1/recv 0 1/rank 2/recv * 1/recv 0 1/",
+        "ranks 2/policy any/rank 0/send 1 1/send 1 2/rank 1/recv 0 */recv 0 2/",
+        "ranks 2/policy any/rank 0/isend a 1 1/isend b 1 2/wait a/wait b/rank 1/recv 0 2/recv 0 1/",
+        "ranks 2/policy any/rank 0/ssend 1 5/recv 1 6/rank 1/mprobe h 0 5/send 0 6/mrecv h/",
+        "ranks 1/policy any/rank 0/send 0 1/recv 0 1/",
+        "ranks 1/policy any/rank 0/",
+        "ranks 1/policy any/rank 0/recv 0 1/",
+        "ranks 1/policy any/rank 0/bsend 0 1/",
+        "ranks 2/policy none/rank 0/sendrecv 1 1 1 1/rank 1/sendrecv 0 1 0 1/",
+    ] {
+        let mut text = String::new(rt.alloc());
+        for line in program.trim_end_matches('/').split('/') {
+            text.push_str(line)?;
+            text.push_str("\n")?;
+        }
+        assert_eq!(rt; told(&rt, text.as_bytes())?.as_str(), "text", "{program}");
     }
     Ok(())
 }

@@ -1,13 +1,13 @@
-//! The words of each kind of line.
+//! The words of the headings, and the numbers of call lines.
 
 ghost use Rattle.std.specs.Prelude.{◌≡◌, ◌≢◌, ◌↔◌, ◌≤◌, ℕ, List, Option, IsTrue, IfNone, IfSome, map, min};
 ghost use Rattle.plaintext.specs.Plain.{numeral};
-ghost use Rattle.calltext.specs.declared.call.CallLine.{CallLine};
 ghost use Rattle.calltext.specs.declared.call.Policy.{Policy};
-ghost use Rattle.calltext.specs.Grammar.{call_words, policy_words, ranks_words, rank_words, or_star, communicator_words};
-ghost use Rattle.calltext.specs.Capped.{capped_call, capped_option};
+ghost use Rattle.calltext.specs.Grammar.{policy_words, ranks_words, rank_words, or_star, communicator_words};
+ghost use Rattle.calltext.specs.Verbs.{message_words, pattern_words};
+ghost use Rattle.calltext.specs.Capped.{capped_option};
 
-use crate::call::{CallLine, Policy};
+use crate::call::Policy;
 use plaintext::{is_word, number_of};
 
 /// The number of ranks, where the words are the first line's. Numbers are read up to 2,147,483,648
@@ -78,33 +78,54 @@ fn communicator_of(words: &[&[u8]]) -> Option<Option<u32>>
     }
 }
 
-/// The call line, where the words are one's.
-pub fn call_of(words: &[&[u8]]) -> Option<CallLine>
-    ensures none { IfNone result ((c : CallLine) → call_words c ≢ map (λ w. w.now) words.now) }
-    ensures some { IfSome result (λ found. (c : CallLine) × (call_words c ≡ map (λ w. w.now) words.now) × (found ≡ capped_call c)) }
+/// What a send names after its request.
+#[derive(Clone, Copy, Debug)]
+pub struct Message {
+    pub destination: u32,
+    pub tag: u32,
+    pub communicator: Option<u32>,
+}
+
+/// What a receive or a matched probe names last.
+#[derive(Clone, Copy, Debug)]
+pub struct Pattern {
+    pub source: Option<u32>,
+    pub tag: Option<u32>,
+    pub communicator: Option<u32>,
+}
+
+/// A destination, a tag and perhaps a communicator.
+pub fn message_of(words: &[&[u8]]) -> Option<Message>
+    ensures none { IfNone result ((d t : ℕ) (k : Option ℕ) → message_words d t k ≢ map (λ w. w.now) words.now) }
+    ensures some { IfSome result (λ found. (d : ℕ) × (t : ℕ) × (k : Option ℕ) × (message_words d t k ≡ map (λ w. w.now) words.now) × (found.destination ≡ min d 2147483648) × (found.tag ≡ min t 2147483648) × (found.communicator ≡ capped_option k)) }
 {
-    let [kind, first, second, others @ ..] = words else {
+    let [destination, tag, others @ ..] = words else {
         return None;
     };
-    if is_word(kind, "send") {
-        let destination = number_of(first)?;
-        let tag = number_of(second)?;
-        let communicator = communicator_of(others)?;
-        return Some(CallLine::Send {
-            destination,
-            tag,
-            communicator,
-        });
-    }
-    if is_word(kind, "recv") {
-        let source = number_or_star(first)?;
-        let tag = number_or_star(second)?;
-        let communicator = communicator_of(others)?;
-        return Some(CallLine::Receive {
-            source,
-            tag,
-            communicator,
-        });
-    }
-    None
+    let destination = number_of(destination)?;
+    let tag = number_of(tag)?;
+    let communicator = communicator_of(others)?;
+    Some(Message {
+        destination,
+        tag,
+        communicator,
+    })
+}
+
+/// A source and a tag, or a star in the place of each, and perhaps a communicator.
+pub fn pattern_of(words: &[&[u8]]) -> Option<Pattern>
+    ensures none { IfNone result ((s t k : Option ℕ) → pattern_words s t k ≢ map (λ w. w.now) words.now) }
+    ensures some { IfSome result (λ found. (s : Option ℕ) × (t : Option ℕ) × (k : Option ℕ) × (pattern_words s t k ≡ map (λ w. w.now) words.now) × (found.source ≡ capped_option s) × (found.tag ≡ capped_option t) × (found.communicator ≡ capped_option k)) }
+{
+    let [source, tag, others @ ..] = words else {
+        return None;
+    };
+    let source = number_or_star(source)?;
+    let tag = number_or_star(tag)?;
+    let communicator = communicator_of(others)?;
+    Some(Pattern {
+        source,
+        tag,
+        communicator,
+    })
 }

@@ -1,8 +1,10 @@
 //! The rows stand in tables, a row a line, with ` | ` between its columns. In their texts `/` stands
 //! for the end of a line.
+mod calls;
 mod faults;
 mod limits;
 mod machine;
+mod names;
 mod troubles;
 mod usage;
 
@@ -47,4 +49,28 @@ fn assert_answer(
     assert!(rt; ended.err.is_empty(), "{words}: {line}");
     assert_eq!(rt; ended.writers, 0, "{words}: {line}");
     Ok(())
+}
+
+/// Asserts that each command refuses the program with this line, whatever the evidence.
+fn assert_refused(rt: &impl Abort, alloc: Global, text: &str, line: &str) -> Result<(), Fail> {
+    let program = lines(alloc, text)?;
+    let scene = Scene::of(&program, "");
+    assert_answer(rt, alloc, "prove program", scene, "3", line)?;
+    assert_answer(rt, alloc, "check program evidence", scene, "3", line)?;
+    assert_answer(rt, alloc, "replay program evidence", scene, "3", line)
+}
+
+/// Asserts what the words answer to the program and a row of a schedule, a status and a line.
+fn assert_row(
+    rt: &impl Abort,
+    alloc: Global,
+    words: &str,
+    program: &str,
+    row: &str,
+) -> Result<(), Fail> {
+    let (steps, row) = column(row)?;
+    let (status, line) = column(row)?;
+    let evidence = schedule(alloc, steps)?;
+    let scene = Scene::of(program, &evidence);
+    assert_answer(rt, alloc, words, scene, status, line)
 }

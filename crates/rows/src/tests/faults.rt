@@ -1,18 +1,9 @@
 //! Texts that are refused.
-use super::{assert_answer, column, lines, schedule};
+use super::{assert_answer, assert_refused, column, lines, schedule};
 use crate::run::Scene;
 use std::alloc::Global;
 use std::process::Abort;
 use std::test::Fail;
-
-/// Asserts that each command refuses the program with this line, whatever the evidence.
-fn assert_refused(rt: &impl Abort, alloc: Global, text: &str, line: &str) -> Result<(), Fail> {
-    let program = lines(alloc, text)?;
-    let scene = Scene::of(&program, "");
-    assert_answer(rt, alloc, "prove program", scene, "3", line)?;
-    assert_answer(rt, alloc, "check program evidence", scene, "3", line)?;
-    assert_answer(rt, alloc, "replay program evidence", scene, "3", line)
-}
 
 /// Program texts that are refused.
 const PROGRAMS: &str = "\

@@ -4,9 +4,9 @@ use crate::run::Scene;
 use std::alloc::{AllocError, Global};
 use std::test::Fail;
 
-/// A program of so many ranks, the first of which has this call line and the others none.
-fn program_of(alloc: Global, ranks: u32, call: &str) -> Result<String, AllocError> {
-    let mut text = format!(in alloc; "ranks {ranks}/policy none/rank 0/{call}/")?;
+/// A program of so many ranks, the first of which has these call lines and the others none.
+fn program_of(alloc: Global, ranks: u32, calls: &str) -> Result<String, AllocError> {
+    let mut text = format!(in alloc; "ranks {ranks}/policy none/rank 0/{calls}/")?;
     for rank in 1..ranks {
         let heading = format!(in alloc; "rank {rank}/")?;
         text.push_str(&heading)?;
@@ -14,7 +14,7 @@ fn program_of(alloc: Global, ranks: u32, call: &str) -> Result<String, AllocErro
     lines(alloc, &text)
 }
 
-/// A number of ranks and the first one's call, with the status and the line of `prove`.
+/// A number of ranks and the first one's calls, with the status and the line of `prove`.
 const NUMBERS: &str = "\
 64 | recv 63 1 | 1 | deadlock
 64 | send 63 1 | 1 | deadlock
@@ -30,16 +30,35 @@ const NUMBERS: &str = "\
 1 | recv 0 * comm 256 | 3 | refused line 4 range
 1 | recv 0 * comm 0 | 3 | refused line 4 range
 1 | send 0 0 comm 1 | 1 | deadlock
-1 | send 0 99999999999999999999999999 | 3 | refused line 4 range";
+1 | send 0 99999999999999999999999999 | 3 | refused line 4 range
+64 | issend q 63 1/wait q | 1 | deadlock
+64 | ibsend q 64 1/wait q | 3 | refused line 4 range
+1 | isend q 0 32768/wait q | 3 | refused line 4 range
+64 | irecv q 63 1/wait q | 1 | deadlock
+64 | irecv q 64 1/wait q | 3 | refused line 4 range
+64 | mprobe h 63 1/mrecv h | 1 | deadlock
+64 | mprobe h 64 1/mrecv h | 3 | refused line 4 range
+1 | mprobe h * 32767/mrecv h | 1 | deadlock
+1 | mprobe h * 32768/mrecv h | 3 | refused line 4 range
+1 | mprobe h * * comm 0/mrecv h | 3 | refused line 4 range
+64 | sendrecv 63 1 63 1 | 1 | deadlock
+64 | sendrecv 64 1 63 1 | 3 | refused line 4 range
+64 | sendrecv 63 1 64 1 | 3 | refused line 4 range
+63 | sendrecv 0 1 63 1 | 3 | refused rank 0 place 1 peer range
+1 | sendrecv 0 32767 0 32767 comm 255 | 2 | unknown budget
+1 | sendrecv 0 32768 0 1 | 3 | refused line 4 range
+1 | sendrecv 0 1 0 32768 | 3 | refused line 4 range
+1 | sendrecv 0 1 0 1 comm 256 | 3 | refused line 4 range
+1 | sendrecv 0 1 0 99999999999999999999999999 | 3 | refused line 4 range";
 
 #[test]
 fn keeps_limits_of_numbers(rt: HostRuntime) -> Result<(), Fail> {
     let alloc = rt.alloc();
     for row in NUMBERS.lines() {
         let (ranks, row) = column(row)?;
-        let (call, row) = column(row)?;
+        let (calls, row) = column(row)?;
         let (status, line) = column(row)?;
-        let program = program_of(alloc, ranks.parse::<u32>()?, call)?;
+        let program = program_of(alloc, ranks.parse::<u32>()?, calls)?;
         assert_answer(
             &rt,
             alloc,

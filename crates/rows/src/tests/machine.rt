@@ -1,5 +1,5 @@
 //! What the search, the checker and the replay answer to small programs.
-use super::{assert_answer, column, lines, schedule};
+use super::{assert_answer, assert_row, column, lines, schedule};
 use crate::run::{Scene, run};
 use std::alloc::{AllocError, Global};
 use std::process::Abort;
@@ -26,6 +26,10 @@ const ITSELF: &str = "ranks 1/policy any/rank 0/send 0 1/recv 0 1/";
 /// A receive that no message ever fits.
 const RECEIVE: &str = "ranks 1/policy any/rank 0/recv 0 1/";
 
+/// A rank waits for a synchronous send whose message is found and answered before it is received.
+const WAITING: &str = "ranks 2/policy any/rank 0/issend q 1 5/wait q/recv 1 6/\
+    rank 1/mprobe h * */send 0 6/imrecv r h/wait r/";
+
 /// A rank without calls.
 const IDLE: &str = "ranks 1/policy any/rank 0/";
 
@@ -41,6 +45,7 @@ fn program(alloc: Global, policy_and_name: &str) -> Result<String, Fail> {
         "overtaking" => OVERTAKING,
         "itself" => ITSELF,
         "receive" => RECEIVE,
+        "waiting" => WAITING,
         "idle" => IDLE,
         _ => return Err(Fail::new("a row names no program")),
     };
@@ -84,18 +89,8 @@ some receive | issue 0/ | 3 | refused line 2 syntax";
 fn assert_rows(rt: &impl Abort, alloc: Global, words: &str, rows: &str) -> Result<(), Fail> {
     for row in rows.lines() {
         let (name, row) = column(row)?;
-        let (steps, row) = column(row)?;
-        let (status, line) = column(row)?;
         let program = program(alloc, name)?;
-        let evidence = schedule(alloc, steps)?;
-        assert_answer(
-            rt,
-            alloc,
-            words,
-            Scene::of(&program, &evidence),
-            status,
-            line,
-        )?;
+        assert_row(rt, alloc, words, &program, row)?;
     }
     Ok(())
 }
@@ -117,7 +112,9 @@ none exchange | issue 0/issue 1/
 any wildcard | issue 0/issue 1/issue 2/match 1 2/issue 1/
 all three | issue 0 buffered/issue 0 buffered/issue 1 buffered/issue 1/issue 2/match 1 4/match 2 5/issue 2/
 any itself | issue 0/
-all receive | issue 0/";
+all receive | issue 0/
+any waiting | issue 0/issue 0/issue 1/match 1 4/issue 1/
+none waiting | issue 0/issue 0/issue 1/match 1 4/issue 1/";
 
 /// Asserts that these words find this schedule and write it to the file `out`, and that the checker
 /// accepts it.
@@ -162,6 +159,7 @@ none three
 any three
 any overtaking
 all itself
+all waiting
 any idle";
 
 #[test]

@@ -1,25 +1,26 @@
 use Rattle.std.proofs.Common.{◌≡◌, ◌≢◌, ◌<◌, ℕ, true, List, length, map, ◌∷◌, rules, ap, sym, ◌∙◌}
 use Rattle.std.specs.Str.{IsAscii}
 use Rattle.plaintext.proofs.Cuts.{parts, line_is}
-use Rattle.calltext.specs.Grammar.{call_words, rank_words, CallFits}
+use Rattle.calltext.specs.Grammar.{call_words, rank_words, HasNames, IsInRange}
 use Rattle.calltext.specs.RefusedWords.{refused_word, refused_words}
 use Rattle.calltext.specs.declared.call.CallLine.{CallLine}
 use Rattle.plaintext.proofs.Ascii.{ascii_line}
 use Rattle.calltext.proofs.Lines.{no_call_line, rank_line_words, no_refused_line, item_call, item_range}
+use Rattle.calltext.proofs.CallReads.{some_of, none_of}
 use Rattle.calltext.proofs.line.item_of.Goals as goal
 
-pub returns-then-call_fits-clause-ok : goal.returns-then-call_fits-clause-ok
-returns-then-call_fits-clause-ok c =
+pub returns-then-is_in_range-clause-ok : goal.returns-then-is_in_range-clause-ok
+returns-then-is_in_range-clause-ok c =
     let seen : map (λ w. w.now) c.deref.result.now ≡ parts c.args.line.now = ap (map (λ w. w.now)) c.deref.ensures.value ∙ c.in_ok-words.ensures in
-    item_call c.args.line.now _ c.in-Some.call seen c.in-Some.ensures.some (c.call_fits.ensures.0 c.if-call_fits.true)
+    item_call c.args.line.now _ c.in-Some.call seen (some_of _ _ _ c.in-Some.is c.in_ok-found.ensures.some) (c.is_in_range.ensures.0 c.if-is_in_range.true)
 
 pub returns-in-Some-clause-err : goal.returns-in-Some-clause-err
 returns-in-Some-clause-err c =
     let seen : map (λ w. w.now) c.deref.result.now ≡ parts c.args.line.now = ap (map (λ w. w.now)) c.deref.ensures.value ∙ c.in_ok-words.ensures in
     let ascii : IsAscii c.args.line.now = search rules in
-    let no : CallFits c.in-Some.call → ⊥ = λ fits. absurd (let t : c.call_fits.result ≡ true = c.call_fits.ensures.1 fits in let f = c.if-call_fits.false in cc) in
-    let x = item_range c.args.line.now _ c.in-Some.call seen c.in-Some.ensures.some no in
-    (ascii_line c.args.line.now ascii, x.0, x.1, x.2)
+    let no : IsInRange c.in-Some.call → ⊥ = λ fits. absurd (let t : c.is_in_range.result ≡ true = c.is_in_range.ensures.1 fits in let f = c.if-is_in_range.false in cc) in
+    let x = item_range c.args.line.now _ c.in-Some.call seen (some_of _ _ _ c.in-Some.is c.in_ok-found.ensures.some) no in
+    (ascii_line c.args.line.now ascii, x.0, x.1, x.2, x.3)
 
 pub returns-then-rank_follows-clause-ok : goal.returns-then-rank_follows-clause-ok
 returns-then-rank_follows-clause-ok c =
@@ -34,7 +35,7 @@ returns-in-Some-refused_in-clause-err c =
     let seen2 : map (λ w. w.now) c.deref-2.result.now ≡ parts line = ap (map (λ w. w.now)) c.deref-2.ensures.value ∙ c.in_ok-words.ensures in
     let seen3 : map (λ w. w.now) c.deref-3.result.now ≡ parts line = ap (map (λ w. w.now)) c.deref-3.ensures.value ∙ c.in_ok-words.ensures in
     let ascii : IsAscii line = search rules in
-    let no_call : (x : CallLine) → call_words x ≢ parts line = λ x e. c.in_default.ensures.none x (e ∙ sym seen) in
+    let no_call : (x : CallLine) → HasNames x → call_words x ≢ parts line = λ x names e. none_of _ _ c.in_default.is c.in_ok-found.ensures.none x names (e ∙ sym seen) in
     let found = c.in-Some-refused_in.ensures.some in (
       ascii_line line ascii,
       no_call_line line no_call,
@@ -49,7 +50,7 @@ returns-clause-err c =
     let seen2 : map (λ w. w.now) c.deref-2.result.now ≡ parts line = ap (map (λ w. w.now)) c.deref-2.ensures.value ∙ c.in_ok-words.ensures in
     let seen3 : map (λ w. w.now) c.deref-3.result.now ≡ parts line = ap (map (λ w. w.now)) c.deref-3.ensures.value ∙ c.in_ok-words.ensures in
     let ascii : IsAscii line = search rules in
-    let no_call : (x : CallLine) → call_words x ≢ parts line = λ x e. c.in_default.ensures.none x (e ∙ sym seen) in
+    let no_call : (x : CallLine) → HasNames x → call_words x ≢ parts line = λ x names e. none_of _ _ c.in_default.is c.in_ok-found.ensures.none x names (e ∙ sym seen) in
     let no_word : (w : ℕ) (others : List (List ℕ)) → w < length refused_words → refused_word w ∷ others ≢ parts line = λ w others lt e. c.in_default-refused_in.ensures.none w others lt (e ∙ sym seen3) in (
       ascii_line line ascii,
       no_call_line line no_call,

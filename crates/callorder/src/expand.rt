@@ -1,0 +1,343 @@
+//! The expansion of call lines.
+
+ghost use Rattle.std.specs.Prelude.{◌≡◌, ◌<◌, ◌≤◌, ◌∷◌, [], Some, IfOk, OnOk, length, map};
+ghost use Rattle.callorder.specs.Expansion.{name_in, names_in, message, pattern, parts_of, parts_of_lines, parts_of_text, send_part, receive_part, starting, wait_for, joined};
+ghost use Rattle.callorder.specs.Tables.{Expands, Adds, letters_of};
+
+use crate::calls::{Message, Pattern};
+use crate::part::{Action, Part};
+use calltext::{CallLine, Mode, Name, Source};
+use std::alloc::{AllocError, Global};
+
+/// The names of the two requests of a `sendrecv`; no text can name them, since no name has a space.
+const SEND_PART: &[u8] = b"send part";
+
+const RECEIVE_PART: &[u8] = b"receive part";
+
+/// The calls that the lines of a text expand to, and, place by place, the name of the request that each starts or waits
+/// for and of the handle that it makes or receives on. A name begins with its rank's number, since names belong to
+/// one rank.
+#[derive(Debug, Drop)]
+pub struct Expansion {
+    pub parts: Vec<Part>,
+    pub requests: Vec<Option<Vec<u8>>>,
+    pub handles: Vec<Option<Vec<u8>>>,
+}
+
+/// A name of a rank.
+fn name_in(alloc: Global, rank: u32, name: &[u8]) -> Result<Vec<u8>, AllocError>
+    requires { rank < 64 }
+    ensures { IfOk result (λ key. key.items ≡ name_in rank name.now) }
+{
+    let mut key = Vec::new(alloc);
+    key.push(rank as u8)?;
+    key.extend_from_slice(name)?;
+    Ok(key)
+}
+
+fn names_in(alloc: Global, rank: u32, name: &Option<Name>) -> Result<Option<Vec<u8>>, AllocError>
+    requires { rank < 64 }
+    ensures { IfOk result (λ key. letters_of key ≡ names_in rank name.now) }
+{
+    match name {
+        None => Ok(None),
+        Some(name) => Ok(Some(name_in(alloc, rank, name.letters())?)),
+    }
+}
+
+fn message(destination: u32, tag: u32, communicator: Option<u32>) -> Message
+    ensures { result ≡ message destination tag communicator }
+{
+    let communicator = communicator.unwrap_or(0);
+    Message {
+        destination,
+        tag,
+        communicator,
+    }
+}
+
+fn pattern(source: Option<u32>, tag: Option<u32>, communicator: Option<u32>) -> Pattern
+    ensures { result ≡ pattern source tag communicator }
+{
+    let communicator = communicator.unwrap_or(0);
+    Pattern {
+        source,
+        tag,
+        communicator,
+    }
+}
+
+impl Expansion {
+    /// No calls yet.
+    fn new(alloc: Global) -> Expansion
+        ensures { Expands result [] }
+    {
+        Expansion {
+            parts: Vec::new(alloc),
+            requests: Vec::new(alloc),
+            handles: Vec::new(alloc),
+        }
+    }
+
+    /// Adds a call at the end, with the names that it has.
+    fn push(
+        &mut self,
+        part: Part,
+        request: Option<Vec<u8>>,
+        handle: Option<Vec<u8>>,
+    ) -> Result<(), AllocError>
+        ensures { OnOk result (Adds self.old self.new (record { part = part; request = letters_of request; handle = letters_of handle } ∷ [])) }
+    {
+        self.parts.push(part)?;
+        self.requests.push(request)?;
+        self.handles.push(handle)?;
+        Ok(())
+    }
+
+    /// Adds a call that starts this request, or is blocking if there is none.
+    fn push_starting(
+        &mut self,
+        alloc: Global,
+        rank: u32,
+        place: usize,
+        request: &Option<Name>,
+        action: Action,
+    ) -> Result<(), AllocError>
+        requires { rank < 64 }
+        ensures { OnOk result (Adds self.old self.new (starting rank place request.now action ∷ [])) }
+    {
+        let request = names_in(alloc, rank, request)?;
+        self.push(
+            Part {
+                rank,
+                place,
+                action,
+            },
+            request,
+            None,
+        )?;
+        Ok(())
+    }
+
+    /// Adds the wait for a request.
+    fn push_wait(
+        &mut self,
+        alloc: Global,
+        rank: u32,
+        place: usize,
+        request: &[u8],
+    ) -> Result<(), AllocError>
+        requires { rank < 64 }
+        ensures { OnOk result (Adds self.old self.new (wait_for rank place request.now ∷ [])) }
+    {
+        let action = Action::Wait;
+        let request = name_in(alloc, rank, request)?;
+        self.push(
+            Part {
+                rank,
+                place,
+                action,
+            },
+            Some(request),
+            None,
+        )?;
+        Ok(())
+    }
+
+    /// Adds the waits for the requests, in their order.
+    fn push_waits(
+        &mut self,
+        alloc: Global,
+        rank: u32,
+        place: usize,
+        requests: &[Name],
+    ) -> Result<(), AllocError>
+        requires { rank < 64 }
+        ensures { OnOk result (Adds self.old self.new (map (wait_for rank place) requests.now)) }
+    {
+        for request in requests {
+            self.push_wait(alloc, rank, place, request.letters())?;
+        }
+        Ok(())
+    }
+
+    /// Adds a matched probe with its handle, or the receive on one.
+    fn push_handle(
+        &mut self,
+        alloc: Global,
+        part: Part,
+        request: &Option<Name>,
+        handle: &Name,
+    ) -> Result<(), AllocError>
+        requires { part.rank < 64 }
+        ensures { OnOk result (Adds self.old self.new (record { part = part; request = names_in part.rank request.now; handle = Some (name_in part.rank handle.now) } ∷ [])) }
+    {
+        let request = names_in(alloc, part.rank, request)?;
+        let handle = name_in(alloc, part.rank, handle.letters())?;
+        self.push(part, request, Some(handle))?;
+        Ok(())
+    }
+
+    /// Adds the start of one of the two requests of a joined send and receive.
+    fn push_joined(
+        &mut self,
+        alloc: Global,
+        rank: u32,
+        place: usize,
+        request: &[u8],
+        action: Action,
+    ) -> Result<(), AllocError>
+        requires { rank < 64 }
+        ensures { OnOk result (Adds self.old self.new (starting rank place (Some request.now) action ∷ [])) }
+    {
+        let request = name_in(alloc, rank, request)?;
+        self.push(
+            Part {
+                rank,
+                place,
+                action,
+            },
+            Some(request),
+            None,
+        )?;
+        Ok(())
+    }
+
+    /// Adds a joined send and receive: both are started, and then waited for.
+    fn push_send_receive(
+        &mut self,
+        alloc: Global,
+        rank: u32,
+        place: usize,
+        message: Message,
+        pattern: Pattern,
+    ) -> Result<(), AllocError>
+        requires { rank < 64 }
+        ensures { OnOk result (Adds self.old self.new (joined rank place message pattern)) }
+    {
+        let mode = Mode::Standard;
+        let blocking = false;
+        let send = Action::Send {
+            mode,
+            blocking,
+            message,
+        };
+        let receive = Action::Receive { blocking, pattern };
+        self.push_joined(alloc, rank, place, SEND_PART, send)?;
+        self.push_joined(alloc, rank, place, RECEIVE_PART, receive)?;
+        self.push_wait(alloc, rank, place, SEND_PART)?;
+        self.push_wait(alloc, rank, place, RECEIVE_PART)?;
+        Ok(())
+    }
+
+    /// Adds the calls that the line at this place, from 1, of a rank expands to.
+    fn push_line(
+        &mut self,
+        alloc: Global,
+        rank: u32,
+        place: usize,
+        line: &CallLine,
+    ) -> Result<(), AllocError>
+        requires { rank < 64 }
+        ensures { OnOk result (Adds self.old self.new (parts_of rank place line.now)) }
+    {
+        match line {
+            CallLine::Send {
+                mode,
+                request,
+                destination,
+                tag,
+                communicator,
+            } => {
+                let action = Action::Send {
+                    mode: *mode,
+                    blocking: request.is_none(),
+                    message: message(*destination, *tag, *communicator),
+                };
+                self.push_starting(alloc, rank, place, request, action)
+            }
+            CallLine::Receive {
+                request,
+                source,
+                tag,
+                communicator,
+            } => {
+                let action = Action::Receive {
+                    blocking: request.is_none(),
+                    pattern: pattern(*source, *tag, *communicator),
+                };
+                self.push_starting(alloc, rank, place, request, action)
+            }
+            CallLine::MatchedProbe {
+                handle,
+                source,
+                tag,
+                communicator,
+            } => {
+                let pattern = pattern(*source, *tag, *communicator);
+                let action = Action::MatchedProbe { pattern };
+                self.push_handle(
+                    alloc,
+                    Part {
+                        rank,
+                        place,
+                        action,
+                    },
+                    &None,
+                    handle,
+                )
+            }
+            CallLine::MatchedReceive { request, handle } => {
+                let blocking = request.is_none();
+                let action = Action::MatchedReceive { blocking };
+                self.push_handle(
+                    alloc,
+                    Part {
+                        rank,
+                        place,
+                        action,
+                    },
+                    request,
+                    handle,
+                )
+            }
+            CallLine::Wait { request } => self.push_wait(alloc, rank, place, request.letters()),
+            CallLine::WaitAll { requests } => {
+                self.push_waits(alloc, rank, place, requests.as_slice())
+            }
+            CallLine::SendReceive {
+                destination,
+                send_tag,
+                source,
+                receive_tag,
+                communicator,
+            } => {
+                let message = message(*destination, *send_tag, *communicator);
+                let pattern = pattern(*source, *receive_tag, *communicator);
+                self.push_send_receive(alloc, rank, place, message, pattern)
+            }
+        }
+    }
+
+    /// Adds the calls of a rank's lines.
+    fn push_rank(&mut self, alloc: Global, rank: u32, lines: &[CallLine]) -> Result<(), AllocError>
+        requires { rank < 64 }
+        ensures { OnOk result (Adds self.old self.new (parts_of_lines rank 1 lines.now)) }
+    {
+        for (index, line) in lines.iter().enumerate() {
+            self.push_line(alloc, rank, index + 1, line)?;
+        }
+        Ok(())
+    }
+}
+
+/// The calls that the lines of a text expand to. The only error is want of memory.
+pub fn expand(alloc: Global, source: &Source) -> Result<Expansion, AllocError>
+    ensures { IfOk result (λ expansion. Expands expansion (parts_of_text source.now)) }
+{
+    let mut expansion = Expansion::new(alloc);
+    for (rank, lines) in source.ranks().iter().enumerate() {
+        expansion.push_rank(alloc, rank as u32, lines)?;
+    }
+    Ok(expansion)
+}

@@ -1,0 +1,223 @@
+//! Call lines, by their words.
+
+ghost use Rattle.std.specs.Prelude.{◌≡◌, ◌≢◌, ◌∷◌, ◌++◌, ℕ, List, Option, IsTrue, IfNone, IfSome, IfOk, map};
+ghost use Rattle.calltext.specs.Names.{is_name};
+ghost use Rattle.calltext.specs.Grammar.{call_words, HasNames};
+ghost use Rattle.calltext.specs.Verbs.{is_started, request_words, IsRequest, IsReadAs};
+ghost use Rattle.calltext.specs.Capped.{capped_call};
+
+use crate::call::{CallLine, Mode};
+use crate::name::{Name, name_of, names_of};
+use crate::verb::Verb;
+use crate::words::{Message, Pattern, message_of, pattern_of};
+use plaintext::number_of;
+use std::alloc::{AllocError, Global};
+
+/// The name that stands first, and the words after it.
+fn first_name<'a, 'b>(
+    alloc: Global,
+    words: &'a [&'b [u8]],
+) -> Result<Option<(Name, &'a [&'b [u8]])>, AllocError>
+    ensures none { IfOk result (λ found. IfNone found ((name : List ℕ) (others : List (List ℕ)) → IsTrue (is_name name) → name ∷ others ≢ map (λ w. w.now) words.now)) }
+    ensures some { IfOk result (λ found. IfSome found (λ split. IsTrue (is_name split.0) × (split.0 ∷ map (λ w. w.now) split.1.now ≡ map (λ w. w.now) words.now))) }
+{
+    let [first, others @ ..] = words else {
+        return Ok(None);
+    };
+    let Some(name) = name_of(alloc, first)? else {
+        return Ok(None);
+    };
+    Ok(Some((name, others)))
+}
+
+/// The request of a call, which stands first where the call is started, and the other words.
+fn request_of<'a, 'b>(
+    alloc: Global,
+    started: bool,
+    words: &'a [&'b [u8]],
+) -> Result<Option<(Option<Name>, &'a [&'b [u8]])>, AllocError>
+    ensures none { IfOk result (λ found. IfNone found ((request : Option (List ℕ)) (others : List (List ℕ)) → IsRequest request → is_started request ≡ started → request_words request ++ others ≢ map (λ w. w.now) words.now)) }
+    ensures some { IfOk result (λ found. IfSome found (λ split. IsRequest split.0 × (is_started split.0 ≡ started) × (request_words split.0 ++ map (λ w. w.now) split.1.now ≡ map (λ w. w.now) words.now))) }
+{
+    if !started {
+        return Ok(Some((None, words)));
+    }
+    let Some((name, others)) = first_name(alloc, words)? else {
+        return Ok(None);
+    };
+    Ok(Some((Some(name), others)))
+}
+
+fn send_of(
+    alloc: Global,
+    mode: Mode,
+    started: bool,
+    words: &[&[u8]],
+) -> Result<Option<CallLine>, AllocError>
+    ensures { IfOk result (IsReadAs (Verb.Send mode started) (map (λ w. w.now) words.now)) }
+{
+    let Some((request, others)) = request_of(alloc, started, words)? else {
+        return Ok(None);
+    };
+    let Some(
+        Message {
+            destination,
+            tag,
+            communicator,
+        },
+    ) = message_of(others)
+    else {
+        return Ok(None);
+    };
+    Ok(Some(CallLine::Send {
+        mode,
+        request,
+        destination,
+        tag,
+        communicator,
+    }))
+}
+
+fn receive_of(alloc: Global, started: bool, words: &[&[u8]]) -> Result<Option<CallLine>, AllocError>
+    ensures { IfOk result (IsReadAs (Verb.Receive started) (map (λ w. w.now) words.now)) }
+{
+    let Some((request, others)) = request_of(alloc, started, words)? else {
+        return Ok(None);
+    };
+    let Some(
+        Pattern {
+            source,
+            tag,
+            communicator,
+        },
+    ) = pattern_of(others)
+    else {
+        return Ok(None);
+    };
+    Ok(Some(CallLine::Receive {
+        request,
+        source,
+        tag,
+        communicator,
+    }))
+}
+
+fn matched_probe_of(alloc: Global, words: &[&[u8]]) -> Result<Option<CallLine>, AllocError>
+    ensures { IfOk result (IsReadAs Verb.MatchedProbe (map (λ w. w.now) words.now)) }
+{
+    let Some((handle, others)) = first_name(alloc, words)? else {
+        return Ok(None);
+    };
+    let Some(
+        Pattern {
+            source,
+            tag,
+            communicator,
+        },
+    ) = pattern_of(others)
+    else {
+        return Ok(None);
+    };
+    Ok(Some(CallLine::MatchedProbe {
+        handle,
+        source,
+        tag,
+        communicator,
+    }))
+}
+
+fn matched_receive_of(
+    alloc: Global,
+    started: bool,
+    words: &[&[u8]],
+) -> Result<Option<CallLine>, AllocError>
+    ensures { IfOk result (IsReadAs (Verb.MatchedReceive started) (map (λ w. w.now) words.now)) }
+{
+    let Some((request, others)) = request_of(alloc, started, words)? else {
+        return Ok(None);
+    };
+    let [word] = others else {
+        return Ok(None);
+    };
+    let Some(handle) = name_of(alloc, word)? else {
+        return Ok(None);
+    };
+    Ok(Some(CallLine::MatchedReceive { request, handle }))
+}
+
+fn wait_of(alloc: Global, words: &[&[u8]]) -> Result<Option<CallLine>, AllocError>
+    ensures { IfOk result (IsReadAs Verb.Wait (map (λ w. w.now) words.now)) }
+{
+    let [word] = words else {
+        return Ok(None);
+    };
+    let Some(request) = name_of(alloc, word)? else {
+        return Ok(None);
+    };
+    Ok(Some(CallLine::Wait { request }))
+}
+
+fn wait_all_of(alloc: Global, words: &[&[u8]]) -> Result<Option<CallLine>, AllocError>
+    ensures { IfOk result (IsReadAs Verb.WaitAll (map (λ w. w.now) words.now)) }
+{
+    let Some(requests) = names_of(alloc, words)? else {
+        return Ok(None);
+    };
+    Ok(Some(CallLine::WaitAll { requests }))
+}
+
+fn send_receive_of(words: &[&[u8]]) -> Option<CallLine>
+    ensures { IsReadAs Verb.SendReceive (map (λ w. w.now) words.now) result }
+{
+    let [destination, send_tag, others @ ..] = words else {
+        return None;
+    };
+    let destination = number_of(destination)?;
+    let send_tag = number_of(send_tag)?;
+    let Some(
+        Pattern {
+            source,
+            tag,
+            communicator,
+        },
+    ) = pattern_of(others)
+    else {
+        return None;
+    };
+    Some(CallLine::SendReceive {
+        destination,
+        send_tag,
+        source,
+        receive_tag: tag,
+        communicator,
+    })
+}
+
+fn with_operands(alloc: Global, verb: Verb, words: &[&[u8]]) -> Result<Option<CallLine>, AllocError>
+    ensures { IfOk result (IsReadAs verb (map (λ w. w.now) words.now)) }
+{
+    match verb {
+        Verb::Send { mode, started } => send_of(alloc, mode, started, words),
+        Verb::Receive { started } => receive_of(alloc, started, words),
+        Verb::MatchedProbe => matched_probe_of(alloc, words),
+        Verb::MatchedReceive { started } => matched_receive_of(alloc, started, words),
+        Verb::Wait => wait_of(alloc, words),
+        Verb::WaitAll => wait_all_of(alloc, words),
+        Verb::SendReceive => Ok(send_receive_of(words)),
+    }
+}
+
+/// The call line, where the words are one's. The only error is want of memory.
+pub fn call_of(alloc: Global, words: &[&[u8]]) -> Result<Option<CallLine>, AllocError>
+    ensures none { IfOk result (λ found. IfNone found ((c : CallLine) → HasNames c → call_words c ≢ map (λ w. w.now) words.now)) }
+    ensures some { IfOk result (λ found. IfSome found (λ call. (c : CallLine) × HasNames c × (call_words c ≡ map (λ w. w.now) words.now) × (call ≡ capped_call c))) }
+{
+    let [first, operands @ ..] = words else {
+        return Ok(None);
+    };
+    let Some(verb) = Verb::find(first) else {
+        return Ok(None);
+    };
+    let call = with_operands(alloc, verb, operands)?;
+    Ok(call)
+}

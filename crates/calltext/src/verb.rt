@@ -1,0 +1,130 @@
+//! The first words of call lines.
+
+ghost use Rattle.std.specs.Prelude.{◌≡◌, ◌≢◌, IfNone, IfSome};
+ghost use Rattle.calltext.specs.Grammar.{send_word};
+ghost use Rattle.calltext.specs.Verbs.{started_word, verb_of, verb_word, verbs};
+
+use crate::call::{CallLine, Mode};
+use plaintext::is_word;
+
+/// What a call line's first word says. A call that is started is nonblocking; its word begins with
+/// an `i`, and its request's name follows.
+#[derive(Clone, Copy, Debug)]
+pub enum Verb {
+    Send { mode: Mode, started: bool },
+    Receive { started: bool },
+    MatchedProbe,
+    MatchedReceive { started: bool },
+    Wait,
+    WaitAll,
+    SendReceive,
+}
+
+const VERBS: [Verb; 14] = [
+    Verb::Send {
+        mode: Mode::Standard,
+        started: false,
+    },
+    Verb::Send {
+        mode: Mode::Synchronous,
+        started: false,
+    },
+    Verb::Send {
+        mode: Mode::Buffered,
+        started: false,
+    },
+    Verb::Send {
+        mode: Mode::Standard,
+        started: true,
+    },
+    Verb::Send {
+        mode: Mode::Synchronous,
+        started: true,
+    },
+    Verb::Send {
+        mode: Mode::Buffered,
+        started: true,
+    },
+    Verb::Receive { started: false },
+    Verb::Receive { started: true },
+    Verb::MatchedProbe,
+    Verb::MatchedReceive { started: false },
+    Verb::MatchedReceive { started: true },
+    Verb::Wait,
+    Verb::WaitAll,
+    Verb::SendReceive,
+];
+
+fn all() -> [Verb; 14]
+    ensures { result ≡ verbs }
+{
+    VERBS
+}
+
+fn send_text(mode: Mode, started: bool) -> &'static str
+    ensures { result.now ≡ started_word started (send_word mode) }
+{
+    match (mode, started) {
+        (Mode::Standard, false) => "send",
+        (Mode::Synchronous, false) => "ssend",
+        (Mode::Buffered, false) => "bsend",
+        (Mode::Standard, true) => "isend",
+        (Mode::Synchronous, true) => "issend",
+        (Mode::Buffered, true) => "ibsend",
+    }
+}
+
+impl Verb {
+    /// The word.
+    pub fn text(&self) -> &'static str
+        ensures { result.now ≡ verb_word self.now }
+    {
+        match self {
+            Verb::Send { mode, started } => send_text(*mode, *started),
+            Verb::Receive { started: false } => "recv",
+            Verb::Receive { started: true } => "irecv",
+            Verb::MatchedProbe => "mprobe",
+            Verb::MatchedReceive { started: false } => "mrecv",
+            Verb::MatchedReceive { started: true } => "imrecv",
+            Verb::Wait => "wait",
+            Verb::WaitAll => "waitall",
+            Verb::SendReceive => "sendrecv",
+        }
+    }
+
+    /// The verb that is spelled so; none where no verb is.
+    pub fn find(word: &[u8]) -> Option<Verb>
+        ensures none { IfNone result ((verb : Verb) → verb_word verb ≢ word.now) }
+        ensures some { IfSome result (λ verb. verb_word verb ≡ word.now) }
+    {
+        let verbs = all();
+        for verb in verbs.iter() {
+            if is_word(word, verb.text()) {
+                return Some(*verb);
+            }
+        }
+        None
+    }
+
+    /// The verb of a call.
+    pub fn of(call: &CallLine) -> Verb
+        ensures { result ≡ verb_of call.now }
+    {
+        match call {
+            CallLine::Send { mode, request, .. } => Verb::Send {
+                mode: *mode,
+                started: request.is_some(),
+            },
+            CallLine::Receive { request, .. } => Verb::Receive {
+                started: request.is_some(),
+            },
+            CallLine::MatchedProbe { .. } => Verb::MatchedProbe,
+            CallLine::MatchedReceive { request, .. } => Verb::MatchedReceive {
+                started: request.is_some(),
+            },
+            CallLine::Wait { .. } => Verb::Wait,
+            CallLine::WaitAll { .. } => Verb::WaitAll,
+            CallLine::SendReceive { .. } => Verb::SendReceive,
+        }
+    }
+}
