@@ -1,0 +1,28 @@
+//! Refutations of a formula: proof lines, each derived by hinted unit propagation, and a tree whose
+//! leaves cover all assignments.
+//!
+//! Variables, clauses and hints are numbered from 1. `specs/Derivations.antt` says which lines are
+//! derived, `specs/Trees.antt` which trees are accepted, `specs/Refutations.antt` what both show.
+#![tactic(auto)]
+
+mod laws;
+mod line;
+mod line_check;
+mod partial;
+mod refutation;
+mod tree;
+mod tree_check;
+
+pub use laws::{
+    accepted_refute, accepted_trees_refute, derivations_follow, derived_lines_follow,
+    preorders_are_trees,
+};
+pub use line::{LARGEST_NUMBER, Line, MakeLineFault};
+pub use line_check::{LineFault, check_line, check_line_in, clause_at};
+pub use partial::{ClauseStatus, PartialAssignment};
+pub use refutation::{FaultyLine, RefutationFault, check_lines_in, check_refutation};
+pub use tree::{Node, ProofTree};
+pub use tree_check::{TreeFault, check_tree};
+
+#[cfg(test)]
+mod tests;
