@@ -27,6 +27,3 @@ pub use printer::print;
 pub use reader::read;
 pub use refused::RefusedWord;
 pub use source::Source;
-
-#[cfg(test)]
-mod tests;

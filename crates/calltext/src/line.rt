@@ -14,14 +14,14 @@ use plaintext::words_of;
 use std::alloc::{AllocError, Global};
 
 /// What a line is, once the first rank has begun.
-#[derive(Debug, Drop)]
+#[derive(Drop)]
 pub enum Item {
     Call(CallLine),
     Rank,
 }
 
 /// Why a line can't stand in its place.
-#[derive(Clone, Copy, Debug)]
+#[derive(Clone, Copy)]
 pub enum LineFault {
     Memory,
     NotAscii,

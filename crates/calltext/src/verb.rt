@@ -9,7 +9,7 @@ use plaintext::is_word;
 
 /// What a call line's first word says. A call that is started is nonblocking; its word begins with
 /// an `i`, and its request's name follows.
-#[derive(Clone, Copy, Debug)]
+#[derive(Clone, Copy)]
 pub enum Verb {
     Send { mode: Mode, started: bool },
     Receive { started: bool },

@@ -79,7 +79,7 @@ fn communicator_of(words: &[&[u8]]) -> Option<Option<u32>>
 }
 
 /// What a send names after its request.
-#[derive(Clone, Copy, Debug)]
+#[derive(Clone, Copy)]
 pub struct Message {
     pub destination: u32,
     pub tag: u32,
@@ -87,7 +87,7 @@ pub struct Message {
 }
 
 /// What a receive or a matched probe names last.
-#[derive(Clone, Copy, Debug)]
+#[derive(Clone, Copy)]
 pub struct Pattern {
     pub source: Option<u32>,
     pub tag: Option<u32>,

@@ -1,5 +1,5 @@
 -- Two texts have one verdict, but for want of memory.
-use Rattle.std.proofs.Common.{◌≡◌, ◌≢◌, ℕ, List, Result, Ok, Err, refl, sym, ◌∙◌, ap, subst, inl, inr, ◌⊎◌}
+use Rattle.std.proofs.Common.{◌≡◌, ◌≢◌, ℕ, List, [], Result, Ok, Err, refl, sym, ◌∙◌, ap, subst, inl, inr, ◌⊎◌}
 use Rattle.calltext.specs.Grammar.{ProgramText, IsText}
 use Rattle.calltext.specs.Fault.{HasFault}
 use Rattle.calltext.specs.declared.fault.ReadFault.{ReadFault}
@@ -16,18 +16,19 @@ use Rattle.semantics.specs.declared.schedule.End.TheVariants as ends
 use Rattle.semantics.specs.Replays.{Replays}
 use Rattle.semantics.proofs.Runs.{one_replay}
 use Rattle.prooflog.specs.declared.evidence.Evidence.{Evidence}
-use Rattle.prooflog.specs.declared.evidence.Evidence.TheVariants.{Schedule}
+use Rattle.prooflog.specs.declared.evidence.Evidence.TheVariants.{Schedule, Refutation}
 use Rattle.prooflog.specs.declared.fault.EvidenceFault.{EvidenceFault}
 use Rattle.prooflog.specs.declared.fault.EvidenceFault.TheVariants as proving
+use Rattle.prooflog.specs.Refutations.{ClaimedRefutation}
 use Rattle.prooflog.specs.Grammar.{IsEvidenceText}
 use Rattle.prooflog.specs.Fault.{HasEvidenceFault}
 use Rattle.prooflog.proofs.Exact as evidences
 use Rattle.checker.specs.declared.reason.Reason.TheVariants as reasons
 use Rattle.checker.specs.declared.reason.Verdict.{Verdict}
 use Rattle.checker.specs.declared.reason.Verdict.TheVariants as verdicts
-use Rattle.checker.specs.Verdicts.{Shows, Judges, OneVerdict}
+use Rattle.checker.specs.Verdicts.{Shows, OfRefutation, Judges, OneVerdict}
 
--- ---- the four stages at which a verdict other than want of memory is reached
+-- ---- the five stages at which a verdict other than want of memory is reached
 
 abbrev AtRead : List ℕ → Verdict → Type 0
 AtRead program v = (fault : ReadFault) × HasFault program fault × (fault ≢ reading.Memory) × (v ≡ verdicts.Refused (reasons.Read fault))
@@ -37,6 +38,9 @@ AtResolve program v = (text : ProgramText) × (fault : ResolveFault) × IsText p
 
 abbrev AtEvidence : List ℕ → List ℕ → Verdict → Type 0
 AtEvidence program evidence v = (p : MpiProgram) × (fault : EvidenceFault) × IsTextOf program p × HasEvidenceFault evidence fault × (fault ≢ proving.Memory) × (v ≡ verdicts.Refused (reasons.Evidence fault))
+
+abbrev AtCounts : List ℕ → List ℕ → Verdict → Type 0
+AtCounts program evidence v = OfRefutation program evidence × (v ≡ verdicts.Refused reasons.Counts)
 
 verdict_of : Result End ℕ → Verdict
 verdict_of (Ok ends.Stuck) = verdicts.Deadlock
@@ -54,19 +58,20 @@ record AtReplay (program evidence : List ℕ) (v : Verdict) : Type 0 where
   pub is : v ≡ verdict_of answer
 
 Stage : List ℕ → List ℕ → Verdict → Type 0
-Stage program evidence v = AtRead program v ⊎ (AtResolve program v ⊎ (AtEvidence program evidence v ⊎ AtReplay program evidence v))
+Stage program evidence v = AtRead program v ⊎ (AtResolve program v ⊎ (AtEvidence program evidence v ⊎ (AtReplay program evidence v ⊎ AtCounts program evidence v)))
 
 stage : (program evidence : List ℕ) (v : Verdict) → Judges program evidence v → v ≢ verdicts.Refused reasons.Memory → Stage program evidence v
 unfolding Stage verdict_of
 stage program evidence verdicts.NoDeadlock j some = absurd j
-stage program evidence verdicts.Deadlock j some = inr (inr (inr (record { p = j.p; steps = j.steps; text = j.text; schedule = j.schedule; answer = Ok ends.Stuck; replays = j.stuck; is = refl })))
+stage program evidence verdicts.Deadlock j some = inr (inr (inr (inl (record { p = j.p; steps = j.steps; text = j.text; schedule = j.schedule; answer = Ok ends.Stuck; replays = j.stuck; is = refl }))))
 stage program evidence (verdicts.Refused reasons.Memory) j some = absurd (some refl)
 stage program evidence (verdicts.Refused (reasons.Read fault)) j some = inl (fault, j.0, j.1, refl)
 stage program evidence (verdicts.Refused (reasons.Resolve fault)) j some = inr (inl (j.0, fault, j.1, j.2, j.3, refl))
 stage program evidence (verdicts.Refused (reasons.Evidence fault)) j some = inr (inr (inl (j.0, fault, j.1, j.2, j.3, refl)))
-stage program evidence (verdicts.Refused (reasons.Replay at)) j some = inr (inr (inr (record { p = j.p; steps = j.steps; text = j.text; schedule = j.schedule; answer = Err at; replays = j.holds; is = refl })))
-stage program evidence (verdicts.Refused (reasons.NotStuck ends.Finished)) j some = inr (inr (inr (record { p = j.p; steps = j.steps; text = j.text; schedule = j.schedule; answer = Ok ends.Finished; replays = j.holds; is = refl })))
-stage program evidence (verdicts.Refused (reasons.NotStuck ends.Live)) j some = inr (inr (inr (record { p = j.p; steps = j.steps; text = j.text; schedule = j.schedule; answer = Ok ends.Live; replays = j.holds; is = refl })))
+stage program evidence (verdicts.Refused reasons.Counts) j some = inr (inr (inr (inr (j, refl))))
+stage program evidence (verdicts.Refused (reasons.Replay at)) j some = inr (inr (inr (inl (record { p = j.p; steps = j.steps; text = j.text; schedule = j.schedule; answer = Err at; replays = j.holds; is = refl }))))
+stage program evidence (verdicts.Refused (reasons.NotStuck ends.Finished)) j some = inr (inr (inr (inl (record { p = j.p; steps = j.steps; text = j.text; schedule = j.schedule; answer = Ok ends.Finished; replays = j.holds; is = refl }))))
+stage program evidence (verdicts.Refused (reasons.NotStuck ends.Live)) j some = inr (inr (inr (inl (record { p = j.p; steps = j.steps; text = j.text; schedule = j.schedule; answer = Ok ends.Live; replays = j.holds; is = refl }))))
 stage program evidence (verdicts.Refused (reasons.NotStuck ends.Stuck)) j some = absurd j
 
 -- ---- one stage rules out the others, and has one verdict
@@ -77,8 +82,11 @@ read_text program v text (fault, has, other, is) t = other (texts.text_has_no_fa
 resolve_program : (program : List ℕ) (v : Verdict) (p : MpiProgram) → AtResolve program v → IsTextOf program p → ⊥
 resolve_program program v p (text, fault, is_text, first, other, is) of = other (program_text_has_no_fault program p text fault of is_text first)
 
-evidence_schedule : (program evidence : List ℕ) (v : Verdict) (steps : List Step) → AtEvidence program evidence v → IsEvidenceText evidence (Schedule steps) → ⊥
-evidence_schedule program evidence v steps (p, fault, of, has, other, is) t = other (evidences.text_has_no_fault evidence (Schedule steps) fault t has)
+evidence_text : (program evidence : List ℕ) (v : Verdict) (e : Evidence) → AtEvidence program evidence v → IsEvidenceText evidence e → ⊥
+evidence_text program evidence v e (p, fault, of, has, other, is) t = other (evidences.text_has_no_fault evidence e fault t has)
+
+kinds_differ : (evidence : List ℕ) (steps : List Step) (claim : ClaimedRefutation) → IsEvidenceText evidence (Schedule steps) → IsEvidenceText evidence (Refutation claim) → ⊥
+kinds_differ evidence steps claim s t = let same = evidences.one_value evidence (Schedule steps) (Refutation claim) s t in cc
 
 both_read : (program : List ℕ) (v w : Verdict) → AtRead program v → AtRead program w → v ≡ w
 both_read program v w (f, has, other, is) (g, has', other', is') =
@@ -96,6 +104,7 @@ both_evidence program evidence v w (p, f, of, has, other, is) (p', f', of', has'
 
 steps_of : Evidence → List Step
 steps_of (Schedule steps) = steps
+steps_of (Refutation claim) = []
 
 same_steps : (steps others : List Step) → Schedule steps ≡ Schedule others → steps ≡ others
 unfolding steps_of
@@ -113,19 +122,28 @@ unfolding Stage
 one_stage program evidence v w (inl a) (inl b) = both_read program v w a b
 one_stage program evidence v w (inl a) (inr (inl b)) = absurd (read_text program v b.0 a b.2)
 one_stage program evidence v w (inl a) (inr (inr (inl b))) = absurd (read_text program v b.2.text a b.2.is_text)
-one_stage program evidence v w (inl a) (inr (inr (inr b))) = absurd (read_text program v b.text.text a b.text.is_text)
+one_stage program evidence v w (inl a) (inr (inr (inr (inl b)))) = absurd (read_text program v b.text.text a b.text.is_text)
+one_stage program evidence v w (inl a) (inr (inr (inr (inr b)))) = absurd (read_text program v b.0.text.text a b.0.text.is_text)
 one_stage program evidence v w (inr (inl a)) (inl b) = absurd (read_text program w a.0 b a.2)
 one_stage program evidence v w (inr (inl a)) (inr (inl b)) = both_resolve program v w a b
 one_stage program evidence v w (inr (inl a)) (inr (inr (inl b))) = absurd (resolve_program program v b.0 a b.2)
-one_stage program evidence v w (inr (inl a)) (inr (inr (inr b))) = absurd (resolve_program program v b.p a b.text)
+one_stage program evidence v w (inr (inl a)) (inr (inr (inr (inl b)))) = absurd (resolve_program program v b.p a b.text)
+one_stage program evidence v w (inr (inl a)) (inr (inr (inr (inr b)))) = absurd (resolve_program program v b.0.p a b.0.text)
 one_stage program evidence v w (inr (inr (inl a))) (inl b) = absurd (read_text program w a.2.text b a.2.is_text)
 one_stage program evidence v w (inr (inr (inl a))) (inr (inl b)) = absurd (resolve_program program w a.0 b a.2)
 one_stage program evidence v w (inr (inr (inl a))) (inr (inr (inl b))) = both_evidence program evidence v w a b
-one_stage program evidence v w (inr (inr (inl a))) (inr (inr (inr b))) = absurd (evidence_schedule program evidence v b.steps a b.schedule)
-one_stage program evidence v w (inr (inr (inr a))) (inl b) = absurd (read_text program w a.text.text b a.text.is_text)
-one_stage program evidence v w (inr (inr (inr a))) (inr (inl b)) = absurd (resolve_program program w a.p b a.text)
-one_stage program evidence v w (inr (inr (inr a))) (inr (inr (inl b))) = absurd (evidence_schedule program evidence w a.steps b a.schedule)
-one_stage program evidence v w (inr (inr (inr a))) (inr (inr (inr b))) = both_replay program evidence v w a b
+one_stage program evidence v w (inr (inr (inl a))) (inr (inr (inr (inl b)))) = absurd (evidence_text program evidence v (Schedule b.steps) a b.schedule)
+one_stage program evidence v w (inr (inr (inl a))) (inr (inr (inr (inr b)))) = absurd (evidence_text program evidence v (Refutation b.0.claim) a b.0.refutation)
+one_stage program evidence v w (inr (inr (inr (inl a)))) (inl b) = absurd (read_text program w a.text.text b a.text.is_text)
+one_stage program evidence v w (inr (inr (inr (inl a)))) (inr (inl b)) = absurd (resolve_program program w a.p b a.text)
+one_stage program evidence v w (inr (inr (inr (inl a)))) (inr (inr (inl b))) = absurd (evidence_text program evidence w (Schedule a.steps) b a.schedule)
+one_stage program evidence v w (inr (inr (inr (inl a)))) (inr (inr (inr (inl b)))) = both_replay program evidence v w a b
+one_stage program evidence v w (inr (inr (inr (inl a)))) (inr (inr (inr (inr b)))) = absurd (kinds_differ evidence a.steps b.0.claim a.schedule b.0.refutation)
+one_stage program evidence v w (inr (inr (inr (inr a)))) (inl b) = absurd (read_text program w a.0.text.text b a.0.text.is_text)
+one_stage program evidence v w (inr (inr (inr (inr a)))) (inr (inl b)) = absurd (resolve_program program w a.0.p b a.0.text)
+one_stage program evidence v w (inr (inr (inr (inr a)))) (inr (inr (inl b))) = absurd (evidence_text program evidence w (Refutation a.0.claim) b a.0.refutation)
+one_stage program evidence v w (inr (inr (inr (inr a)))) (inr (inr (inr (inl b)))) = absurd (kinds_differ evidence b.steps a.0.claim b.schedule a.0.refutation)
+one_stage program evidence v w (inr (inr (inr (inr a)))) (inr (inr (inr (inr b)))) = a.1 ∙ sym b.1
 
 pub one_verdict : OneVerdict
 one_verdict program evidence v w a b some some' = one_stage program evidence v w (stage program evidence v a some) (stage program evidence w b some')
@@ -138,5 +156,6 @@ deadlock_or_memory program evidence verdicts.Deadlock j shows = inl refl
 deadlock_or_memory program evidence (verdicts.Refused (reasons.Read fault)) j shows = inl (one_verdict program evidence (verdicts.Refused (reasons.Read fault)) verdicts.Deadlock j shows (λ e. cc) (λ e. cc))
 deadlock_or_memory program evidence (verdicts.Refused (reasons.Resolve fault)) j shows = inl (one_verdict program evidence (verdicts.Refused (reasons.Resolve fault)) verdicts.Deadlock j shows (λ e. cc) (λ e. cc))
 deadlock_or_memory program evidence (verdicts.Refused (reasons.Evidence fault)) j shows = inl (one_verdict program evidence (verdicts.Refused (reasons.Evidence fault)) verdicts.Deadlock j shows (λ e. cc) (λ e. cc))
+deadlock_or_memory program evidence (verdicts.Refused reasons.Counts) j shows = inl (one_verdict program evidence (verdicts.Refused reasons.Counts) verdicts.Deadlock j shows (λ e. cc) (λ e. cc))
 deadlock_or_memory program evidence (verdicts.Refused (reasons.Replay at)) j shows = inl (one_verdict program evidence (verdicts.Refused (reasons.Replay at)) verdicts.Deadlock j shows (λ e. cc) (λ e. cc))
 deadlock_or_memory program evidence (verdicts.Refused (reasons.NotStuck end)) j shows = inl (one_verdict program evidence (verdicts.Refused (reasons.NotStuck end)) verdicts.Deadlock j shows (λ e. cc) (λ e. cc))

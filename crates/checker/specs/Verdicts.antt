@@ -11,13 +11,16 @@ use Rattle.callorder.specs.declared.fault.ResolveFault.TheVariants as resolving
 use Rattle.semantics.specs.declared.state.Step.{Step}
 use Rattle.semantics.specs.declared.schedule.End.TheVariants as ends
 use Rattle.semantics.specs.Machine.{IsStuckRun, IsFinishedRun, IsLiveRun, StopsAt}
-use Rattle.prooflog.specs.declared.evidence.Evidence.TheVariants.{Schedule}
+use Rattle.prooflog.specs.declared.evidence.Evidence.TheVariants.{Schedule, Refutation}
 use Rattle.prooflog.specs.declared.fault.EvidenceFault.{EvidenceFault}
 use Rattle.prooflog.specs.declared.fault.EvidenceFault.TheVariants as proving
+use Rattle.prooflog.specs.Refutations.{ClaimedRefutation}
 use Rattle.prooflog.specs.Grammar.{IsEvidenceText}
 use Rattle.prooflog.specs.Fault.{HasEvidenceFault}
 use Rattle.checker.specs.declared.reason.Reason.{Reason}
 use Rattle.checker.specs.declared.reason.Reason.TheVariants as reasons
+use Rattle.checker.specs.declared.reason.NoRun.{NoRun}
+use Rattle.checker.specs.declared.reason.NoRun.TheVariants as runs
 use Rattle.checker.specs.declared.reason.Verdict.{Verdict}
 use Rattle.checker.specs.declared.reason.Verdict.TheVariants as verdicts
 
@@ -38,14 +41,22 @@ pub record OfSchedule (program evidence : List ℕ) (Holds : MpiProgram → List
   pub schedule : IsEvidenceText evidence (Schedule steps)
   pub holds : Holds p steps
 
+-- the program's text has a value, and the evidence's text is a refutation's
+pub record OfRefutation (program evidence : List ℕ) : Type 0 where
+  pub p : MpiProgram
+  pub claim : ClaimedRefutation
+  pub text : IsTextOf program p
+  pub refutation : IsEvidenceText evidence (Refutation claim)
+
 -- Each reason is the first that there is, in this order: the program's text has a fault; its call lines have one; the
--- evidence's text has one; a step of the schedule is not enabled; the schedule's run does not end stuck. Want of
--- memory may come at any time.
+-- evidence's text has one; the evidence is a refutation, whose counts no program's formula meets yet; a step of the
+-- schedule is not enabled; the schedule's run does not end stuck. Want of memory may come at any time.
 abbrev pub IsReason : List ℕ → List ℕ → Reason → Type 0
 IsReason program evidence reasons.Memory = Unit {0}
 IsReason program evidence (reasons.Read fault) = HasFault program fault × (fault ≢ reading.Memory)
 IsReason program evidence (reasons.Resolve fault) = (text : ProgramText) × IsText program text × IsFirstFault text fault × (fault ≢ resolving.Memory)
 IsReason program evidence (reasons.Evidence fault) = (p : MpiProgram) × IsTextOf program p × HasEvidenceFault evidence fault × (fault ≢ proving.Memory)
+IsReason program evidence reasons.Counts = OfRefutation program evidence
 IsReason program evidence (reasons.Replay at) = OfSchedule program evidence (λ p steps. StopsAt p steps at)
 IsReason program evidence (reasons.NotStuck ends.Finished) = OfSchedule program evidence IsFinishedRun
 IsReason program evidence (reasons.NotStuck ends.Live) = OfSchedule program evidence IsLiveRun
@@ -88,5 +99,16 @@ IsProgramReason program reasons.Memory = Unit {0}
 IsProgramReason program (reasons.Read fault) = HasFault program fault × (fault ≢ reading.Memory)
 IsProgramReason program (reasons.Resolve fault) = (text : ProgramText) × IsText program text × IsFirstFault text fault × (fault ≢ resolving.Memory)
 IsProgramReason program (reasons.Evidence fault) = ⊥
+IsProgramReason program reasons.Counts = ⊥
 IsProgramReason program (reasons.Replay at) = ⊥
 IsProgramReason program (reasons.NotStuck end) = ⊥
+
+-- why there is no stuck run: the evidence is no schedule, or the first reason of the others
+abbrev pub IsNoRun : List ℕ → List ℕ → NoRun → Type 0
+IsNoRun program evidence (runs.Refused reason) = IsReason program evidence reason × (reason ≢ reasons.Counts)
+IsNoRun program evidence runs.NotASchedule = OfRefutation program evidence
+
+-- the reason for which a verdict is refused where there is no stuck run
+abbrev pub refused_reason : NoRun → Reason
+refused_reason (runs.Refused reason) = reason
+refused_reason runs.NotASchedule = reasons.Counts

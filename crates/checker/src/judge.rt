@@ -1,10 +1,10 @@
 //! The verdict.
 
 ghost use Rattle.std.specs.Prelude.{◌≡◌, ◌≢◌, ◌⊎◌, IfOk, IfErr};
-ghost use Rattle.checker.specs.Verdicts.{AreShown, Shows, Judges, IsReason, IsProgramReason};
+ghost use Rattle.checker.specs.Verdicts.{AreShown, Shows, Judges, IsNoRun, IsProgramReason};
 ghost use Rattle.callorder.specs.Resolving.{IsTextOf};
 
-use crate::reason::{Reason, Verdict};
+use crate::reason::{NoRun, Reason, Verdict};
 use callorder::Program;
 use calltext::read;
 use prooflog::{Evidence, Schedule, read_evidence};
@@ -30,18 +30,21 @@ pub fn program_of(alloc: Global, program: &[u8]) -> Result<Program, Reason>
 
 /// The program and the schedule that the two texts are of, where the schedule is a run of the program that ends
 /// stuck; else the first reason why not.
-pub fn stuck_run_of(alloc: Global, program: &[u8], evidence: &[u8]) -> Result<StuckRun, Reason>
+pub fn stuck_run_of(alloc: Global, program: &[u8], evidence: &[u8]) -> Result<StuckRun, NoRun>
     ensures shown { IfOk result (λ run. AreShown program.now evidence.now run.program run.schedule) }
-    ensures reason { IfErr result (λ reason. IsReason program.now evidence.now reason) }
+    ensures why { IfErr result (λ why. IsNoRun program.now evidence.now why) }
 {
     let program = program_of(alloc, program)?;
-    let Evidence::Schedule(schedule) = read_evidence(alloc, evidence)?;
+    let schedule = match read_evidence(alloc, evidence)? {
+        Evidence::Schedule(schedule) => schedule,
+        Evidence::Refutation(_refutation) => return Err(NoRun::NotASchedule),
+    };
     match replay(alloc, &program, schedule.steps()) {
         Ok(End::Stuck) => Ok(StuckRun { program, schedule }),
-        Ok(End::Finished) => Err(Reason::NotStuck(End::Finished)),
-        Ok(End::Live) => Err(Reason::NotStuck(End::Live)),
-        Err(ReplayFault::NotEnabled { at }) => Err(Reason::Replay { at }),
-        Err(ReplayFault::Memory) => Err(Reason::Memory),
+        Ok(End::Finished) => Err(NoRun::Refused(Reason::NotStuck(End::Finished))),
+        Ok(End::Live) => Err(NoRun::Refused(Reason::NotStuck(End::Live))),
+        Err(ReplayFault::NotEnabled { at }) => Err(NoRun::Refused(Reason::Replay { at })),
+        Err(ReplayFault::Memory) => Err(NoRun::Refused(Reason::Memory)),
     }
 }
 
@@ -50,7 +53,8 @@ fn judged(alloc: Global, program: &[u8], evidence: &[u8]) -> Verdict
 {
     match stuck_run_of(alloc, program, evidence) {
         Ok(_run) => Verdict::Deadlock,
-        Err(reason) => Verdict::Refused(reason),
+        Err(NoRun::Refused(reason)) => Verdict::Refused(reason),
+        Err(NoRun::NotASchedule) => Verdict::Refused(Reason::Counts),
     }
 }
 

@@ -2,6 +2,7 @@
 
 ghost use Rattle.std.specs.Prelude.{◌≡◌};
 ghost use Rattle.checker.specs.Verdicts.{read_reason, resolve_reason, evidence_reason};
+ghost use Rattle.checker.specs.declared.reason.NoRun.TheVariants as runs;
 
 use callorder::ResolveFault;
 use calltext::ReadFault;
@@ -12,7 +13,8 @@ use thiserror::Error;
 /// What the checker says of a program's text and an evidence's text.
 #[derive(Clone, Copy, Debug, PartialEq, Eq)]
 pub enum Verdict {
-    /// No run of the program ends stuck. This is not answered yet: the evidence for it isn't read yet.
+    /// No run of the program ends stuck. This is not answered yet: a refutation is read, but no program has a formula
+    /// yet that it could refute.
     NoDeadlock,
     /// The evidence's schedule is a run of the program that ends stuck.
     Deadlock,
@@ -35,12 +37,27 @@ pub enum Reason {
     /// The evidence's text can't be read.
     #[error("{0}")]
     Evidence(EvidenceFault),
+    /// The evidence is a refutation, and its counts of variables and clauses are not those of the program's formula.
+    /// No program has a formula yet, so each refutation is refused so.
+    #[error("counts")]
+    Counts,
     /// The first step of the schedule, counted from 1, that isn't enabled.
     #[error("step {at} not enabled")]
     Replay { at: usize },
     /// The schedule's run ends finished or live.
     #[error("not stuck {0}")]
     NotStuck(End),
+}
+
+/// Why there is no stuck run.
+#[derive(Clone, Copy, Debug, PartialEq, Eq, Error)]
+pub enum NoRun {
+    /// The evidence is refused, for another reason than `Counts`.
+    #[error("{0}")]
+    Refused(Reason),
+    /// The evidence is a refutation.
+    #[error("not a schedule")]
+    NotASchedule,
 }
 
 impl From<ReadFault> for Reason {
@@ -73,5 +90,21 @@ impl From<EvidenceFault> for Reason {
             EvidenceFault::Memory => Reason::Memory,
             fault => Reason::Evidence(fault),
         }
+    }
+}
+
+impl From<Reason> for NoRun {
+    ghost from_gives = { λ reason why. why ≡ runs.Refused reason };
+
+    fn from(reason: Reason) -> NoRun {
+        NoRun::Refused(reason)
+    }
+}
+
+impl From<EvidenceFault> for NoRun {
+    ghost from_gives = { λ fault why. why ≡ runs.Refused (evidence_reason fault) };
+
+    fn from(fault: EvidenceFault) -> NoRun {
+        NoRun::Refused(Reason::from(fault))
     }
 }

@@ -1,7 +1,7 @@
 //! Clauses.
 
-ghost use Rattle.std.specs.Prelude.{◌≡◌, ◌↔◌, IfOk, IsTrue, false};
-ghost use Rattle.clauses.specs.Clauses.{rises, rises_above};
+ghost use Rattle.std.specs.Prelude.{◌≡◌, ◌↔◌, IfOk, IfErr, IsOk, IsTrue, false};
+ghost use Rattle.clauses.specs.Clauses.{rises, rises_above, is_within};
 
 use crate::literal::Lit;
 use std::alloc::{AllocError, Global};
@@ -17,13 +17,13 @@ pub struct Clause {
 
 impl Model for Clause {
     ghost use Rattle.std.specs.Prelude.{List, IsTrue};
-    ghost use Rattle.clauses.specs.Clauses.{Literal, rises};
+    ghost use Rattle.clauses.specs.Clauses.{Literal, rises, is_within};
 
     ghost Value = { List Literal };
 
     ghost view = { λ c. c.literals.items };
 
-    ghost invariant = { λ c. IsTrue (rises c.literals.items) };
+    ghost invariant = { λ c. IsTrue (rises c.literals.items) × IsTrue (is_within 2147483647 c.literals.items) };
 }
 
 /// Why no clause was made.
@@ -38,7 +38,8 @@ pub enum ClauseFault {
 }
 
 fn rises(literals: &[Lit]) -> bool
-    ensures { result ≡ rises literals.now }
+    ensures rises { result ≡ rises literals.now }
+    ensures within { IsTrue result → IsTrue (is_within 2147483647 literals.now) }
 {
     let mut last = 0;
     for literal in literals {
@@ -68,10 +69,24 @@ impl Clause {
         }
     }
 
+    /// The clause that keeps these literals, which may be none. They come back exactly where the
+    /// variables don't rise strictly. Takes no memory.
+    pub fn from_vec(literals: Vec<Lit>) -> Result<Clause, Vec<Lit>>
+        ensures made { IfOk result (λ clause. clause ≡ literals.items) }
+        ensures back { IfErr result (λ back. back ≡ literals) }
+        ensures when { IsOk result ↔ IsTrue (rises literals.items) }
+    {
+        if !rises(literals.as_slice()) {
+            return Err(literals);
+        }
+        Ok(Clause { literals })
+    }
+
     /// Its literals, rising strictly by variable.
     pub fn literals(&self) -> &[Lit]
         ensures same { result.now ≡ self.now }
         ensures rises { IsTrue (rises self.now) }
+        ensures within { IsTrue (is_within 2147483647 self.now) }
     {
         self.literals.as_slice()
     }

@@ -69,6 +69,35 @@ fn order_of_a_clause(rt: HostRuntime) -> Result<(), Fail> {
     Ok(())
 }
 
+/// Literals in a vector are kept where their variables rise strictly, and come back where they don't.
+#[test]
+fn clauses_from_vectors(rt: HostRuntime) -> Result<(), Fail> {
+    let alloc = rt.alloc();
+    let rows: [(&[(u32, bool)], bool); 7] = [
+        (&[], true),
+        (&[(2_147_483_647, false)], true),
+        (&[(1, false), (4, true), (5, false)], true),
+        (&[(2, true), (1, true)], false),
+        (&[(1, true), (1, true)], false),
+        (&[(1, true), (3, true), (3, false)], false),
+        (&[(3, true), (7, true), (5, true)], false),
+    ];
+    for (signs, rises) in rows {
+        let wanted = literals(alloc, signs)?;
+        match Clause::from_vec(literals(alloc, signs)?) {
+            Ok(clause) => {
+                assert!(rt; rises, "{signs:?}");
+                assert_eq!(rt; clause.literals(), wanted.as_slice());
+            }
+            Err(back) => {
+                assert!(rt; !rises, "{signs:?}");
+                assert_eq!(rt; back.as_slice(), wanted.as_slice());
+            }
+        }
+    }
+    Ok(())
+}
+
 #[test]
 fn texts_of_faults(rt: HostRuntime) -> Result<(), Fail> {
     let cases = [

@@ -4,7 +4,7 @@ use Rattle.callorder.specs.Programs.{MpiProgram}
 use Rattle.semantics.specs.declared.state.Step.{Step}
 use Rattle.semantics.specs.Machine.{IsStuckRun}
 use Rattle.prooflog.specs.declared.evidence.Evidence.{Evidence}
-use Rattle.prooflog.specs.declared.evidence.Evidence.TheVariants.{Schedule}
+use Rattle.prooflog.specs.declared.evidence.Evidence.TheVariants.{Schedule, Refutation}
 use Rattle.pool.specs.declared.why.Why.{Why}
 use Rattle.pool.specs.declared.why.Why.TheVariants.{Budget, Full, Memory, Left}
 
@@ -38,6 +38,7 @@ IsSmallest reasons (Some why) = Contains reasons why × All (λ other. why_numbe
 -- the evidence is the schedule that was found, which is a run of the program that ends stuck
 abbrev pub IsAssembled : PoolState → Evidence → Type 0
 IsAssembled state (Schedule steps) = (state.schedule ≡ Some steps) × IsStuckRun state.program steps
+IsAssembled state (Refutation claim) = ⊥
 
 -- the state after a reason was noted; a worker that is done has none
 abbrev pub with_reason : PoolState → Option Why → PoolState

@@ -1,5 +1,15 @@
 pub mod WordLaws
 pub mod StepLines
-pub mod Schedules
-pub mod Headings
+pub mod ProofWords
+pub mod WordsRead
+pub mod LinesRead
+pub mod Items
+pub mod Fronts
 pub mod Exact
+pub mod Schedules
+pub mod Claims
+pub mod ProofLines
+pub mod Nodes
+pub mod Headings
+pub mod TreeDepths
+pub mod Writings

@@ -1,41 +1,50 @@
 -- What the loop over the lines of a schedule's steps keeps, and where it stops.
-use Rattle.std.proofs.Common.{◌≡◌, ◌≢◌, ℕ, ◌+◌, ◌<◌, ◌≤◌, List, [], ◌∷◌, ◌++◌, length, get_or, take, map, refl, sym, ap, subst, ◌∙◌, append_assoc, arith, inl, inr, ◌⊎◌}
+use Rattle.std.proofs.Common.{◌≡◌, ◌≢◌, ℕ, ◌+◌, ◌-◌, ◌<◌, ◌≤◌, List, [], ◌∷◌, ◌++◌, length, get_or, take, map, refl, sym, ap, subst, ◌∙◌, append_assoc, arith, inl, inr, ◌⊎◌}
 use Rattle.std.specs.Prelude.{codes, All}
 use Rattle.std.specs.List.{flat_map}
-use Rattle.std.proofs.lemmas.List.{map_push, length-append, length-map, take_more, flat_map_more, get_or-map}
+use Rattle.std.proofs.Math.Seq.{get_or-append_seam}
+use Rattle.std.proofs.lemmas.List.{map_push, length-append, length-map, length-take, take_more, flat_map_more, get_or-map}
 use Rattle.std.proofs.lemmas.List.Concat.{flat_map-cons}
 use Rattle.std.proofs.lemmas.List.Folds.{flat_map-map}
-use Rattle.std.proofs.lemmas.List.Elements.{All-push, All-head, All-tail, All-map}
+use Rattle.std.proofs.lemmas.List.Elements.{All-push, All-map}
 use Rattle.plaintext.specs.Plain.{text_lines}
-use Rattle.plaintext.specs.Fronts.{CanBegin}
+use Rattle.plaintext.specs.Fronts.{to_end, BeginsWith}
 use Rattle.plaintext.proofs.Cuts.{no_line_of}
-use Rattle.plaintext.proofs.FirstFaults.{heads}
 use Rattle.semantics.specs.declared.state.Step.{Step}
 use Rattle.prooflog.specs.declared.evidence.Evidence.TheVariants.{Schedule}
 use Rattle.prooflog.specs.declared.fault.EvidenceFault.TheVariants.{Syntax, Range, TooLarge}
 use Rattle.prooflog.specs.declared.step.WrittenStep.{WrittenStep}
-use Rattle.prooflog.specs.Steps.{written, step_words, step_line, IsStepInRange, IsWrittenSchedule, IsSchedule}
-use Rattle.prooflog.specs.Grammar.{heading_line, schedule_line, IsEvidenceText}
-use Rattle.prooflog.specs.Reading.{StepsHaveShape, StepsAreInRange, StepsCanGoOn, HasStepsFault}
+use Rattle.prooflog.specs.Steps.{written, step_words, step_line, IsStepInRange, IsSchedule}
+use Rattle.prooflog.specs.Refutations.{item_line, items}
+use Rattle.prooflog.specs.Grammar.{Written, as_schedule, as_refutation, heading_line, schedule_line, refutation_line, written_lines, IsEvidenceText}
+use Rattle.prooflog.specs.Fault.{IsRanged, IsFew, CanGoOn}
+use Rattle.prooflog.specs.Reading.{HasFaultAfter}
 use Rattle.prooflog.proofs.StepLines.{step_line_injective, step_line_nonempty}
+use Rattle.prooflog.proofs.Fronts.{Next, next_or_end, stops_syntax, stops_range, stops_large}
+use Rattle.prooflog.proofs.Exact.{kinds_differ, below_heading}
 
--- after the lines of some steps comes another step's line, or the end
-step_or_end : (steps done : List WrittenStep) (line : List ℕ) (more : List (List ℕ)) → map step_line steps ++ [] ∷ [] ≡ map step_line done ++ line ∷ more
-    → ((step : WrittenStep) × (step_line step ≡ line) × (length done < length steps) × (All IsStepInRange steps → IsStepInRange step)) ⊎ (line ≡ [])
-step_or_end [] [] line more e = inr (sym (heads [] line [] more e).0)
-step_or_end [] (d ∷ done) line more e = absurd (step_line_nonempty d (sym (heads [] (step_line d) [] (map step_line done ++ line ∷ more) e).0))
-step_or_end (s ∷ steps) [] line more e = inl (s, (heads (step_line s) line (map step_line steps ++ [] ∷ []) more e).0, omega arith, λ all. All-head IsStepInRange s steps all)
-step_or_end (s ∷ steps) (d ∷ done) line more e =
-    elim (step_or_end steps done line more (heads (step_line s) (step_line d) (map step_line steps ++ [] ∷ []) (map step_line done ++ line ∷ more) e).1) [
-      | inl x ↦ inl (x.0, x.1, omega (arith, x.2), λ all. x.3 (All-tail IsStepInRange s steps all))
-      | inr x ↦ inr x
-    ]
+-- the lines above the steps
+abbrev pub above_steps : List (List ℕ)
+above_steps = heading_line ∷ schedule_line ∷ []
 
--- the same of a front of some schedule
-next_line_of : (Keeps : List WrittenStep → Type 0) (done : List WrittenStep) (line : List ℕ) → CanBegin (List WrittenStep) Keeps (map step_line) (map step_line done ++ line ∷ [])
-    → (steps : List WrittenStep) × Keeps steps × (((step : WrittenStep) × (step_line step ≡ line) × (length done < length steps) × (All IsStepInRange steps → IsStepInRange step)) ⊎ (line ≡ []))
-next_line_of Keeps done line (steps, keeps, (more, e)) =
-    (steps, keeps, step_or_end steps done line more (e ∙ append_assoc (map step_line done) (line ∷ []) more))
+-- what begins with the lines of some steps is a schedule, and goes on with another step or ends
+pub record NextStep (w : Written) (done : List WrittenStep) (line : List ℕ) : Type 0 where
+  pub all : List WrittenStep
+  pub is : w ≡ as_schedule all
+  pub next : Next step_line all done line ⊎ ((line ≡ []) × (all ≡ done))
+
+next_step : (w : Written) (done : List WrittenStep) (line : List ℕ) → BeginsWith ((above_steps ++ map step_line done) ++ line ∷ []) (to_end (written_lines w)) → NextStep w done line
+next_step (as_schedule ss) done line (more, e) =
+    let below = below_heading (map step_line ss ++ [] ∷ []) ((map step_line done ++ line ∷ []) ++ more) schedule_line schedule_line e in
+    record { all = ss; is = refl; next = next_or_end step_line step_line_injective step_line_nonempty ss done line more (below.1 ∙ append_assoc (map step_line done) (line ∷ []) more) }
+next_step (as_refutation r) done line (more, e) =
+    absurd (kinds_differ r.variables r.clauses (sym (below_heading (map item_line (items r) ++ [] ∷ []) ((map step_line done ++ line ∷ []) ++ more) (refutation_line r.variables r.clauses) schedule_line e).0))
+
+-- one of the steps is in range where all are
+step_in_all : (all done : List WrittenStep) (step : WrittenStep) (others : List WrittenStep) → all ≡ done ++ step ∷ others → All IsStepInRange all → IsStepInRange step
+step_in_all all done step others cut in_range =
+    subst IsStepInRange (ap (λ (ws : List WrittenStep). get_or ws (length done) step) cut ∙ get_or-append_seam done step others step)
+    (in_range (length done) step (omega (arith, ap length cut, length-append done (step ∷ others))))
 
 -- ---- the loop
 
@@ -73,42 +82,47 @@ module _ (bytes rest : List ℕ) (number : ℕ) (steps : List Step) (so : SoFar 
   cut : text_lines bytes ≡ map step_line (map written steps) ++ line ∷ after
   cut = so.cut ∙ ap (λ (ls : List (List ℕ)). map step_line (map written steps) ++ ls) next
 
-  good : StepsCanGoOn (map step_line (map written steps))
-  good = (map written steps, so.limits, ([] ∷ [], refl))
+  good : CanGoOn (above_steps ++ map step_line (map written steps))
+  good =
+      let few : length (take (length (above_steps ++ map step_line (map written steps)) - 2) (map written steps)) ≤ 4096 =
+      omega (arith, so.limits.few, length-take (length (above_steps ++ map step_line (map written steps)) - 2) (map written steps)) in
+      (as_schedule (map written steps), (so.limits.in_range, few), ([] ∷ [], refl))
 
-  at : number ≡ 2 + length (map step_line (map written steps)) + 1
+  at : number ≡ length above_steps + length (map step_line (map written steps)) + 1
   at = omega (arith, so.place, length-map (map written steps) step_line, length-map steps written)
 
-  shape_of : (step : WrittenStep) → step_line step ≡ line → map step_line (map written steps ++ step ∷ []) ++ [] ∷ [] ≡ (map step_line (map written steps) ++ line ∷ []) ++ [] ∷ []
-  shape_of step spelled =
-      ap (λ (ls : List (List ℕ)). ls ++ [] ∷ []) (map_push step_line (map written steps) step ∙ ap (λ (l : List ℕ). map step_line (map written steps) ++ l ∷ []) spelled)
+  with_step : (step : WrittenStep) → step_line step ≡ line → BeginsWith ((above_steps ++ map step_line (map written steps)) ++ line ∷ []) (to_end (written_lines (as_schedule (map written steps ++ step ∷ []))))
+  with_step step spelled =
+      ([] ∷ [], ap (λ (ls : List (List ℕ)). to_end (heading_line ∷ schedule_line ∷ ls)) (map_push step_line (map written steps) step ∙ ap (λ (l : List ℕ). map step_line (map written steps) ++ l ∷ []) spelled))
 
-  pub stop_syntax : ((step : WrittenStep) → step_line step ≢ line) → line ≢ [] → HasStepsFault bytes (Syntax number)
-  stop_syntax no_step no_end =
-      let shape : StepsHaveShape (map step_line (map written steps) ++ line ∷ []) → ⊥ = λ front. elim (next_line_of (λ _. Unit {0}) (map written steps) line front).2 [
-        | inl x ↦ no_step x.0 x.1
-        | inr x ↦ no_end x
-      ] in
-      (map step_line (map written steps), line, record { cut = (after, cut); good = good; bad = λ (v, keeps, begins). shape (v, tt, begins) }, (at, shape))
+  pub stop_syntax : ((step : WrittenStep) → step_line step ≢ line) → line ≢ [] → HasFaultAfter above_steps bytes (Syntax number)
+  stop_syntax no_step no_end = stops_syntax above_steps bytes (map step_line (map written steps)) line after cut good number at (λ (w, keeps, begins). elim (next_step w (map written steps) line begins).next [
+    | inl x ↦ no_step x.value x.spelled
+    | inr x ↦ no_end x.0
+  ])
 
-  pub stop_range : (step : WrittenStep) → step_line step ≡ line → (IsStepInRange step → ⊥) → HasStepsFault bytes (Range number)
+  pub stop_range : (step : WrittenStep) → step_line step ≡ line → (IsStepInRange step → ⊥) → HasFaultAfter above_steps bytes (Range number)
   stop_range step spelled over =
-      let out : StepsAreInRange (map step_line (map written steps) ++ line ∷ []) → ⊥ = λ front. let found = next_line_of (All IsStepInRange) (map written steps) line front in elim found.2 [
-        | inl x ↦ over (subst IsStepInRange (step_line_injective x.0 step (x.1 ∙ sym spelled)) (x.3 found.1))
-        | inr x ↦ step_line_nonempty step (spelled ∙ x)
-      ] in
-      (map step_line (map written steps), line, record { cut = (after, cut); good = good; bad = λ (v, keeps, begins). out (v, keeps.in_range, begins) }, (at, (map written steps ++ step ∷ [], tt, ([] ∷ [], shape_of step spelled)), out))
+      stops_range above_steps bytes (map step_line (map written steps)) line after cut good number at (as_schedule (map written steps ++ step ∷ []), tt, with_step step spelled) (λ (w, keeps, begins).
+      let found = next_step w (map written steps) line begins in
+      elim found.next [
+        | inl x ↦ over (subst IsStepInRange (step_line_injective x.value step (x.spelled ∙ sym spelled)) (step_in_all found.all (map written steps) x.value x.others x.cut (subst IsRanged found.is keeps)))
+        | inr x ↦ step_line_nonempty step (spelled ∙ x.0)
+      ])
 
-  pub stop_large : (step : WrittenStep) → step_line step ≡ line → IsStepInRange step → 4096 ≤ length steps → HasStepsFault bytes TooLarge
+  pub stop_large : (step : WrittenStep) → step_line step ≡ line → IsStepInRange step → 4096 ≤ length steps → HasFaultAfter above_steps bytes TooLarge
   stop_large step spelled fits full =
-      let bad : StepsCanGoOn (map step_line (map written steps) ++ line ∷ []) → ⊥ = λ front. let found = next_line_of IsWrittenSchedule (map written steps) line front in elim found.2 [
-        | inl x ↦ omega (arith, x.2, full, length-map steps written, found.1.few)
-        | inr x ↦ step_line_nonempty step (spelled ∙ x)
-      ] in
-      (map step_line (map written steps), line, record { cut = (after, cut); good = good; bad = bad }, (map written steps ++ step ∷ [], All-push IsStepInRange (map written steps) step so.limits.in_range fits, ([] ∷ [], shape_of step spelled)))
+      stops_large above_steps bytes (map step_line (map written steps)) line after cut good (as_schedule (map written steps ++ step ∷ []), All-push IsStepInRange (map written steps) step so.limits.in_range fits, with_step step spelled) (λ (w, keeps, begins).
+      let found = next_step w (map written steps) line begins in
+      let front : List (List ℕ) = (above_steps ++ map step_line (map written steps)) ++ line ∷ [] in
+      let few : length (take (length front - 2) found.all) ≤ 4096 = subst (IsFew (length front)) found.is keeps.1 in
+      elim found.next [
+        | inl x ↦ omega (arith, few, full, length-take (length front - 2) found.all, ap length x.cut, length-append (map written steps) (x.value ∷ x.others), length-append (map step_line (map written steps)) (line ∷ []), length-map (map written steps) step_line, length-map steps written)
+        | inr x ↦ step_line_nonempty step (spelled ∙ x.0)
+      ])
 
 -- a last line that lacks its LF
-pub unended : (bytes rest : List ℕ) (number : ℕ) (steps : List Step) → SoFar bytes rest number steps → text_lines rest ≡ rest ∷ [] → rest ≢ [] → HasStepsFault bytes (Syntax number)
+pub unended : (bytes rest : List ℕ) (number : ℕ) (steps : List Step) → SoFar bytes rest number steps → text_lines rest ≡ rest ∷ [] → rest ≢ [] → HasFaultAfter above_steps bytes (Syntax number)
 unended bytes rest number steps so one some = stop_syntax bytes rest number steps so rest [] one (λ step e. no_line_of rest (step_words step) one e) some
 
 -- ---- schedules as the machine has them

@@ -1,41 +1,53 @@
 -- What is wrong with bytes that are no evidence's text: their first faulty line, and why it can't stand there.
-use Rattle.std.specs.Prelude.{◌≡◌, ◌≢◌, ℕ, ◌+◌, List, [], ◌∷◌, ◌++◌, length, All}
-use Rattle.plaintext.specs.Fronts.{CanBegin, IsFirstFaultyLine}
+use Rattle.std.specs.Prelude.{◌≡◌, ◌≢◌, ℕ, ◌+◌, ◌-◌, ◌≤◌, IsTrue, List, [], ◌∷◌, ◌++◌, length, take, All}
+use Rattle.plaintext.specs.Fronts.{to_end, BeginsWith, CanBegin, IsFirstFaultyLine}
+use Rattle.refutations.specs.Proofs.{is_tree}
 use Rattle.prooflog.specs.declared.fault.EvidenceFault.{EvidenceFault}
 use Rattle.prooflog.specs.declared.fault.EvidenceFault.TheVariants.{Memory, Syntax, Range, TooLarge}
 use Rattle.prooflog.specs.declared.evidence.Evidence.{Evidence}
-use Rattle.prooflog.specs.declared.step.WrittenStep.{WrittenStep}
-use Rattle.prooflog.specs.Steps.{IsStepInRange, IsWrittenSchedule}
-use Rattle.prooflog.specs.Grammar.{schedule_lines, IsEvidenceText}
+use Rattle.prooflog.specs.Steps.{IsStepInRange}
+use Rattle.prooflog.specs.Refutations.{IsInRangeRefutation, IsSmall}
+use Rattle.prooflog.specs.Grammar.{Written, as_schedule, as_refutation, written_lines, IsEvidenceText}
 
--- Some schedule with numbers of any size and any count of steps begins so.
+-- The nodes of a refutation are those of one tree.
+abbrev pub IsShaped : Written → Type 0
+IsShaped (as_schedule ss) = Unit {0}
+IsShaped (as_refutation r) = IsTrue (is_tree r.nodes)
+
+-- Besides that, all numbers are in range.
+abbrev pub IsRanged : Written → Type 0
+IsRanged (as_schedule ss) = All IsStepInRange ss
+IsRanged (as_refutation r) = IsInRangeRefutation r
+
+-- What stands on so many of the first lines is not too large: at most 4,096 steps, or so few proof lines and so few nodes, and no node too deep.
+-- The two headings stand above all, and the line `tree` above the nodes.
+abbrev pub IsFew : ℕ → Written → Type 0
+IsFew count (as_schedule ss) = length (take (count - 2) ss) ≤ 4096
+IsFew count (as_refutation r) = IsSmall (take (count - 2) r.lines) (take (count - (3 + length r.lines)) r.nodes)
+
+-- Some evidence with numbers of any size and any count of lines begins so.
 abbrev pub HasShape : List (List ℕ) → Type 0
-HasShape = CanBegin (List WrittenStep) (λ _. Unit {0}) schedule_lines
+HasShape = CanBegin Written IsShaped written_lines
 
--- Some schedule with numbers in range and any count of steps begins so.
+-- Some evidence with numbers in range and any count of lines begins so.
 abbrev pub IsInRange : List (List ℕ) → Type 0
-IsInRange = CanBegin (List WrittenStep) (All IsStepInRange) schedule_lines
+IsInRange = CanBegin Written IsRanged written_lines
 
--- Some schedule within all limits begins so.
+-- Some evidence with numbers in range begins so, and so far it is not too large.
 abbrev pub CanGoOn : List (List ℕ) → Type 0
-CanGoOn = CanBegin (List WrittenStep) IsWrittenSchedule schedule_lines
+CanGoOn front = (w : Written) × (IsRanged w × IsFew (length front) w) × BeginsWith front (to_end (written_lines w))
 
--- Why the line can't stand after those before it, by which of the three fronts it leaves. Lines count from 1, and so many stand above these.
-abbrev pub IsWhy : (shape in_range : List (List ℕ) → Type 0) → ℕ → EvidenceFault → List (List ℕ) → List ℕ → Type 0
-IsWhy shape in_range above Memory before line = ⊥
-IsWhy shape in_range above (Syntax number) before line = (number ≡ above + length before + 1) × ¬ shape (before ++ line ∷ [])
-IsWhy shape in_range above (Range number) before line = (number ≡ above + length before + 1) × shape (before ++ line ∷ []) × ¬ in_range (before ++ line ∷ [])
-IsWhy shape in_range above TooLarge before line = in_range (before ++ line ∷ [])
+-- Why the line can't stand after those before it. Lines count from 1.
+abbrev pub IsWhy : EvidenceFault → List (List ℕ) → List ℕ → Type 0
+IsWhy Memory before line = ⊥
+IsWhy (Syntax number) before line = (number ≡ length before + 1) × ¬ HasShape (before ++ line ∷ [])
+IsWhy (Range number) before line = (number ≡ length before + 1) × HasShape (before ++ line ∷ []) × ¬ IsInRange (before ++ line ∷ [])
+IsWhy TooLarge before line = IsInRange (before ++ line ∷ [])
 
--- The fault of bytes that are to be a text of three languages of fronts: the first faulty line, and why. Want of memory may always be.
-abbrev pub IsFaultBy : (shape in_range can_go_on : List (List ℕ) → Type 0) → ℕ → List ℕ → EvidenceFault → Type 0
-IsFaultBy shape in_range can_go_on above bytes Memory = Unit {0}
-IsFaultBy shape in_range can_go_on above bytes fault =
-    (before : List (List ℕ)) × (line : List ℕ) × IsFirstFaultyLine can_go_on bytes before line × IsWhy shape in_range above fault before line
-
--- The bytes have this fault.
+-- The bytes have this fault: their first faulty line, and why. Want of memory may always be.
 abbrev pub HasEvidenceFault : List ℕ → EvidenceFault → Type 0
-HasEvidenceFault bytes fault = IsFaultBy HasShape IsInRange CanGoOn 0 bytes fault
+HasEvidenceFault bytes Memory = Unit {0}
+HasEvidenceFault bytes fault = (before : List (List ℕ)) × (line : List ℕ) × IsFirstFaultyLine CanGoOn bytes before line × IsWhy fault before line
 
 -- A text has one value.
 abbrev pub OneValue : Type 0

@@ -1,11 +1,17 @@
 -- The text of an evidence. An evidence has one text: its lines, each with its LF.
 use Rattle.std.specs.Prelude.{codes, ◌≡◌, ℕ, List, [], ◌∷◌, map}
 use Rattle.std.specs.List.{flat_map}
-use Rattle.plaintext.specs.Plain.{line_of}
+use Rattle.plaintext.specs.Plain.{numeral, line_of}
 use Rattle.prooflog.specs.declared.evidence.Evidence.{Evidence}
-use Rattle.prooflog.specs.declared.evidence.Evidence.TheVariants.{Schedule}
+use Rattle.prooflog.specs.declared.evidence.Evidence.TheVariants.{Schedule, Refutation}
 use Rattle.prooflog.specs.declared.step.WrittenStep.{WrittenStep}
 use Rattle.prooflog.specs.Steps.{written, step_line, IsSchedule}
+use Rattle.prooflog.specs.Refutations.{ClaimedRefutation, item_line, items, IsRefutation}
+
+-- What evidence texts are written from: a schedule's steps, or a refutation. Numbers may have any size here.
+pub data Written : Type 0 where
+  as_schedule : List WrittenStep → Written
+  as_refutation : ClaimedRefutation → Written
 
 -- The first line of each evidence is `evidence 1`.
 abbrev pub heading_line : List ℕ
@@ -15,19 +21,26 @@ heading_line = line_of (codes "evidence" ∷ codes "1" ∷ [])
 abbrev pub schedule_line : List ℕ
 schedule_line = line_of (codes "schedule" ∷ [])
 
--- A schedule's lines are the two headings, and then one line for each step.
-abbrev pub schedule_lines : List WrittenStep → List (List ℕ)
-schedule_lines steps = heading_line ∷ schedule_line ∷ map step_line steps
+-- The second line of a refutation is `refutation V C`, with the formula's number of variables and of clauses.
+abbrev pub refutation_line : ℕ → ℕ → List ℕ
+refutation_line variables clauses = line_of (codes "refutation" ∷ numeral variables ∷ numeral clauses ∷ [])
 
--- An evidence is written by the lines of its kind.
-abbrev pub evidence_lines : Evidence → List (List ℕ)
-evidence_lines (Schedule steps) = schedule_lines (map written steps)
+-- After the two headings each step of a schedule and each item of a refutation has its line.
+abbrev pub written_lines : Written → List (List ℕ)
+written_lines (as_schedule ss) = heading_line ∷ schedule_line ∷ map step_line ss
+written_lines (as_refutation r) = heading_line ∷ refutation_line r.variables r.clauses ∷ map item_line (items r)
+
+-- An evidence is written so.
+abbrev pub written_of : Evidence → Written
+written_of (Schedule ss) = as_schedule (map written ss)
+written_of (Refutation r) = as_refutation r
 
 -- An evidence is within the limits of its kind.
 abbrev pub IsWithinLimits : Evidence → Type 0
-IsWithinLimits (Schedule steps) = IsSchedule steps
+IsWithinLimits (Schedule ss) = IsSchedule ss
+IsWithinLimits (Refutation r) = IsRefutation r
 
 -- The bytes are the text of the evidence: it is within the limits, and the bytes are its lines, one after another.
 pub record IsEvidenceText (bytes : List ℕ) (evidence : Evidence) : Type 0 where
   pub limits : IsWithinLimits evidence
-  pub text : bytes ≡ flat_map (λ line. line) (evidence_lines evidence)
+  pub text : bytes ≡ flat_map (λ line. line) (written_lines (written_of evidence))

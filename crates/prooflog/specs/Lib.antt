@@ -1,4 +1,7 @@
 pub mod Steps
+pub mod Refutations
 pub mod Grammar
 pub mod Fault
 pub mod Reading
+pub mod Writing
+pub mod Depths

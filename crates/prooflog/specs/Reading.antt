@@ -1,12 +1,21 @@
 -- What the reader's parts say of a line and of the rest of a text.
-use Rattle.std.specs.Prelude.{ℕ, List, [], map, min, All, Option, Some, None, ◌==◌}
-use Rattle.std.specs.List.{slice_split}
+use Rattle.std.specs.Prelude.{codes, ◌≡◌, ◌≢◌, ◌↔◌, ℕ, ◌≤◌, Bool, IsTrue, List, [], ◌∷◌, ◌++◌, length, map, min, Option, Some, None, ◌==◌}
+use Rattle.std.specs.List.{slice_split, AllByRecursion, list_all}
+use Rattle.plaintext.specs.Plain.{numeral}
+use Rattle.plaintext.specs.Fronts.{IsFirstFaultyLine}
+use Rattle.clauses.specs.Clauses.{Literal}
+use Rattle.refutations.specs.Proofs.{ProofLine}
+use Rattle.refutations.specs.declared.tree.Node.{Node}
+use Rattle.refutations.specs.declared.tree.Node.TheVariants.{Split, Leaf}
 use Rattle.prooflog.specs.declared.fault.EvidenceFault.{EvidenceFault}
+use Rattle.prooflog.specs.declared.fault.EvidenceFault.TheVariants.{Memory}
+use Rattle.prooflog.specs.declared.proof_line.Unread.{Unread}
+use Rattle.prooflog.specs.declared.proof_line.Unread.TheVariants as unread
 use Rattle.prooflog.specs.declared.step.WrittenStep.{WrittenStep}
 use Rattle.prooflog.specs.declared.step.WrittenStep.TheVariants.{Issue, Match}
-use Rattle.prooflog.specs.Steps.{step_line, IsStepInRange, IsWrittenSchedule}
-use Rattle.plaintext.specs.Fronts.{CanBegin}
-use Rattle.prooflog.specs.Fault.{IsFaultBy}
+use Rattle.prooflog.specs.Refutations.{proof_words, is_line_in_range, item_line, a_proof, the_tree}
+use Rattle.prooflog.specs.Grammar.{heading_line, refutation_line}
+use Rattle.prooflog.specs.Fault.{CanGoOn, IsWhy}
 
 -- what stands between the spaces of a line
 abbrev pub words_of : List ℕ → List (List ℕ)
@@ -17,23 +26,58 @@ abbrev pub words_after : Option (List ℕ) → List (List ℕ)
 words_after None = []
 words_after (Some others) = words_of others
 
--- a step as it is first read: each number above 2,147,483,647 as 2,147,483,648
+-- a number as it is first read: each above 2,147,483,647 as 2,147,483,648
+abbrev pub capped : ℕ → ℕ
+capped n = min n 2147483648
+
 abbrev pub capped_step : WrittenStep → WrittenStep
-capped_step (Issue rank buffered) = Issue (min rank 2147483648) buffered
-capped_step (Match send taker) = Match (min send 2147483648) (min taker 2147483648)
+capped_step (Issue rank buffered) = Issue (capped rank) buffered
+capped_step (Match send taker) = Match (capped send) (capped taker)
 
--- what follows the two headings of a schedule begins so: with numbers of any size and any count of steps
-abbrev pub StepsHaveShape : List (List ℕ) → Type 0
-StepsHaveShape = CanBegin (List WrittenStep) (λ _. Unit {0}) (map step_line)
+abbrev pub capped_node : Node → Node
+capped_node (Split variable) = Split (capped variable)
+capped_node (Leaf number) = Leaf (capped number)
 
--- with numbers in range and any count of steps
-abbrev pub StepsAreInRange : List (List ℕ) → Type 0
-StepsAreInRange = CanBegin (List WrittenStep) (All IsStepInRange) (map step_line)
+-- the variable is one that a literal may have
+abbrev pub IsVariable : Literal → Type 0
+IsVariable l = (1 ≤ l.variable) × (l.variable ≤ 2147483647)
 
--- within all limits
-abbrev pub StepsCanGoOn : List (List ℕ) → Type 0
-StepsCanGoOn = CanBegin (List WrittenStep) IsWrittenSchedule (map step_line)
+-- a literal as it is first read: none where its variable is out of range
+abbrev pub IsReadLiteral : Option Literal → Literal → Type 0
+IsReadLiteral None l = IsVariable l → ⊥
+IsReadLiteral (Some found) l = (found ≡ l) × IsVariable l
 
--- the fault of bytes that are to follow the two headings of a schedule
-abbrev pub HasStepsFault : List ℕ → EvidenceFault → Type 0
-HasStepsFault bytes fault = IsFaultBy StepsHaveShape StepsAreInRange StepsCanGoOn 2 bytes fault
+-- literals as they are first read: whether all are in range, and themselves where they are
+abbrev pub AreRead : Bool → List Literal → List Literal → Type 0
+AreRead in_range found ls = (IsTrue in_range ↔ AllByRecursion IsVariable ls) × (IsTrue in_range → found ≡ ls)
+
+-- why the words are no proof line within the limits
+abbrev pub IsUnread : List (List ℕ) → Unread → Type 0
+IsUnread words unread.Memory = Unit {0}
+IsUnread words unread.Syntax = (l : ProofLine) → proof_words l ≢ words
+IsUnread words unread.Range = (l : ProofLine) × (proof_words l ≡ words) × (IsTrue (is_line_in_range l) → ⊥)
+
+-- the words of a refutation's heading
+abbrev pub counts_words : ℕ → ℕ → List (List ℕ)
+counts_words variables clauses = codes "refutation" ∷ numeral variables ∷ numeral clauses ∷ []
+
+-- the fault of bytes that follow these lines of an evidence's text
+abbrev pub HasFaultAfter : List (List ℕ) → List ℕ → EvidenceFault → Type 0
+HasFaultAfter above bytes Memory = Unit {0}
+HasFaultAfter above bytes fault =
+    (before : List (List ℕ)) × (line : List ℕ) × IsFirstFaultyLine (λ front. CanGoOn (above ++ front)) bytes before line × IsWhy fault (above ++ before) line
+
+-- the lines above the proof lines of a refutation
+abbrev pub opening : ℕ → ℕ → List (List ℕ)
+opening variables clauses = heading_line ∷ refutation_line variables clauses ∷ []
+
+-- the lines above the nodes of a refutation
+abbrev pub above_tree : ℕ → ℕ → List ProofLine → List (List ℕ)
+above_tree variables clauses lines = opening variables clauses ++ map item_line (map a_proof lines ++ the_tree ∷ [])
+
+-- what stands above the nodes is within the limits
+pub record FitsAbove (variables clauses : ℕ) (lines : List ProofLine) : Type 0 where
+  pub variables_in_range : variables ≤ 2147483647
+  pub clauses_in_range : clauses ≤ 2147483647
+  pub lines_in_range : IsTrue (list_all is_line_in_range lines)
+  pub few : length lines ≤ 1000000

@@ -17,11 +17,13 @@ pub enum EvidenceFault {
     /// is told as the number of lines plus one, and one without its LF is Syntax too.
     #[error("evidence line {line} syntax")]
     Syntax { line: u32 },
-    /// The line has a shape that may stand here, and a number out of its range: ranks are at most
-    /// 2,147,483,647, and numbers of calls from 1 to 2,147,483,647.
+    /// The line has a shape that may stand here, and a number out of its range, or literals whose
+    /// variables don't rise strictly. Ranks, and the counts of variables and clauses in the heading,
+    /// are at most 2,147,483,647; all other numbers are from 1 to 2,147,483,647.
     #[error("evidence line {line} range")]
     Range { line: u32 },
-    /// The line may stand here but for the number of lines: it is step 4,097.
+    /// The line may stand here but for a limit: it is step 4,097, proof line 1,000,001 or node
+    /// 65,537, or a node deeper than 64, where the root's depth is 0.
     #[error("evidence too large")]
     TooLarge,
 }

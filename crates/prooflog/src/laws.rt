@@ -1,5 +1,6 @@
-//! What texts, values and faults are to one another, apart from any reader.
+//! What texts, values and faults are to one another, apart from any reader, and how deep nodes stand.
 
+ghost use Rattle.prooflog.specs.Depths.{DepthsAreOfTheTree};
 ghost use Rattle.prooflog.specs.Fault.{OneFault, OneValue, TextHasNoFault};
 
 /// Bytes are the text of at most one evidence.
@@ -15,4 +16,10 @@ pub fn text_has_no_fault()
 /// Bytes have at most one fault besides want of memory.
 pub fn one_fault()
     ensures { OneFault }
+{}
+
+/// The depths of a tree's nodes, as the limits count them, are those of the tree: the root's is 0,
+/// and a child's is one more than its parent's.
+pub fn depths_are_of_the_tree()
+    ensures { DepthsAreOfTheTree }
 {}

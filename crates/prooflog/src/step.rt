@@ -8,11 +8,9 @@ ghost use Rattle.prooflog.specs.Reading.{words_of, words_after, capped_step};
 
 use crate::words::cut_word;
 use plaintext::{is_word, number_of, put_number};
+use refutations::LARGEST_NUMBER;
 use semantics::Step;
 use std::alloc::AllocError;
-
-/// The largest number in a text.
-const MOST_NUMBER: u32 = 2_147_483_647;
 
 /// A step as its line has it: ranks from 0, and numbers of calls from 1.
 #[derive(Clone, Copy, Debug)]
@@ -62,13 +60,13 @@ pub fn step_in_range(step: WrittenStep) -> Option<Step>
 {
     match step {
         WrittenStep::Issue { rank, buffered } => {
-            if rank > MOST_NUMBER {
+            if rank > LARGEST_NUMBER {
                 return None;
             }
             Some(Step::Issue { rank, buffered })
         }
         WrittenStep::Match { send, taker } => {
-            if send < 1 || send > MOST_NUMBER || taker < 1 || taker > MOST_NUMBER {
+            if send < 1 || send > LARGEST_NUMBER || taker < 1 || taker > LARGEST_NUMBER {
                 return None;
             }
             Some(Step::Match {
@@ -84,9 +82,9 @@ pub fn is_in_range(step: Step) -> bool
     ensures { IsTrue result ↔ IsStepInRange (written step) }
 {
     match step {
-        Step::Issue { rank, .. } => rank <= MOST_NUMBER,
+        Step::Issue { rank, .. } => rank <= LARGEST_NUMBER,
         Step::Match { send, taker } => {
-            send < MOST_NUMBER as usize && taker < MOST_NUMBER as usize
+            send < LARGEST_NUMBER as usize && taker < LARGEST_NUMBER as usize
         }
     }
 }

@@ -1,13 +1,22 @@
 //! The writer.
 
-ghost use Rattle.std.specs.Prelude.{◌≡◌, ◌++◌, IfOk, OnOk, map};
+ghost use Rattle.std.specs.Prelude.{◌≡◌, ◌++◌, ◌∷◌, [], List, IfOk, OnOk, map};
 ghost use Rattle.std.specs.List.{flat_map};
+ghost use Rattle.plaintext.specs.Plain.{numeral};
+ghost use Rattle.refutations.specs.Proofs.{ProofLine};
 ghost use Rattle.prooflog.specs.Steps.{step_line, written, IsSchedule};
+ghost use Rattle.prooflog.specs.Refutations.{literal_word, item_line, a_proof, a_node};
+ghost use Rattle.prooflog.specs.Writing.{spaced};
 ghost use Rattle.prooflog.specs.Grammar.{IsEvidenceText};
 
 use crate::evidence::Evidence;
+use crate::node::put_node;
+use crate::refutation::Refutation;
 use crate::schedule::Schedule;
 use crate::step::{put_step, written};
+use clauses::Lit;
+use plaintext::put_number;
+use refutations::{Line, Node};
 use semantics::Step;
 use std::alloc::{AllocError, Global};
 
@@ -32,11 +41,88 @@ fn write_schedule(alloc: Global, schedule: &Schedule) -> Result<Vec<u8>, AllocEr
     Ok(out)
 }
 
+/// Writes a space and the literal's word at the end.
+fn put_literal(out: &mut Vec<u8>, literal: &Lit) -> Result<(), AllocError>
+    ensures { OnOk result (out.new.items ≡ out.old.items ++ spaced (literal_word literal.now ∷ [])) }
+{
+    out.push(b' ')?;
+    if !literal.is_positive() {
+        out.push(b'-')?;
+    }
+    put_number(out, literal.variable())
+}
+
+fn put_literals(out: &mut Vec<u8>, literals: &[Lit]) -> Result<(), AllocError>
+    ensures { OnOk result (out.new.items ≡ out.old.items ++ spaced (map literal_word literals.now)) }
+{
+    for literal in literals {
+        put_literal(out, literal)?;
+    }
+    Ok(())
+}
+
+fn put_hints(out: &mut Vec<u8>, hints: &[u32]) -> Result<(), AllocError>
+    ensures { OnOk result (out.new.items ≡ out.old.items ++ spaced (map numeral hints.now)) }
+{
+    for hint in hints {
+        out.push(b' ')?;
+        put_number(out, *hint)?;
+    }
+    Ok(())
+}
+
+/// Writes the proof line's line at the end.
+fn put_line(out: &mut Vec<u8>, line: &Line) -> Result<(), AllocError>
+    ensures { OnOk result (out.new.items ≡ out.old.items ++ item_line (a_proof line.now)) }
+{
+    out.extend_from_slice(b"line")?;
+    put_literals(out, line.literals())?;
+    out.extend_from_slice(b" :")?;
+    put_hints(out, line.hints())?;
+    out.push(b'\n')?;
+    Ok(())
+}
+
+fn put_lines(out: &mut Vec<u8>, lines: &[Line]) -> Result<(), AllocError>
+    ensures { OnOk result (out.new.items ≡ out.old.items ++ flat_map item_line (map a_proof lines.now)) }
+{
+    for line in lines {
+        put_line(out, line)?;
+    }
+    Ok(())
+}
+
+fn put_nodes(out: &mut Vec<u8>, nodes: &[Node]) -> Result<(), AllocError>
+    ensures { OnOk result (out.new.items ≡ out.old.items ++ flat_map item_line (map a_node nodes.now)) }
+{
+    for node in nodes {
+        put_node(out, *node)?;
+    }
+    Ok(())
+}
+
+/// The text of the refutation.
+fn write_refutation(alloc: Global, refutation: &Refutation) -> Result<Vec<u8>, AllocError>
+    ensures { IfOk result (λ text. IsEvidenceText text.items (Evidence.Refutation refutation.now)) }
+{
+    let mut out = Vec::new(alloc);
+    out.extend_from_slice(b"evidence 1\nrefutation ")?;
+    put_number(&mut out, refutation.variables())?;
+    out.push(b' ')?;
+    put_number(&mut out, refutation.clauses())?;
+    out.push(b'\n')?;
+    put_lines(&mut out, refutation.lines())?;
+    out.extend_from_slice(b"tree\n")?;
+    put_nodes(&mut out, refutation.tree().nodes())?;
+    Ok(out)
+}
+
 /// The text of the evidence. The only error is want of memory.
 pub fn write_evidence(alloc: Global, evidence: &Evidence) -> Result<Vec<u8>, AllocError>
     ensures { IfOk result (λ text. IsEvidenceText text.items evidence.now) }
 {
     match evidence {
+        Evidence::Refutation(refutation) => write_refutation(alloc, refutation),
         Evidence::Schedule(schedule) => write_schedule(alloc, schedule),
     }
 }

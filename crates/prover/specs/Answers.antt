@@ -8,7 +8,7 @@ use Rattle.semantics.specs.Machine.{IsStuckRun}
 use Rattle.prooflog.specs.declared.evidence.Evidence.TheVariants.{Schedule}
 use Rattle.prooflog.specs.Grammar.{IsEvidenceText}
 use Rattle.checker.specs.declared.reason.Reason.TheVariants as reasons
-use Rattle.checker.specs.Verdicts.{Shows, IsReason, IsProgramReason}
+use Rattle.checker.specs.Verdicts.{Shows, OfRefutation, IsReason, IsProgramReason}
 use Rattle.prover.specs.declared.answer.Answer.{Answer}
 use Rattle.prover.specs.declared.answer.Answer.TheVariants as answers
 use Rattle.prover.specs.declared.steps.Replayed.{Replayed}
@@ -23,10 +23,12 @@ Answers program (answers.Deadlock evidence) = Shows program evidence.items
 Answers program (answers.Unknown why) = why ≢ whys.Memory → (p : MpiProgram) × IsTextOf program p
 Answers program (answers.Refused reason) = IsProgramReason program reason × (reason ≢ reasons.Memory)
 
--- A replay that ends stuck is one of a schedule that shows a deadlock. Else the first reason why it isn't one is told.
+-- A replay that ends stuck is one of a schedule that shows a deadlock. Else it is told that the evidence is no schedule,
+-- or the first reason why it shows none.
 abbrev pub Replays : List ℕ → List ℕ → Replayed → Type 0
 Replays program evidence (replays.Stuck text) = Shows program evidence
-Replays program evidence (replays.Refused reason) = IsReason program evidence reason
+Replays program evidence (replays.Refused reason) = IsReason program evidence reason × (reason ≢ reasons.Counts)
+Replays program evidence replays.NotASchedule = OfRefutation program evidence
 
 -- a deadlock comes with the text of a schedule that is a stuck run of the program
 abbrev pub AnswersPool : MpiProgram → Answer → Type 0

@@ -4,7 +4,7 @@ ghost use Rattle.semantics.specs.Machine.{IsRun, opening};
 ghost use Rattle.prover.specs.Answers.{Replays};
 
 use callorder::{Kind, Mode, Program};
-use checker::{Reason, stuck_run_of};
+use checker::{NoRun, Reason, stuck_run_of};
 use semantics::{State, Step};
 use std::alloc::{AllocError, Global};
 
@@ -13,8 +13,10 @@ use std::alloc::{AllocError, Global};
 pub enum Replayed {
     /// The schedule is a run of the program that ends stuck. This is the text of its steps.
     Stuck(Vec<u8>),
-    /// There is no such schedule, for this reason.
+    /// There is no such schedule, for this reason, which is never `Counts`.
     Refused(Reason),
+    /// The evidence is a refutation.
+    NotASchedule,
 }
 
 /// The word of a call.
@@ -92,7 +94,8 @@ pub fn replay(alloc: Global, program: &[u8], evidence: &[u8]) -> Replayed
 {
     let run = match stuck_run_of(alloc, program, evidence) {
         Ok(run) => run,
-        Err(reason) => return Replayed::Refused(reason),
+        Err(NoRun::Refused(reason)) => return Replayed::Refused(reason),
+        Err(NoRun::NotASchedule) => return Replayed::NotASchedule,
     };
     match text_of(alloc, &run.program, run.schedule.steps()) {
         Ok(text) => Replayed::Stuck(text),

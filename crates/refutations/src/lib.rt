@@ -21,7 +21,7 @@ pub use line::{LARGEST_NUMBER, Line, MakeLineFault};
 pub use line_check::{LineFault, check_line, check_line_in, clause_at};
 pub use partial::{ClauseStatus, PartialAssignment};
 pub use refutation::{FaultyLine, RefutationFault, check_lines_in, check_refutation};
-pub use tree::{Node, ProofTree};
+pub use tree::{Node, ProofTree, is_numbered};
 pub use tree_check::{TreeFault, check_tree};
 
 #[cfg(test)]

@@ -1,7 +1,7 @@
 //! Proof lines.
 
-ghost use Rattle.std.specs.Prelude.{◌≡◌, ◌↔◌, IfOk, IsTrue, false};
-ghost use Rattle.clauses.specs.Clauses.{rises};
+ghost use Rattle.std.specs.Prelude.{◌≡◌, ◌↔◌, IfOk, IfSome, IsSome, IsTrue, false};
+ghost use Rattle.clauses.specs.Clauses.{rises, is_within};
 ghost use Rattle.refutations.specs.Proofs.{are_numbers};
 
 use clauses::{Clause, ClauseFault, Lit};
@@ -77,10 +77,26 @@ impl Line {
         }
     }
 
+    /// The line that keeps these literals and hints; none where the variables of the literals don't
+    /// rise strictly, or where a hint is 0 or above [`LARGEST_NUMBER`]. Takes no memory.
+    pub fn from_vecs(literals: Vec<Lit>, hints: Vec<u32>) -> Option<Line>
+        ensures made { IfSome result (λ line. line ≡ record { literals = literals.items; hints = hints.items }) }
+        ensures when { IsSome result ↔ (IsTrue (rises literals.items) × IsTrue (are_numbers hints.items)) }
+    {
+        if !are_numbers(hints.as_slice()) {
+            return None;
+        }
+        match Clause::from_vec(literals) {
+            Ok(clause) => Some(Line { clause, hints }),
+            Err(_literals) => None,
+        }
+    }
+
     /// The literals of its clause, rising strictly by variable.
     pub fn literals(&self) -> &[Lit]
         ensures same { result.now ≡ self.now.literals }
         ensures rises { IsTrue (rises self.now.literals) }
+        ensures within { IsTrue (is_within 2147483647 self.now.literals) }
     {
         self.clause.literals()
     }

@@ -146,6 +146,49 @@ fn lines_that_are_not_made(rt: HostRuntime) -> Result<(), Fail> {
     Ok(())
 }
 
+/// Literals and hints in vectors are kept where the variables rise strictly and the hints are in range.
+#[test]
+fn lines_from_vectors(rt: HostRuntime) -> Result<(), Fail> {
+    let alloc = rt.alloc();
+    let rows: [(&[(u32, bool)], &[u32], bool); 8] = [
+        (&[], &[], true),
+        (&[(1, false), (2_147_483_647, true)], &[2, 1, 2], true),
+        (&[(2, true)], &[1, 2_147_483_647], true),
+        (&[(2, true), (1, true)], &[1], false),
+        (&[(2, true), (2, false)], &[1], false),
+        (&[(1, true), (2, true)], &[1, 0], false),
+        (&[(1, true), (2, true)], &[2_147_483_648, 1], false),
+        (&[(2, true), (1, true)], &[0], false),
+    ];
+    for (signs, hints, is_line) in rows {
+        match Line::from_vecs(literals(alloc, signs)?, hints.to_vec(alloc)?) {
+            Some(line) => {
+                assert!(rt; is_line, "{signs:?} {hints:?}");
+                assert_eq!(rt; line.literals(), literals(alloc, signs)?.as_slice());
+                assert_eq!(rt; line.hints(), hints);
+            }
+            None => assert!(rt; !is_line, "{signs:?} {hints:?}"),
+        }
+    }
+    Ok(())
+}
+
+/// The number of a node is from 1 to 2,147,483,647, of a split and of a leaf.
+#[test]
+fn numbers_of_nodes(rt: HostRuntime) {
+    let rows = [
+        (0, false),
+        (1, true),
+        (2_147_483_647, true),
+        (2_147_483_648, false),
+        (4_294_967_295, false),
+    ];
+    for (number, is_number) in rows {
+        assert_eq!(rt; is_numbered(&Node::Split(number)), is_number, "{number}");
+        assert_eq!(rt; is_numbered(&Node::Leaf(number)), is_number, "{number}");
+    }
+}
+
 #[test]
 fn trees_that_are_not_made(rt: HostRuntime) -> Result<(), Fail> {
     let alloc = rt.alloc();

@@ -50,7 +50,8 @@ fn is_tree(nodes: &[Node]) -> bool
     missing == 0
 }
 
-fn is_numbered(node: &Node) -> bool
+/// Whether the number of the node is from 1 to [`LARGEST_NUMBER`].
+pub fn is_numbered(node: &Node) -> bool
     ensures { result ≡ is_number (number_of node.now) }
 {
     let number = match node {

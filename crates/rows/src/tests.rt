@@ -5,6 +5,7 @@ mod faults;
 mod limits;
 mod machine;
 mod names;
+mod refutations;
 mod troubles;
 mod usage;
 

@@ -23,15 +23,15 @@ returns-then-is_word-clause-some c =
     let rank = c.in_ok-rank.ensures.some in
     let b = c.in_ok-buffered.ensures.some in
     let seen : words_of c.args.line.now ≡ c.cut_word.result.0.now ∷ c.cut_word-2.result.0.now ∷ words_after (option_copied c.cut_word-2.result.1) =
-    c.cut_word.ensures ∙ ap (λ o. c.cut_word.result.0.now ∷ words_after (option_copied o)) c.in_ok-others.was ∙ ap (λ ws. c.cut_word.result.0.now ∷ ws) c.cut_word-2.ensures in
+    c.cut_word.ensures.words ∙ ap (λ o. c.cut_word.result.0.now ∷ words_after (option_copied o)) c.in_ok-others.was ∙ ap (λ ws. c.cut_word.result.0.now ∷ ws) c.cut_word-2.ensures.words in
     let kind : c.cut_word.result.0.now ≡ codes "issue" = c.is_word.ensures.0 c.if-is_word.true in
     (Issue rank.0 c.in_ok-buffered.buffered, (λ i. sym kind i ∷ rank.1 i ∷ b i) ∙ sym seen, cc (rank.2))
 
 pub returns-in_err-taker-clause-none : goal.returns-in_err-taker-clause-none
 returns-in_err-taker-clause-none c =
     let seen : words_of c.args.line.now ≡ c.cut_word.result.0.now ∷ c.cut_word-2.result.0.now ∷ words_of c.in_ok-others-2.field-0.now =
-    c.cut_word.ensures ∙ ap (λ o. c.cut_word.result.0.now ∷ words_after (option_copied o)) c.in_ok-others.was
-    ∙ ap (λ ws. c.cut_word.result.0.now ∷ ws) (c.cut_word-2.ensures ∙ ap (λ o. c.cut_word-2.result.0.now ∷ words_after (option_copied o)) c.in_ok-others-2.was) in
+    c.cut_word.ensures.words ∙ ap (λ o. c.cut_word.result.0.now ∷ words_after (option_copied o)) c.in_ok-others.was
+    ∙ ap (λ ws. c.cut_word.result.0.now ∷ ws) (c.cut_word-2.ensures.words ∙ ap (λ o. c.cut_word-2.result.0.now ∷ words_after (option_copied o)) c.in_ok-others-2.was) in
     rw c.from_residual-in_err-taker.ensures (
     no_match c.args.line.now c.cut_word.result.0.now c.cut_word-2.result.0.now c.in_ok-others-2.field-0.now seen (λ e. let t = c.is_word.ensures.1 e in let f = c.if-is_word.false in cc) c.in_err-taker.ensures.none
     )
@@ -41,8 +41,8 @@ returns-then-is_word-2-clause-some c =
     let send = c.in_ok-send.ensures.some in
     let taker = c.in_ok-taker.ensures.some in
     let seen : words_of c.args.line.now ≡ c.cut_word.result.0.now ∷ c.cut_word-2.result.0.now ∷ words_of c.in_ok-others-2.field-0.now =
-    c.cut_word.ensures ∙ ap (λ o. c.cut_word.result.0.now ∷ words_after (option_copied o)) c.in_ok-others.was
-    ∙ ap (λ ws. c.cut_word.result.0.now ∷ ws) (c.cut_word-2.ensures ∙ ap (λ o. c.cut_word-2.result.0.now ∷ words_after (option_copied o)) c.in_ok-others-2.was) in
+    c.cut_word.ensures.words ∙ ap (λ o. c.cut_word.result.0.now ∷ words_after (option_copied o)) c.in_ok-others.was
+    ∙ ap (λ ws. c.cut_word.result.0.now ∷ ws) (c.cut_word-2.ensures.words ∙ ap (λ o. c.cut_word-2.result.0.now ∷ words_after (option_copied o)) c.in_ok-others-2.was) in
     let kind : c.cut_word.result.0.now ≡ codes "match" = c.is_word-2.ensures.0 c.if-is_word-2.true in
     let last : numeral taker.0 ∷ [] ≡ words_of c.in_ok-others-2.field-0.now = numeral_only taker.0 c.in_ok-others-2.field-0.now taker.1 in
     (Match send.0 taker.0, (λ i. sym kind i ∷ send.1 i ∷ last i) ∙ sym seen, cc (send.2, taker.2))

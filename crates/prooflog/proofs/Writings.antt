@@ -1,0 +1,80 @@
+-- What the writer's parts make, one after another, is the text of a refutation.
+use Rattle.std.proofs.Common.{◌≡◌, ℕ, ◌+◌, ◌<◌, List, [], ◌∷◌, ◌++◌, length, get_or, take, map, refl, sym, ap, ◌∙◌, append_assoc}
+use Rattle.std.specs.Prelude.{codes}
+use Rattle.std.specs.List.{flat_map, join_with_byte}
+use Rattle.std.proofs.lemmas.Grind.{flat_map-append}
+use Rattle.std.proofs.lemmas.List.{append-nil, map_push, take_more, flat_map_more}
+use Rattle.std.proofs.lemmas.List.Concat.{flat_map-cons}
+use Rattle.std.proofs.lemmas.List.Folds.{flat_map-map}
+use Rattle.plaintext.specs.Plain.{numeral}
+use Rattle.refutations.specs.Proofs.{ProofLine}
+use Rattle.prooflog.specs.declared.evidence.Evidence.TheVariants.{Refutation}
+use Rattle.prooflog.specs.Refutations.{ClaimedRefutation, Item, a_proof, the_tree, a_node, literal_word, item_line, items, IsRefutation}
+use Rattle.prooflog.specs.Grammar.{heading_line, refutation_line, IsEvidenceText}
+use Rattle.prooflog.specs.Writing.{spaced}
+
+-- ---- words
+
+spaced-append : (xs ys : List (List ℕ)) → spaced (xs ++ ys) ≡ spaced xs ++ spaced ys
+spaced-append [] ys = refl
+spaced-append (x ∷ xs) ys = ap (λ (t : List ℕ). 32 ∷ (x ++ t)) (spaced-append xs ys) ∙ ap (λ (t : List ℕ). 32 ∷ t) (sym (append_assoc x (spaced xs) (spaced ys)))
+
+spaced-join : (word : List ℕ) (others : List (List ℕ)) → join_with_byte 32 (word ∷ others) ≡ word ++ spaced others
+spaced-join word [] = sym (append-nil word)
+spaced-join word (v ∷ others) = ap (λ (t : List ℕ). word ++ 32 ∷ t) (spaced-join v others)
+
+-- one more word is written
+pub one_spaced : {A : Type 0} (spell : A → List ℕ) (head : List ℕ) (xs : List A) (k : ℕ) (d : A) → k < length xs
+    → (head ++ spaced (map spell (take k xs))) ++ spaced (spell (get_or xs k d) ∷ []) ≡ head ++ spaced (map spell (take (k + 1) xs))
+one_spaced spell head xs k d lt =
+    append_assoc head (spaced (map spell (take k xs))) (spaced (spell (get_or xs k d) ∷ []))
+    ∙ ap (λ (t : List ℕ). head ++ t) (sym (spaced-append (map spell (take k xs)) (spell (get_or xs k d) ∷ [])))
+    ∙ ap (λ (ws : List (List ℕ)). head ++ spaced ws) (sym (ap (map spell) (take_more xs k d lt) ∙ map_push spell (take k xs) (get_or xs k d)))
+
+-- a space and a word are a spaced word
+pub space_word : (out word : List ℕ) → (out ++ 32 ∷ []) ++ word ≡ out ++ spaced (word ∷ [])
+space_word out word = append_assoc out (32 ∷ []) word ∙ ap (λ (t : List ℕ). out ++ 32 ∷ t) (sym (append-nil word))
+
+-- the line of a proof line
+pub proof_text : (out : List ℕ) (line : ProofLine)
+    → ((((out ++ codes "line") ++ spaced (map literal_word line.literals)) ++ codes " :") ++ spaced (map numeral line.hints)) ++ 10 ∷ [] ≡ out ++ item_line (a_proof line)
+proof_text out line =
+    let a : List ℕ = spaced (map literal_word line.literals) in
+    let b : List ℕ = spaced (map numeral line.hints) in
+    let others : List (List ℕ) = map literal_word line.literals ++ codes ":" ∷ map numeral line.hints in
+    let words : a ++ (codes " :" ++ b) ≡ spaced others = sym (spaced-append (map literal_word line.literals) (codes ":" ∷ map numeral line.hints)) in
+    ap (λ (t : List ℕ). t ++ 10 ∷ []) (
+    append_assoc ((out ++ codes "line") ++ a) (codes " :") b ∙ append_assoc (out ++ codes "line") a (codes " :" ++ b) ∙ ap (λ (t : List ℕ). (out ++ codes "line") ++ t) words
+    ∙ append_assoc out (codes "line") (spaced others) ∙ ap (λ (t : List ℕ). out ++ t) (sym (spaced-join (codes "line") others))
+    )
+    ∙ append_assoc out (join_with_byte 32 (codes "line" ∷ others)) (10 ∷ [])
+
+-- ---- lines
+
+-- one more item is written
+pub one_item : {A : Type 0} (as_item : A → Item) (head : List ℕ) (xs : List A) (k : ℕ) (d : A) → k < length xs
+    → (head ++ flat_map item_line (map as_item (take k xs))) ++ item_line (as_item (get_or xs k d)) ≡ head ++ flat_map item_line (map as_item (take (k + 1) xs))
+one_item as_item head xs k d lt =
+    flat_map_more item_line head (map as_item (take k xs)) (as_item (get_or xs k d))
+    ∙ ap (λ (is : List Item). head ++ flat_map item_line is) (sym (ap (map as_item) (take_more xs k d lt) ∙ map_push as_item (take k xs) (get_or xs k d)))
+
+-- the text of a refutation
+pub refutation_text : (r : ClaimedRefutation) (out : List ℕ) → IsRefutation r
+    → out ≡ (((((((codes "evidence 1" ++ 10 ∷ codes "refutation ") ++ numeral r.variables) ++ 32 ∷ []) ++ numeral r.clauses) ++ 10 ∷ []) ++ flat_map item_line (map a_proof r.lines)) ++ (codes "tree" ++ 10 ∷ [])) ++ flat_map item_line (map a_node r.nodes)
+    → IsEvidenceText out (Refutation r)
+refutation_text r out limits e =
+    let front : List ℕ = ((((codes "evidence 1" ++ 10 ∷ codes "refutation ") ++ numeral r.variables) ++ 32 ∷ []) ++ numeral r.clauses) ++ 10 ∷ [] in
+    let second : List ℕ = refutation_line r.variables r.clauses in
+    let above : List ℕ = flat_map item_line (map a_proof r.lines) in
+    let below : List ℕ = flat_map item_line (map a_node r.nodes) in
+    let headings : front ≡ heading_line ++ second = ap (λ (t : List ℕ). codes "evidence 1" ++ 10 ∷ (codes "refutation " ++ (t ++ 10 ∷ []))) (append_assoc (numeral r.variables) (32 ∷ []) (numeral r.clauses)) in
+    let body : above ++ (item_line the_tree ++ below) ≡ flat_map (λ line. line) (map item_line (items r)) =
+    ap (λ (t : List ℕ). above ++ t) (sym (flat_map-cons item_line the_tree (map a_node r.nodes))) ∙ sym (flat_map-append item_line (map a_proof r.lines) (the_tree ∷ map a_node r.nodes))
+    ∙ sym (flat_map-map (λ line. line) item_line (items r)) in
+    record {
+      limits = limits;
+      text = e ∙ append_assoc (front ++ above) (item_line the_tree) below ∙ append_assoc front above (item_line the_tree ++ below) ∙ (λ i. headings i ++ body i)
+          ∙ append_assoc heading_line second (flat_map (λ line. line) (map item_line (items r)))
+          ∙ ap (λ (text : List ℕ). heading_line ++ text) (sym (flat_map-cons (λ line. line) second (map item_line (items r))))
+          ∙ sym (flat_map-cons (λ line. line) heading_line (second ∷ map item_line (items r)));
+    }

@@ -1,0 +1,23 @@
+use Rattle.std.proofs.Common.{◌≡◌, ◌+◌, ◌<◌, ℕ, Bool, false, List, [], ◌∷◌, get_or, drop, reverse, ap, sym, ◌∙◌}
+use Rattle.std.specs.Prelude.{◌&&◌}
+use Rattle.std.specs.List.{list_all}
+use Rattle.std.proofs.lemmas.Bool.{lt-leb}
+use Rattle.std.proofs.lemmas.List.{drop_more, reverse-append}
+use Rattle.refutations.specs.declared.tree.Node.{Node}
+use Rattle.refutations.specs.declared.tree.Node.TheVariants.{Split, Leaf}
+use Rattle.prooflog.specs.Refutations.{depths, is_depth}
+use Rattle.prooflog.proofs.refutation.are_shallow.Goals as goal
+
+-- a node that stands too deep is told first
+too_deep : (depth : ℕ) (roots : List ℕ) (node : Node) (nodes : List Node) → 64 < depth → list_all is_depth (depths (depth ∷ roots) (node ∷ nodes)) ≡ false
+too_deep depth roots (Split variable) nodes large = ap (λ (b : Bool). b && list_all is_depth (depths ((depth + 1) ∷ (depth + 1) ∷ roots) nodes)) (lt-leb depth 64 large)
+too_deep depth roots (Leaf number) nodes large = ap (λ (b : Bool). b && list_all is_depth (depths roots nodes)) (lt-leb depth 64 large)
+
+pub returns-then-depth-gt-MOST_DEPTH : goal.returns-then-depth-gt-MOST_DEPTH
+returns-then-depth-gt-MOST_DEPTH c =
+    let others : List ℕ = c.pop.new.self.items in
+    let depth : ℕ = c.in-Some.depth in
+    let next = drop_more c.args.nodes.now c.loop-node.node-index (Leaf 0) c.loop-node-test.true in
+    let last : reverse c.loop-node.waiting.items ≡ depth ∷ reverse others = ap reverse c.in-Some.ensures.items ∙ reverse-append others (depth ∷ []) in
+    sym (too_deep depth (reverse others) (get_or c.args.nodes.now c.loop-node.node-index (Leaf 0)) (drop (c.loop-node.node-index + 1) c.args.nodes.now) c.if-depth-gt-MOST_DEPTH.true)
+    ∙ (λ i. list_all is_depth (depths (sym last i) (sym next i))) ∙ c.loop-node.invariant

@@ -1,0 +1,168 @@
+//! Refutations.
+
+ghost use Rattle.std.specs.Prelude.{◌≡◌, ◌↔◌, ◌∷◌, [], ℕ, IfOk, IfErr, IsTrue};
+ghost use Rattle.std.specs.List.{list_all};
+ghost use Rattle.refutations.specs.Proofs.{is_tree, are_numbered};
+ghost use Rattle.prooflog.specs.Refutations.{IsRefutation, IsSmall, is_line_in_range, is_depth, depths};
+
+use refutations::{LARGEST_NUMBER, Line, Node, ProofTree};
+use std::alloc::{AllocError, Global};
+use std::marker::Model;
+use thiserror::Error;
+
+/// The most proof lines that a refutation has.
+pub const MOST_LINES: usize = 1_000_000;
+
+/// The most nodes that the tree of a refutation has.
+pub const MOST_NODES: usize = 65_536;
+
+/// How deep a node of the tree may stand; the root's depth is 0.
+pub const MOST_DEPTH: u32 = 64;
+
+/// What is said to refute a formula: how many variables and clauses the formula has, each number
+/// from 0 to 2,147,483,647; at most 1,000,000 proof lines, numbered after the clauses; and a tree of
+/// at most 65,536 nodes, none deeper than 64.
+#[derive(Debug, Drop)]
+pub struct Refutation {
+    variables: u32,
+    clauses: u32,
+    lines: Vec<Line>,
+    tree: ProofTree,
+}
+
+impl Model for Refutation {
+    ghost use Rattle.prooflog.specs.Refutations.{ClaimedRefutation, IsRefutation};
+
+    ghost Value = { ClaimedRefutation };
+
+    ghost view = { λ r. record { variables = r.variables; clauses = r.clauses; lines = r.lines.items; nodes = r.tree } };
+
+    ghost invariant = { λ r. IsRefutation (record { variables = r.variables; clauses = r.clauses; lines = r.lines.items; nodes = r.tree }) };
+}
+
+/// Why no refutation was made.
+#[derive(Clone, Copy, Debug, PartialEq, Eq, Error)]
+pub enum MakeRefutationFault {
+    /// Memory ran out.
+    #[error("memory")]
+    Memory,
+    /// A count is above 2,147,483,647, or there are too many lines or nodes, or a node is too deep.
+    #[error("too large")]
+    TooLarge,
+}
+
+/// Whether no node is deeper than the deepest that is allowed.
+fn are_shallow(alloc: Global, nodes: &[Node]) -> Result<bool, AllocError>
+    ensures { IfOk result (λ shallow. shallow ≡ list_all is_depth (depths (0 ∷ []) nodes.now)) }
+{
+    let mut waiting: Vec<u32> = Vec::new(alloc);
+    waiting.push(0)?;
+    for node in nodes {
+        let Some(depth) = waiting.pop() else {
+            return Ok(true);
+        };
+        if depth > MOST_DEPTH {
+            return Ok(false);
+        }
+        if let Node::Split(_) = node {
+            waiting.push(depth + 1)?;
+            waiting.push(depth + 1)?;
+        }
+    }
+    Ok(true)
+}
+
+/// Whether the line's numbers are in range. Those of each line are, by its type; going over lines
+/// with this brings that out for all of them.
+fn is_in_range(line: &Line) -> bool
+    ensures same { result ≡ is_line_in_range line.now }
+    ensures always { IsTrue result }
+{
+    let _literals = line.literals();
+    let _hints = line.hints();
+    true
+}
+
+impl Refutation {
+    /// The refutation of these parts, where they are within the limits.
+    pub fn make(
+        alloc: Global,
+        variables: u32,
+        clauses: u32,
+        lines: Vec<Line>,
+        tree: ProofTree,
+    ) -> Result<Refutation, MakeRefutationFault>
+        ensures made { IfOk result (λ r. r ≡ record { variables = variables; clauses = clauses; lines = lines.items; nodes = tree }) }
+        ensures limits { IfOk result (λ r. IsRefutation r) }
+        ensures too_large { result ≡ Err MakeRefutationFault.TooLarge → IsRefutation (record { variables = variables; clauses = clauses; lines = lines.items; nodes = tree }) → ⊥ }
+    {
+        if variables > LARGEST_NUMBER || clauses > LARGEST_NUMBER {
+            return Err(MakeRefutationFault::TooLarge);
+        }
+        if lines.len() > MOST_LINES || tree.nodes().len() > MOST_NODES {
+            return Err(MakeRefutationFault::TooLarge);
+        }
+        let Ok(shallow) = are_shallow(alloc, tree.nodes()) else {
+            return Err(MakeRefutationFault::Memory);
+        };
+        if !shallow || !lines.iter().all(is_in_range) {
+            return Err(MakeRefutationFault::TooLarge);
+        }
+        Ok(Refutation {
+            variables,
+            clauses,
+            lines,
+            tree,
+        })
+    }
+
+    /// The refutation of parts that are known to be within the limits.
+    pub(crate) fn of_checked(
+        variables: u32,
+        clauses: u32,
+        lines: Vec<Line>,
+        tree: ProofTree,
+    ) -> Refutation
+        requires { IsRefutation (record { variables = variables; clauses = clauses; lines = lines.items; nodes = tree }) }
+        ensures { result ≡ record { variables = variables; clauses = clauses; lines = lines.items; nodes = tree } }
+    {
+        Refutation {
+            variables,
+            clauses,
+            lines,
+            tree,
+        }
+    }
+
+    /// How many variables the formula is said to have, from 0 to 2,147,483,647.
+    pub fn variables(&self) -> u32
+        ensures same { result ≡ self.now.variables }
+        ensures limits { IsRefutation self.now }
+    {
+        self.variables
+    }
+
+    /// How many clauses the formula is said to have, from 0 to 2,147,483,647.
+    pub fn clauses(&self) -> u32
+        ensures same { result ≡ self.now.clauses }
+        ensures limits { IsRefutation self.now }
+    {
+        self.clauses
+    }
+
+    /// The proof lines, which are numbered after the clauses.
+    pub fn lines(&self) -> &[Line]
+        ensures same { result.now ≡ self.now.lines }
+        ensures limits { IsRefutation self.now }
+    {
+        self.lines.as_slice()
+    }
+
+    /// The tree.
+    pub fn tree(&self) -> &ProofTree
+        ensures same { result.now ≡ self.now.nodes }
+        ensures limits { IsRefutation self.now }
+    {
+        &self.tree
+    }
+}
