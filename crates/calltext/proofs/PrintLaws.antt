@@ -1,26 +1,19 @@
 -- The printer's pieces make the text.
 use Rattle.std.proofs.Common.{◌≡◌, ℕ, ◌+◌, List, [], ◌∷◌, ◌++◌, length, refl, sym, ap, ◌∙◌, ◌<◌, get_or, take, append_assoc, arith, add-zero}
-use Rattle.std.specs.List.{flat_map, join_with_byte}
+use Rattle.std.specs.List.{flat_map}
 use Rattle.std.proofs.lemmas.Grind.{flat_map-append}
 use Rattle.std.proofs.lemmas.List.Concat.{flat_map-cons}
 use Rattle.std.proofs.lemmas.List.{append-nil, take_more, map_push, length-map, length-take}
 use Rattle.std.specs.Global.{Vec}
-use Rattle.plaintext.specs.Plain.{line_of}
+use Rattle.plaintext.specs.Plain.{line_of, spaced}
+use Rattle.plaintext.proofs.Spaced.{spaced-append, spaced-join}
 use Rattle.calltext.specs.declared.call.CallLine.{CallLine}
 use Rattle.calltext.specs.Body.{views}
 use Rattle.calltext.specs.Grammar.{ProgramText, call_words, rank_words, ranks_words, policy_words, rank_lines, text_of}
-use Rattle.calltext.specs.Printed.{spaced, rank_text, ranks_text, heads}
+use Rattle.calltext.specs.Printed.{rank_text, ranks_text, heads}
 use Rattle.calltext.specs.Verbs.{verb_of, verb_word, name_words, number_words, operands}
 use Rattle.calltext.proofs.Verbs.{call_words_are}
 use Rattle.calltext.proofs.Blocks.{call_lines}
-
-pub spaced-append : (xs ys : List (List ℕ)) → spaced (xs ++ ys) ≡ spaced xs ++ spaced ys
-spaced-append [] ys = refl
-spaced-append (x ∷ xs) ys = ap (λ (t : List ℕ). 32 ∷ (x ++ t)) (spaced-append xs ys) ∙ ap (λ (t : List ℕ). 32 ∷ t) (sym (append_assoc x (spaced xs) (spaced ys)))
-
-spaced-join : (word : List ℕ) (others : List (List ℕ)) → join_with_byte 32 (word ∷ others) ≡ word ++ spaced others
-spaced-join word [] = sym (append-nil word)
-spaced-join word (v ∷ others) = ap (λ (t : List ℕ). word ++ 32 ∷ t) (spaced-join v others)
 
 -- one more word
 pub spaced_more : (base out out' : List ℕ) (words : List (List ℕ)) (i : ℕ) (word : List ℕ) → i < length words → word ≡ get_or words i word

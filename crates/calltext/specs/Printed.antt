@@ -6,11 +6,6 @@ use Rattle.calltext.specs.Grammar.{call_words, rank_words, ranks_words, policy_w
 use Rattle.calltext.specs.declared.call.CallLine.{CallLine}
 use Rattle.calltext.specs.declared.call.Policy.{Policy}
 
--- The words, with a space before each.
-abbrev pub spaced : List (List ℕ) → List ℕ
-spaced [] = []
-spaced (word ∷ others) = 32 ∷ (word ++ spaced others)
-
 -- A rank's heading and its call lines.
 abbrev pub rank_text : ℕ → List CallLine → List ℕ
 rank_text r calls = line_of (rank_words r) ++ flat_map (λ c. line_of (call_words c)) calls

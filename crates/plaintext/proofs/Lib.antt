@@ -3,3 +3,4 @@ pub mod Cuts
 pub mod Ascii
 pub mod Texts
 pub mod FirstFaults
+pub mod Spaced

@@ -13,6 +13,11 @@ numeral (suc n) = map (λ d. 48 + d) (digits_of 10 (suc n))
 abbrev pub line_of : List (List ℕ) → List ℕ
 line_of words = join_with_byte 32 words ++ 10 ∷ []
 
+-- The words, with a space before each.
+abbrev pub spaced : List (List ℕ) → List ℕ
+spaced [] = []
+spaced (word ∷ others) = 32 ∷ (word ++ spaced others)
+
 -- The lines of a text are what each LF ends, the LF with it, and then what stands after the last LF, which may be nothing.
 abbrev pub text_lines : List ℕ → List (List ℕ)
 text_lines [] = [] ∷ []

@@ -1,27 +1,19 @@
 -- What the writer's parts make, one after another, is the text of a refutation.
-use Rattle.std.proofs.Common.{◌≡◌, ℕ, ◌+◌, ◌<◌, List, [], ◌∷◌, ◌++◌, length, get_or, take, map, refl, sym, ap, ◌∙◌, append_assoc}
+use Rattle.std.proofs.Common.{◌≡◌, ℕ, ◌+◌, ◌<◌, List, [], ◌∷◌, ◌++◌, length, get_or, take, map, sym, ap, ◌∙◌, append_assoc}
 use Rattle.std.specs.Prelude.{codes}
 use Rattle.std.specs.List.{flat_map, join_with_byte}
 use Rattle.std.proofs.lemmas.Grind.{flat_map-append}
 use Rattle.std.proofs.lemmas.List.{append-nil, map_push, take_more, flat_map_more}
 use Rattle.std.proofs.lemmas.List.Concat.{flat_map-cons}
 use Rattle.std.proofs.lemmas.List.Folds.{flat_map-map}
-use Rattle.plaintext.specs.Plain.{numeral}
+use Rattle.plaintext.specs.Plain.{numeral, spaced}
+use Rattle.plaintext.proofs.Spaced.{spaced-append, spaced-join}
 use Rattle.refutations.specs.Proofs.{ProofLine}
 use Rattle.prooflog.specs.declared.evidence.Evidence.TheVariants.{Refutation}
 use Rattle.prooflog.specs.Refutations.{ClaimedRefutation, Item, a_proof, the_tree, a_node, literal_word, item_line, items, IsRefutation}
 use Rattle.prooflog.specs.Grammar.{heading_line, refutation_line, IsEvidenceText}
-use Rattle.prooflog.specs.Writing.{spaced}
 
 -- ---- words
-
-spaced-append : (xs ys : List (List ℕ)) → spaced (xs ++ ys) ≡ spaced xs ++ spaced ys
-spaced-append [] ys = refl
-spaced-append (x ∷ xs) ys = ap (λ (t : List ℕ). 32 ∷ (x ++ t)) (spaced-append xs ys) ∙ ap (λ (t : List ℕ). 32 ∷ t) (sym (append_assoc x (spaced xs) (spaced ys)))
-
-spaced-join : (word : List ℕ) (others : List (List ℕ)) → join_with_byte 32 (word ∷ others) ≡ word ++ spaced others
-spaced-join word [] = sym (append-nil word)
-spaced-join word (v ∷ others) = ap (λ (t : List ℕ). word ++ 32 ∷ t) (spaced-join v others)
 
 -- one more word is written
 pub one_spaced : {A : Type 0} (spell : A → List ℕ) (head : List ℕ) (xs : List A) (k : ℕ) (d : A) → k < length xs

@@ -3,5 +3,4 @@ pub mod Refutations
 pub mod Grammar
 pub mod Fault
 pub mod Reading
-pub mod Writing
 pub mod Depths

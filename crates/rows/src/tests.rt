@@ -5,7 +5,7 @@ mod faults;
 mod limits;
 mod machine;
 mod names;
-mod refutations;
+mod no_schedule;
 mod troubles;
 mod usage;
 

@@ -1,5 +1,5 @@
 use Rattle.std.proofs.Common.{◌≡◌, ◌++◌, ◌∷◌, [], List, ℕ, ap, ◌∙◌}
-use Rattle.calltext.specs.Printed.{spaced}
+use Rattle.plaintext.specs.Plain.{spaced}
 use Rattle.calltext.specs.Verbs.{verb_of, verb_word, name_words, number_words}
 use Rattle.calltext.proofs.PrintLaws.{call_line}
 use Rattle.calltext.proofs.printer.put_call.Goals as goal

@@ -1,0 +1,213 @@
+-- Which step of a run matches a call, and that no second one does.
+use Rattle.std.proofs.Common.{◌≡◌, ◌≢◌, ℕ, zero, suc, ◌<◌, ◌⊎◌, inl, inr, Bool, true, false, List, [], ◌∷◌, Option, Some, None, is_some, length, take, replicate, get_or, slice_get, slice_set, refl, sym, ap, ◌∙◌, subst, arith, get_or-set_other}
+use Rattle.std.specs.Option.{unwrap_or}
+use Rattle.std.proofs.lemmas.Bool.{cases_eq, cases_lt}
+use Rattle.std.proofs.lemmas.Grind.{get_or-set_at}
+use Rattle.std.proofs.lemmas.List.{length-set, length-replicate, set_past}
+use Rattle.std.proofs.lemmas.Option.{unwrap_or-slice_get}
+use Rattle.callorder.specs.declared.calls.Call.{Call}
+use Rattle.callorder.specs.declared.calls.Kind.{Kind}
+use Rattle.callorder.specs.declared.calls.Kind.TheVariants.{Send, Receive, MatchedProbe, MatchedReceive, Wait}
+use Rattle.callorder.specs.Calls.{fits_between, message_of, pattern_of}
+use Rattle.callorder.specs.Programs.{MpiProgram, call_at, are_fit, fit_calls}
+use Rattle.semantics.specs.declared.state.Step.{Step}
+use Rattle.semantics.specs.declared.state.Step.TheVariants.{Issue, Match}
+use Rattle.semantics.specs.Machine.{Configuration, opening, after, after_all, CanMatch, IsEnabled, IsRun, is_matched}
+use Rattle.semantics.proofs.Lengths.{matched_within}
+use Rattle.semantics.proofs.Runs.{IsRun-at}
+use Rattle.histories.specs.Places.{IsMatchedAt, IsSendMatchedBefore, IsTakerMatchedBefore}
+use Rattle.histories.specs.Laws.{EarlierSendsMatchFirst, EarlierTakersMatchFirst, MatchedOnce}
+
+-- ---- a call that is matched in the end is matched by a step
+
+-- the step at this place matches the call, and its two calls fit
+pub record FitMatch (p : MpiProgram) (steps : List Step) (c : ℕ) : Type 0 where
+  pub place : ℕ
+  pub send : ℕ
+  pub taker : ℕ
+  pub there : slice_get steps place ≡ Some (Match send taker)
+  pub fit : are_fit p send taker ≡ true
+  pub which : (c ≡ send) ⊎ (c ≡ taker)
+
+abbrev some_at : List (Option ℕ) → ℕ → Bool
+some_at partner c = is_some (get_or partner c None)
+
+matched_is : (m : Configuration) (c : ℕ) → is_matched m c ≡ some_at m.partner c
+matched_is m c = ap is_some (unwrap_or-slice_get m.partner c None)
+
+is_matched-other : (m : Configuration) (s t c : ℕ) → c ≢ s → c ≢ t → is_matched (after m (Match s t)) c ≡ is_matched m c
+is_matched-other m s t c not_s not_t =
+    matched_is (after m (Match s t)) c ∙ ap is_some (get_or-set_other (slice_set m.partner s (Some t)) t c (Some s) None not_t ∙ get_or-set_other m.partner s c (Some t) None not_s) ∙ sym (matched_is m c)
+
+-- the call that a step matches is one of its two
+newly : (m : Configuration) (s t c : ℕ) → is_matched m c ≡ false → is_matched (after m (Match s t)) c ≡ true → (c ≡ s) ⊎ (c ≡ t)
+newly m s t c free done =
+    elim (cases_eq c s) [
+      | inl e ↦ inl e
+      | inr not_s ↦
+          elim (cases_eq c t) [
+            | inl e ↦ inr e
+            | inr not_t ↦ absurd (let same = is_matched-other m s t c not_s not_t in cc)
+          ]
+    ]
+
+later : (p : MpiProgram) (x : Step) (xs : List Step) (c : ℕ) → FitMatch p xs c → FitMatch p (x ∷ xs) c
+later p x xs c w =
+    record { place = suc w.place; send = w.send; taker = w.taker; there = w.there; fit = w.fit; which = w.which }
+
+matching_step_from : (p : MpiProgram) (m : Configuration) (x : Step) (xs : List Step) (c : ℕ) → IsRun p m (x ∷ xs) → is_matched m c ≡ false → (is_matched (after m x) c ≡ false → FitMatch p xs c) → (b : Bool) → is_matched (after m x) c ≡ b → FitMatch p (x ∷ xs) c
+matching_step_from p m x xs c run free rest false e = later p x xs c (rest e)
+matching_step_from p m (Issue r b) xs c run free rest true e = absurd (cc)
+matching_step_from p m (Match s t) xs c run free rest true e =
+    record { place = 0; send = s; taker = t; there = refl; fit = run.0.fit; which = newly m s t c free e }
+
+matching_step : (p : MpiProgram) (m : Configuration) (steps : List Step) (c : ℕ) → IsRun p m steps → is_matched m c ≡ false → is_matched (after_all m steps) c ≡ true → FitMatch p steps c
+matching_step p m [] c run free done = absurd (cc)
+matching_step p m (x ∷ xs) c run free done =
+    matching_step_from p m x xs c run free (λ e. matching_step p (after m x) xs c run.1 e done) (is_matched (after m x) c) refl
+
+opening_free : (p : MpiProgram) (c : ℕ) → is_matched (opening p) c ≡ false
+opening_free p c = ap is_some (none_yet (length p.calls) c)
+  where
+    none_yet : (n c : ℕ) → unwrap_or (slice_get (replicate n (let x : Option ℕ = None in x)) c) None ≡ None
+    none_yet zero c = refl
+    none_yet (suc n) zero = refl
+    none_yet (suc n) (suc c) = none_yet n c
+
+-- ---- prefixes
+
+-- a prefix of a run is a run
+pub IsRun-take : (p : MpiProgram) (m : Configuration) (steps : List Step) (k : ℕ) → IsRun p m steps → IsRun p m (take k steps)
+IsRun-take p m [] zero run = tt
+IsRun-take p m [] (suc k) run = tt
+IsRun-take p m (x ∷ xs) zero run = tt
+IsRun-take p m (x ∷ xs) (suc k) run = (run.0, IsRun-take p (after m x) xs k run.1)
+
+-- a place in a prefix is one before its end, and has the same step
+pub in_prefix : (steps : List Step) (k i : ℕ) (x : Step) → slice_get (take i steps) k ≡ Some x → (k < i) × (slice_get steps k ≡ Some x)
+in_prefix [] k zero x h = absurd (cc)
+in_prefix [] k (suc i) x h = absurd (cc)
+in_prefix (y ∷ steps) k zero x h = absurd (cc)
+in_prefix (y ∷ steps) zero (suc i) x h = (omega arith, h)
+in_prefix (y ∷ steps) (suc k) (suc i) x h = let r = in_prefix steps k i x h in (omega (arith, r.0), r.1)
+
+-- where nothing holds at two places, the places where it holds are one
+pub one_place : (At : ℕ → Type 0) → ((i k : ℕ) → i < k → At i → At k → ⊥) → (i k : ℕ) → At i → At k → i ≡ k
+one_place At never i k w v =
+    elim (cases_lt i k) [
+      | inl below ↦ absurd (never i k below w v)
+      | inr not_below ↦ elim (cases_lt k i) [ inl above ↦ absurd (never k i above v w) | inr not_above ↦ omega (arith, not_below, not_above) ]
+    ]
+
+-- ---- a call that is matched as a send is no taker
+
+fits_apart : (r q u v : ℕ) (k l j : Kind) → fits_between r (message_of k) q (pattern_of l) ≡ true → fits_between u (message_of j) v (pattern_of k) ≡ true → ⊥
+fits_apart r q u v (Send mode blocking message) l (Send mode' blocking' message') f g = cc
+fits_apart r q u v (Send mode blocking message) l (Receive b pattern) f g = cc
+fits_apart r q u v (Send mode blocking message) l (MatchedProbe pattern c) f g = cc
+fits_apart r q u v (Send mode blocking message) l (MatchedReceive b) f g = cc
+fits_apart r q u v (Send mode blocking message) l (Wait o) f g = cc
+fits_apart r q u v (Receive b pattern) l j f g = cc
+fits_apart r q u v (MatchedProbe pattern c) l j f g = cc
+fits_apart r q u v (MatchedReceive b) l j f g = cc
+fits_apart r q u v (Wait o) l j f g = cc
+
+fits_apart_calls : (x y z : Option Call) → fit_calls x y ≡ true → fit_calls z x ≡ true → ⊥
+fits_apart_calls None y z f g = cc
+fits_apart_calls (Some x) None z f g = cc
+fits_apart_calls (Some x) (Some y) None f g = cc
+fits_apart_calls (Some x) (Some y) (Some z) f g = fits_apart x.rank y.rank z.rank x.rank x.kind y.kind z.kind f g
+
+no_send_is_taker : (p : MpiProgram) (e t s : ℕ) → are_fit p e t ≡ true → are_fit p s e ≡ true → ⊥
+no_send_is_taker p e t s f g = fits_apart_calls (call_at p e) (call_at p t) (call_at p s) f g
+
+-- what is matched before a place, and is no taker or no send
+pub send_before : (p : MpiProgram) (steps : List Step) (i c : ℕ) → IsRun p (opening p) steps → is_matched (after_all (opening p) (take i steps)) c ≡ true → ((s : ℕ) → are_fit p s c ≡ true → ⊥) → IsSendMatchedBefore steps c i
+send_before p steps i c run done no_taker =
+    let w = matching_step p (opening p) (take i steps) c (IsRun-take p (opening p) steps i run) (opening_free p c) done in
+    let k = in_prefix steps w.place i (Match w.send w.taker) w.there in
+    elim w.which [
+      | inl is ↦ record { earlier = w.place; before = k.0; taker = w.taker; there = cc (is, k.1) }
+      | inr is ↦ absurd (no_taker w.send (subst (λ (z : ℕ). are_fit p w.send z ≡ true) (sym is) w.fit))
+    ]
+
+pub taker_before : (p : MpiProgram) (steps : List Step) (i c : ℕ) → IsRun p (opening p) steps → is_matched (after_all (opening p) (take i steps)) c ≡ true → ((t : ℕ) → are_fit p c t ≡ true → ⊥) → IsTakerMatchedBefore steps c i
+taker_before p steps i c run done no_send =
+    let w = matching_step p (opening p) (take i steps) c (IsRun-take p (opening p) steps i run) (opening_free p c) done in
+    let k = in_prefix steps w.place i (Match w.send w.taker) w.there in
+    elim w.which [
+      | inr is ↦ record { earlier = w.place; before = k.0; send = w.send; there = cc (is, k.1) }
+      | inl is ↦ absurd (no_send w.taker (subst (λ (z : ℕ). are_fit p z w.taker ≡ true) (sym is) w.fit))
+    ]
+
+pub earlier_sends_match_first : EarlierSendsMatchFirst
+earlier_sends_match_first p steps i s t e run there below same fit =
+    let can = IsRun-at p (opening p) steps i (Match s t) run there in
+    send_before p steps i e run (can.sends e below same fit) (λ send. no_send_is_taker p e t send fit)
+
+pub earlier_takers_match_first : EarlierTakersMatchFirst
+earlier_takers_match_first p steps i s t e run there below same fit =
+    let can = IsRun-at p (opening p) steps i (Match s t) run there in
+    taker_before p steps i e run (can.takers e below same fit) (λ taker other. no_send_is_taker p e taker s other fit)
+
+-- ---- what is matched stays so, and isn't matched again
+
+some_at-same : (partner : List (Option ℕ)) (i c x : ℕ) → c ≡ i → i < length partner → some_at (slice_set partner i (Some x)) c ≡ true
+some_at-same partner i c x e within = ap is_some (get_or-set_at partner i c (Some x) None e within)
+
+some_at-grows : (partner : List (Option ℕ)) (i c x : ℕ) → some_at partner c ≡ true → some_at (slice_set partner i (Some x)) c ≡ true
+some_at-grows partner i c x holds =
+    elim (cases_lt i (length partner)) [
+      | inl within ↦
+          elim (cases_eq c i) [
+            | inl e ↦ some_at-same partner i c x e within
+            | inr differ ↦ ap is_some (get_or-set_other partner i c (Some x) None differ) ∙ holds
+          ]
+      | inr past ↦ ap (λ (l : List (Option ℕ)). some_at l c) (set_past partner i (Some x) past) ∙ holds
+    ]
+
+stays_matched : (m : Configuration) (x : Step) (c : ℕ) → is_matched m c ≡ true → is_matched (after m x) c ≡ true
+stays_matched m (Issue r b) c holds = holds
+stays_matched m (Match s t) c holds =
+    matched_is (after m (Match s t)) c ∙ some_at-grows (slice_set m.partner s (Some t)) t c s (some_at-grows m.partner s c t (sym (matched_is m c) ∙ holds))
+
+all_stay_matched : (m : Configuration) (xs : List Step) (c : ℕ) → is_matched m c ≡ true → is_matched (after_all m xs) c ≡ true
+all_stay_matched m [] c holds = holds
+all_stay_matched m (x ∷ xs) c holds = all_stay_matched (after m x) xs c (stays_matched m x c holds)
+
+-- a step keeps the number of partners
+same_size : (m : Configuration) (x : Step) → length (after m x).partner ≡ length m.partner
+same_size m (Issue r b) = refl
+same_size m (Match s t) = length-set (slice_set m.partner s (Some t)) t (Some s) ∙ length-set m.partner s (Some t)
+
+now_matched : (p : MpiProgram) (m : Configuration) (s t c : ℕ) → length m.partner ≡ length p.calls → CanMatch p m s t → (c ≡ s) ⊎ (c ≡ t) → is_matched (after m (Match s t)) c ≡ true
+now_matched p m s t c size can which =
+    let within = matched_within p m s t can in
+    matched_is (after m (Match s t)) c ∙
+    elim which [
+      | inl e ↦ some_at-grows (slice_set m.partner s (Some t)) t c s (some_at-same m.partner s c t e (omega (arith, size, within.0)))
+      | inr e ↦ some_at-same (slice_set m.partner s (Some t)) t c s e (omega (arith, size, within.1, length-set m.partner s (Some t)))
+    ]
+
+-- behind the place where a step matches it a call is matched
+matched_after : (p : MpiProgram) (m : Configuration) (steps : List Step) (c i k : ℕ) → length m.partner ≡ length p.calls → IsRun p m steps → i < k → IsMatchedAt steps c i → is_matched (after_all m (take k steps)) c ≡ true
+matched_after p m [] c i k size run below w = absurd (let e = w.there in cc)
+matched_after p m (x ∷ xs) c i zero size run below w = absurd (omega arith)
+matched_after p m (x ∷ xs) c zero (suc k) size run below w =
+    let e : x ≡ Match w.send w.taker = let there = w.there in cc in
+    let can : CanMatch p m w.send w.taker = subst (λ (z : Step). IsEnabled p m z) e run.0 in
+    all_stay_matched (after m x) (take k xs) c (ap (λ (z : Step). is_matched (after m z) c) e ∙ now_matched p m w.send w.taker c size can w.which)
+matched_after p m (x ∷ xs) c (suc i) (suc k) size run below w =
+    matched_after p (after m x) xs c i k (same_size m x ∙ size) run.1 (omega arith) (record { send = w.send; taker = w.taker; there = w.there; which = w.which })
+
+not_twice : (p : MpiProgram) (steps : List Step) (c i k : ℕ) → IsRun p (opening p) steps → i < k → IsMatchedAt steps c i → IsMatchedAt steps c k → ⊥
+not_twice p steps c i k run below w v =
+    let m = after_all (opening p) (take k steps) in
+    let matched = matched_after p (opening p) steps c i k (length-replicate _ _) run below w in
+    let can = IsRun-at p (opening p) steps k (Match v.send v.taker) run v.there in
+    let free : is_matched m c ≡ false = elim v.which [ inl e ↦ ap (is_matched m) e ∙ can.send_open | inr e ↦ ap (is_matched m) e ∙ can.taker_open ] in
+    cc
+
+pub matched_once : MatchedOnce
+matched_once p steps c i k run w v =
+    one_place (IsMatchedAt steps c) (λ i k below w v. not_twice p steps c i k run below w v) i k w v
