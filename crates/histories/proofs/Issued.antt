@@ -117,7 +117,7 @@ issuing_step p m [] c run free done = absurd (cc)
 issuing_step p m (x ∷ xs) c run free done =
     issuing_step_from p m x xs c run free (λ e. issuing_step p (after m x) xs c run.1 e done) (is_issued p (after m x) c) refl
 
-issued_before : (p : MpiProgram) (steps : List Step) (i c : ℕ) → IsInRankOrder p → IsRun p (opening p) steps → is_issued p (after_all (opening p) (take i steps)) c ≡ true → IsIssuedBefore (opening p) steps c i
+pub issued_before : (p : MpiProgram) (steps : List Step) (i c : ℕ) → IsInRankOrder p → IsRun p (opening p) steps → is_issued p (after_all (opening p) (take i steps)) c ≡ true → IsIssuedBefore (opening p) steps c i
 issued_before p steps i c order run done =
     let found = issuing_step p (opening p) (take i steps) c (IsRun-take p (opening p) steps i run) (not_issued p c order) done in
     let w = found.issued in

@@ -1,0 +1,58 @@
+//! The clauses of a program hold in the world of each of its stuck runs, family by family.
+
+ghost use Rattle.worlds.specs.Laws.{CallsAreIssuedInOrder, CallsAreIssuedAfterReturns, MatchesComeAfterIssues, CallsAreMatchedOnce, SendsDoNotOvertake, TakersDoNotOvertake, NoPairWaits, NoIssueWaits, SomeRankIsUnfinished, OrderIsTransitive, SendsAreBufferedAsAllowed};
+
+/// In the world of a stuck run calls are issued in order.
+pub fn calls_are_issued_in_order()
+    ensures { CallsAreIssuedInOrder }
+{}
+
+/// In the world of a stuck run calls are issued after returns.
+pub fn calls_are_issued_after_returns()
+    ensures { CallsAreIssuedAfterReturns }
+{}
+
+/// In the world of a stuck run matches come after issues.
+pub fn matches_come_after_issues()
+    ensures { MatchesComeAfterIssues }
+{}
+
+/// In the world of a stuck run calls are matched once.
+pub fn calls_are_matched_once()
+    ensures { CallsAreMatchedOnce }
+{}
+
+/// In the world of a stuck run sends don't overtake.
+pub fn sends_do_not_overtake()
+    ensures { SendsDoNotOvertake }
+{}
+
+/// In the world of a stuck run takers don't overtake.
+pub fn takers_do_not_overtake()
+    ensures { TakersDoNotOvertake }
+{}
+
+/// In the world of a stuck run no pair waits.
+pub fn no_pair_waits()
+    ensures { NoPairWaits }
+{}
+
+/// In the world of a stuck run no issue waits.
+pub fn no_issue_waits()
+    ensures { NoIssueWaits }
+{}
+
+/// In the world of a stuck run some rank is unfinished.
+pub fn some_rank_is_unfinished()
+    ensures { SomeRankIsUnfinished }
+{}
+
+/// In the world of a stuck run the order of events is transitive.
+pub fn order_is_transitive()
+    ensures { OrderIsTransitive }
+{}
+
+/// In the world of a stuck run standard sends are buffered as the policy says.
+pub fn sends_are_buffered_as_allowed()
+    ensures { SendsAreBufferedAsAllowed }
+{}
