@@ -52,13 +52,13 @@ pub record IsPairing (calls : List Call) (named_by : Kind → Option ℕ) (is_na
   pub once : (c d o : ℕ) (call other : Call) → slice_get calls c ≡ Some call → slice_get calls d ≡ Some other → named_by call.kind ≡ Some o → named_by other.kind ≡ Some o → c ≡ d
   pub each : (o : ℕ) (other : Call) → slice_get calls o ≡ Some other → IsTrue (is_named other.kind) → (c : ℕ) × (call : Call) × (slice_get calls c ≡ Some call) × (named_by call.kind ≡ Some o)
 
--- What each program keeps: 1 to 64 ranks and at most 256 calls, in rank order; ranks and peers exist; each wait
+-- What each program keeps: 1 to 64 ranks and at most 1,024 calls, in rank order; ranks and peers exist; each wait
 -- comes after its start, and each start is waited for exactly once; each matched probe comes before the receive on
 -- its handle, and each such receive belongs to exactly one matched probe.
 pub record IsProgram (p : MpiProgram) : Type 0 where
   pub some_rank : 1 ≤ p.ranks
   pub few_ranks : p.ranks ≤ 64
-  pub few_calls : length p.calls ≤ 256
+  pub few_calls : length p.calls ≤ 1024
   pub rank_order : (c d : ℕ) (call other : Call) → c ≤ d → slice_get p.calls c ≡ Some call → slice_get p.calls d ≡ Some other → call.rank ≤ other.rank
   pub in_range : (c : ℕ) (call : Call) → slice_get p.calls c ≡ Some call → HasRanksBelow p.ranks call
   pub waits : IsPairing p.calls operation_of is_start

@@ -39,7 +39,7 @@ has_fault ranks parts k action faults.HandleUnknown = is_unknown (uses Handle pa
 has_fault ranks parts k action faults.HandleOpen = is_open (uses Handle parts) k
 has_fault ranks parts k action faults.HandleLeft = is_left (uses Handle parts) k
 has_fault ranks parts k action faults.PeerRange = names_missing_rank ranks action
-has_fault ranks parts k action faults.TooManyCalls = nat_eq k 256
+has_fault ranks parts k action faults.TooManyCalls = nat_eq k 1024
 
 -- The call line at a place, from 1, of a rank, from 0, has this fault: a call that it expands to has it.
 pub record HasCallFault (text : ProgramText) (rank place : ℕ) (fault : CallFault) : Type 0 where

@@ -10,7 +10,9 @@ use calltext::Mode;
 pub struct Message {
     /// The rank, from 0, that the message is sent to.
     pub destination: u32,
+    /// The tag, from 0 to 32,767.
     pub tag: u32,
+    /// The communicator's number, from 0 to 255.
     pub communicator: u32,
 }
 
@@ -21,6 +23,7 @@ pub struct Pattern {
     pub source: Option<u32>,
     /// The tag, or `None` for any tag.
     pub tag: Option<u32>,
+    /// The communicator's number, from 0 to 255.
     pub communicator: u32,
 }
 
@@ -53,10 +56,12 @@ pub enum Kind {
     },
 }
 
-/// A call of a rank, from 0.
+/// A call of a rank.
 #[derive(Clone, Copy, Debug, PartialEq, Eq)]
 pub struct Call {
+    /// The rank that makes it, from 0.
     pub rank: u32,
+    /// What it does.
     pub kind: Kind,
 }
 

@@ -1,7 +1,8 @@
 //! The expansion of call lines.
 
-ghost use Rattle.std.specs.Prelude.{◌≡◌, ◌<◌, ◌≤◌, ◌∷◌, [], Some, IfOk, OnOk, length, map};
-ghost use Rattle.callorder.specs.Expansion.{name_in, names_in, message, pattern, parts_of, parts_of_lines, parts_of_text, send_part, receive_part, starting, wait_for, joined};
+ghost use Rattle.std.specs.Prelude.{◌≡◌, ◌<◌, ◌∷◌, [], IfOk, OnOk, map};
+ghost use Rattle.std.specs.Option.{option_copied};
+ghost use Rattle.callorder.specs.Expansion.{names_in, message, pattern, parts_of, parts_of_lines, parts_of_text, starting, wait_for, joined};
 ghost use Rattle.callorder.specs.Tables.{Expands, Adds, letters_of};
 
 use crate::calls::{Message, Pattern};
@@ -24,24 +25,27 @@ pub struct Expansion {
     pub handles: Vec<Option<Vec<u8>>>,
 }
 
-/// A name of a rank.
-fn name_in(alloc: Global, rank: u32, name: &[u8]) -> Result<Vec<u8>, AllocError>
+/// A name of a rank, if there is one.
+fn name_in(alloc: Global, rank: u32, name: Option<&[u8]>) -> Result<Option<Vec<u8>>, AllocError>
     requires { rank < 64 }
-    ensures { IfOk result (λ key. key.items ≡ name_in rank name.now) }
+    ensures { IfOk result (λ key. letters_of key ≡ names_in rank (option_copied name.entry)) }
 {
+    let Some(name) = name else {
+        return Ok(None);
+    };
     let mut key = Vec::new(alloc);
     key.push(rank as u8)?;
     key.extend_from_slice(name)?;
-    Ok(key)
+    Ok(Some(key))
 }
 
-fn names_in(alloc: Global, rank: u32, name: &Option<Name>) -> Result<Option<Vec<u8>>, AllocError>
-    requires { rank < 64 }
-    ensures { IfOk result (λ key. letters_of key ≡ names_in rank name.now) }
+/// The letters of a name, if there is one.
+fn letters(name: &Option<Name>) -> Option<&[u8]>
+    ensures { option_copied result ≡ name.now }
 {
     match name {
-        None => Ok(None),
-        Some(name) => Ok(Some(name_in(alloc, rank, name.letters())?)),
+        None => None,
+        Some(name) => Some(name.letters()),
     }
 }
 
@@ -64,6 +68,16 @@ fn pattern(source: Option<u32>, tag: Option<u32>, communicator: Option<u32>) -> 
         source,
         tag,
         communicator,
+    }
+}
+
+fn part_of(rank: u32, place: usize, action: Action) -> Part
+    ensures { result ≡ record { rank = rank; place = place; action = action } }
+{
+    Part {
+        rank,
+        place,
+        action,
     }
 }
 
@@ -94,29 +108,36 @@ impl Expansion {
         Ok(())
     }
 
+    /// Adds a call with the request that it starts or waits for and the handle that it makes or receives on, if any.
+    fn push_named(
+        &mut self,
+        alloc: Global,
+        part: Part,
+        request: Option<&[u8]>,
+        handle: Option<&[u8]>,
+    ) -> Result<(), AllocError>
+        requires { part.rank < 64 }
+        ensures { OnOk result (Adds self.old self.new (record { part = part; request = names_in part.rank (option_copied request.entry); handle = names_in part.rank (option_copied handle.entry) } ∷ [])) }
+    {
+        let request = name_in(alloc, part.rank, request)?;
+        let handle = name_in(alloc, part.rank, handle)?;
+        self.push(part, request, handle)?;
+        Ok(())
+    }
+
     /// Adds a call that starts this request, or is blocking if there is none.
     fn push_starting(
         &mut self,
         alloc: Global,
         rank: u32,
         place: usize,
-        request: &Option<Name>,
+        request: Option<&[u8]>,
         action: Action,
     ) -> Result<(), AllocError>
         requires { rank < 64 }
-        ensures { OnOk result (Adds self.old self.new (starting rank place request.now action ∷ [])) }
+        ensures { OnOk result (Adds self.old self.new (starting rank place (option_copied request.entry) action ∷ [])) }
     {
-        let request = names_in(alloc, rank, request)?;
-        self.push(
-            Part {
-                rank,
-                place,
-                action,
-            },
-            request,
-            None,
-        )?;
-        Ok(())
+        self.push_named(alloc, part_of(rank, place, action), request, None)
     }
 
     /// Adds the wait for a request.
@@ -130,18 +151,12 @@ impl Expansion {
         requires { rank < 64 }
         ensures { OnOk result (Adds self.old self.new (wait_for rank place request.now ∷ [])) }
     {
-        let action = Action::Wait;
-        let request = name_in(alloc, rank, request)?;
-        self.push(
-            Part {
-                rank,
-                place,
-                action,
-            },
+        self.push_named(
+            alloc,
+            part_of(rank, place, Action::Wait),
             Some(request),
             None,
-        )?;
-        Ok(())
+        )
     }
 
     /// Adds the waits for the requests, in their order.
@@ -158,48 +173,6 @@ impl Expansion {
         for request in requests {
             self.push_wait(alloc, rank, place, request.letters())?;
         }
-        Ok(())
-    }
-
-    /// Adds a matched probe with its handle, or the receive on one.
-    fn push_handle(
-        &mut self,
-        alloc: Global,
-        part: Part,
-        request: &Option<Name>,
-        handle: &Name,
-    ) -> Result<(), AllocError>
-        requires { part.rank < 64 }
-        ensures { OnOk result (Adds self.old self.new (record { part = part; request = names_in part.rank request.now; handle = Some (name_in part.rank handle.now) } ∷ [])) }
-    {
-        let request = names_in(alloc, part.rank, request)?;
-        let handle = name_in(alloc, part.rank, handle.letters())?;
-        self.push(part, request, Some(handle))?;
-        Ok(())
-    }
-
-    /// Adds the start of one of the two requests of a joined send and receive.
-    fn push_joined(
-        &mut self,
-        alloc: Global,
-        rank: u32,
-        place: usize,
-        request: &[u8],
-        action: Action,
-    ) -> Result<(), AllocError>
-        requires { rank < 64 }
-        ensures { OnOk result (Adds self.old self.new (starting rank place (Some request.now) action ∷ [])) }
-    {
-        let request = name_in(alloc, rank, request)?;
-        self.push(
-            Part {
-                rank,
-                place,
-                action,
-            },
-            Some(request),
-            None,
-        )?;
         Ok(())
     }
 
@@ -223,8 +196,8 @@ impl Expansion {
             message,
         };
         let receive = Action::Receive { blocking, pattern };
-        self.push_joined(alloc, rank, place, SEND_PART, send)?;
-        self.push_joined(alloc, rank, place, RECEIVE_PART, receive)?;
+        self.push_starting(alloc, rank, place, Some(SEND_PART), send)?;
+        self.push_starting(alloc, rank, place, Some(RECEIVE_PART), receive)?;
         self.push_wait(alloc, rank, place, SEND_PART)?;
         self.push_wait(alloc, rank, place, RECEIVE_PART)?;
         Ok(())
@@ -254,7 +227,7 @@ impl Expansion {
                     blocking: request.is_none(),
                     message: message(*destination, *tag, *communicator),
                 };
-                self.push_starting(alloc, rank, place, request, action)
+                self.push_starting(alloc, rank, place, letters(request), action)
             }
             CallLine::Receive {
                 request,
@@ -266,7 +239,7 @@ impl Expansion {
                     blocking: request.is_none(),
                     pattern: pattern(*source, *tag, *communicator),
                 };
-                self.push_starting(alloc, rank, place, request, action)
+                self.push_starting(alloc, rank, place, letters(request), action)
             }
             CallLine::MatchedProbe {
                 handle,
@@ -275,31 +248,13 @@ impl Expansion {
                 communicator,
             } => {
                 let pattern = pattern(*source, *tag, *communicator);
-                let action = Action::MatchedProbe { pattern };
-                self.push_handle(
-                    alloc,
-                    Part {
-                        rank,
-                        place,
-                        action,
-                    },
-                    &None,
-                    handle,
-                )
+                let part = part_of(rank, place, Action::MatchedProbe { pattern });
+                self.push_named(alloc, part, None, Some(handle.letters()))
             }
             CallLine::MatchedReceive { request, handle } => {
                 let blocking = request.is_none();
-                let action = Action::MatchedReceive { blocking };
-                self.push_handle(
-                    alloc,
-                    Part {
-                        rank,
-                        place,
-                        action,
-                    },
-                    request,
-                    handle,
-                )
+                let part = part_of(rank, place, Action::MatchedReceive { blocking });
+                self.push_named(alloc, part, letters(request), Some(handle.letters()))
             }
             CallLine::Wait { request } => self.push_wait(alloc, rank, place, request.letters()),
             CallLine::WaitAll { requests } => {

@@ -14,7 +14,7 @@ use crate::part::{Action, NameKind, Part};
 use std::alloc::{AllocError, Global};
 
 /// The most calls that a program may have.
-const MOST_CALLS: usize = 256;
+const MOST_CALLS: usize = 1024;
 
 /// The calls of an expansion, and how they belong together.
 #[derive(Debug, Drop)]

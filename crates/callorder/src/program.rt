@@ -8,7 +8,7 @@ use calltext::Policy;
 use std::marker::Model;
 
 /// A program: its buffering policy, the number of its ranks, and the calls of all ranks in one list, in rank
-/// order. Calls are named by their place in the list, from 0. There are 1 to 64 ranks and at most 256 calls;
+/// order. Calls are named by their place in the list, from 0. There are 1 to 64 ranks and at most 1,024 calls;
 /// each peer is one of the ranks; each start is waited for once, later; each matched probe has one receive on its
 /// handle, later.
 #[derive(Debug, Drop)]

@@ -9,7 +9,7 @@ ghost use Rattle.calltext.specs.Capped.{capped_call};
 use crate::call::{CallLine, Mode};
 use crate::name::{Name, name_of, names_of};
 use crate::verb::Verb;
-use crate::words::{Message, Pattern, message_of, pattern_of};
+use crate::words::{MessageNumbers, PatternNumbers, message_of, pattern_of};
 use plaintext::number_of;
 use std::alloc::{AllocError, Global};
 
@@ -60,7 +60,7 @@ fn send_of(
         return Ok(None);
     };
     let Some(
-        Message {
+        MessageNumbers {
             destination,
             tag,
             communicator,
@@ -85,7 +85,7 @@ fn receive_of(alloc: Global, started: bool, words: &[&[u8]]) -> Result<Option<Ca
         return Ok(None);
     };
     let Some(
-        Pattern {
+        PatternNumbers {
             source,
             tag,
             communicator,
@@ -109,7 +109,7 @@ fn matched_probe_of(alloc: Global, words: &[&[u8]]) -> Result<Option<CallLine>, 
         return Ok(None);
     };
     let Some(
-        Pattern {
+        PatternNumbers {
             source,
             tag,
             communicator,
@@ -175,7 +175,7 @@ fn send_receive_of(words: &[&[u8]]) -> Option<CallLine>
     let destination = number_of(destination)?;
     let send_tag = number_of(send_tag)?;
     let Some(
-        Pattern {
+        PatternNumbers {
             source,
             tag,
             communicator,

@@ -27,3 +27,4 @@ pub use printer::print;
 pub use reader::read;
 pub use refused::RefusedWord;
 pub use source::Source;
+pub use verb::Verb;

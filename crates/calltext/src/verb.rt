@@ -11,12 +11,19 @@ use plaintext::is_word;
 /// an `i`, and its request's name follows.
 #[derive(Clone, Copy)]
 pub enum Verb {
+    /// `send`, `ssend`, `bsend`, `isend`, `issend`, `ibsend`.
     Send { mode: Mode, started: bool },
+    /// `recv`, `irecv`.
     Receive { started: bool },
+    /// `mprobe`.
     MatchedProbe,
+    /// `mrecv`, `imrecv`.
     MatchedReceive { started: bool },
+    /// `wait`.
     Wait,
+    /// `waitall`.
     WaitAll,
+    /// `sendrecv`.
     SendReceive,
 }
 
@@ -75,7 +82,7 @@ fn send_text(mode: Mode, started: bool) -> &'static str
 }
 
 impl Verb {
-    /// The word.
+    /// The word that a text spells it with.
     pub fn text(&self) -> &'static str
         ensures { result.now ≡ verb_word self.now }
     {

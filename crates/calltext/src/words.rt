@@ -80,7 +80,7 @@ fn communicator_of(words: &[&[u8]]) -> Option<Option<u32>>
 
 /// What a send names after its request.
 #[derive(Clone, Copy)]
-pub struct Message {
+pub struct MessageNumbers {
     pub destination: u32,
     pub tag: u32,
     pub communicator: Option<u32>,
@@ -88,14 +88,14 @@ pub struct Message {
 
 /// What a receive or a matched probe names last.
 #[derive(Clone, Copy)]
-pub struct Pattern {
+pub struct PatternNumbers {
     pub source: Option<u32>,
     pub tag: Option<u32>,
     pub communicator: Option<u32>,
 }
 
 /// A destination, a tag and perhaps a communicator.
-pub fn message_of(words: &[&[u8]]) -> Option<Message>
+pub fn message_of(words: &[&[u8]]) -> Option<MessageNumbers>
     ensures none { IfNone result ((d t : ℕ) (k : Option ℕ) → message_words d t k ≢ map (λ w. w.now) words.now) }
     ensures some { IfSome result (λ found. (d : ℕ) × (t : ℕ) × (k : Option ℕ) × (message_words d t k ≡ map (λ w. w.now) words.now) × (found.destination ≡ min d 2147483648) × (found.tag ≡ min t 2147483648) × (found.communicator ≡ capped_option k)) }
 {
@@ -105,7 +105,7 @@ pub fn message_of(words: &[&[u8]]) -> Option<Message>
     let destination = number_of(destination)?;
     let tag = number_of(tag)?;
     let communicator = communicator_of(others)?;
-    Some(Message {
+    Some(MessageNumbers {
         destination,
         tag,
         communicator,
@@ -113,7 +113,7 @@ pub fn message_of(words: &[&[u8]]) -> Option<Message>
 }
 
 /// A source and a tag, or a star in the place of each, and perhaps a communicator.
-pub fn pattern_of(words: &[&[u8]]) -> Option<Pattern>
+pub fn pattern_of(words: &[&[u8]]) -> Option<PatternNumbers>
     ensures none { IfNone result ((s t k : Option ℕ) → pattern_words s t k ≢ map (λ w. w.now) words.now) }
     ensures some { IfSome result (λ found. (s : Option ℕ) × (t : Option ℕ) × (k : Option ℕ) × (pattern_words s t k ≡ map (λ w. w.now) words.now) × (found.source ≡ capped_option s) × (found.tag ≡ capped_option t) × (found.communicator ≡ capped_option k)) }
 {
@@ -123,7 +123,7 @@ pub fn pattern_of(words: &[&[u8]]) -> Option<Pattern>
     let source = number_or_star(source)?;
     let tag = number_or_star(tag)?;
     let communicator = communicator_of(others)?;
-    Some(Pattern {
+    Some(PatternNumbers {
         source,
         tag,
         communicator,

@@ -1,1 +1,2 @@
 pub mod OneVerdicts
+pub mod Reasons

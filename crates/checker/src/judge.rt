@@ -1,7 +1,8 @@
 //! The verdict.
 
 ghost use Rattle.std.specs.Prelude.{◌≡◌, ◌≢◌, ◌⊎◌, IfOk, IfErr};
-ghost use Rattle.checker.specs.Verdicts.{AreShown, Shows, Judges, IsNoRun, IsProgramReason};
+ghost use Rattle.checker.specs.Parts.{AreShown, IsNoRun};
+ghost use Rattle.checker.specs.Verdicts.{Shows, Judges, IsProgramReason};
 ghost use Rattle.callorder.specs.Resolving.{IsTextOf};
 
 use crate::reason::{NoRun, Reason, Verdict};
@@ -14,7 +15,9 @@ use std::alloc::Global;
 /// A program, and a schedule that is a run of it that ends stuck.
 #[derive(Debug, Drop)]
 pub struct StuckRun {
+    /// The program.
     pub program: Program,
+    /// The steps of the run, from the opening state on.
     pub schedule: Schedule,
 }
 
@@ -34,7 +37,10 @@ pub fn stuck_run_of(alloc: Global, program: &[u8], evidence: &[u8]) -> Result<St
     ensures shown { IfOk result (λ run. AreShown program.now evidence.now run.program run.schedule) }
     ensures why { IfErr result (λ why. IsNoRun program.now evidence.now why) }
 {
-    let program = program_of(alloc, program)?;
+    let program = match program_of(alloc, program) {
+        Ok(program) => program,
+        Err(reason) => return Err(NoRun::Refused(reason)),
+    };
     let schedule = match read_evidence(alloc, evidence)? {
         Evidence::Schedule(schedule) => schedule,
         Evidence::Refutation(_refutation) => return Err(NoRun::NotASchedule),

@@ -1,7 +1,7 @@
 //! Verdicts, and why an evidence is refused.
 
 ghost use Rattle.std.specs.Prelude.{◌≡◌};
-ghost use Rattle.checker.specs.Verdicts.{read_reason, resolve_reason, evidence_reason};
+ghost use Rattle.checker.specs.Parts.{read_reason, resolve_reason, evidence_reason};
 ghost use Rattle.checker.specs.declared.reason.NoRun.TheVariants as runs;
 
 use callorder::ResolveFault;

@@ -1,3 +1,4 @@
 pub mod Clauses
 pub mod Laws
 pub mod Packing
+pub mod Storage

@@ -3,27 +3,32 @@
 ghost use Rattle.std.specs.Prelude.{◌≡◌, ◌↔◌, IfOk, IfErr, IsOk, IsTrue, false};
 ghost use Rattle.clauses.specs.Clauses.{rises, rises_above, is_within};
 
-use crate::literal::Lit;
+use crate::literal::{LARGEST_VARIABLE, Lit};
+use crate::storage::{Storage, copied, kept, literals};
 use std::alloc::{AllocError, Global};
 use std::marker::Model;
 use thiserror::Error;
 
 /// Literals whose variables rise strictly, so that no variable stands twice. It demands that one of
 /// them is true, so the empty clause is never satisfied.
+/// Up to four literals take no block of memory.
 #[derive(Debug, Drop)]
 pub struct Clause {
-    literals: Vec<Lit>,
+    storage: Storage,
 }
 
 impl Model for Clause {
     ghost use Rattle.std.specs.Prelude.{List, IsTrue};
     ghost use Rattle.clauses.specs.Clauses.{Literal, rises, is_within};
+    ghost use Rattle.clauses.specs.declared.literal.TheConstants.{LARGEST_VARIABLE};
 
     ghost Value = { List Literal };
 
-    ghost view = { λ c. c.literals.items };
+    ghost use Rattle.clauses.specs.Storage.{literals_in, IsSound};
 
-    ghost invariant = { λ c. IsTrue (rises c.literals.items) × IsTrue (is_within 2147483647 c.literals.items) };
+    ghost view = { λ c. literals_in c.storage };
+
+    ghost invariant = { λ c. IsSound c.storage × IsTrue (rises (literals_in c.storage)) × IsTrue (is_within LARGEST_VARIABLE (literals_in c.storage)) };
 }
 
 /// Why no clause was made.
@@ -39,7 +44,7 @@ pub enum ClauseFault {
 
 fn rises(literals: &[Lit]) -> bool
     ensures rises { result ≡ rises literals.now }
-    ensures within { IsTrue result → IsTrue (is_within 2147483647 literals.now) }
+    ensures within { IsTrue result → IsTrue (is_within LARGEST_VARIABLE literals.now) }
 {
     let mut last = 0;
     for literal in literals {
@@ -63,8 +68,8 @@ impl Clause {
         if !rises(literals) {
             return Err(ClauseFault::Order);
         }
-        match literals.to_vec(alloc) {
-            Ok(literals) => Ok(Clause { literals }),
+        match copied(alloc, literals) {
+            Ok(storage) => Ok(Clause { storage }),
             Err(AllocError) => Err(ClauseFault::Memory),
         }
     }
@@ -79,15 +84,33 @@ impl Clause {
         if !rises(literals.as_slice()) {
             return Err(literals);
         }
-        Ok(Clause { literals })
+        let storage = kept(literals);
+        Ok(Clause { storage })
+    }
+
+    /// A copy of the clause.
+    pub fn copy(&self, alloc: Global) -> Result<Clause, AllocError>
+        ensures { IfOk result (λ clause. clause ≡ self.now) }
+    {
+        let storage = copied(alloc, self.literals())?;
+        Ok(Clause { storage })
+    }
+
+    /// Whether no variable of the clause is above this one.
+    pub fn is_within(&self, variables: u32) -> bool
+        ensures { result ≡ is_within variables self.now }
+    {
+        self.literals()
+            .iter()
+            .all(|literal| literal.variable() <= variables)
     }
 
     /// Its literals, rising strictly by variable.
     pub fn literals(&self) -> &[Lit]
         ensures same { result.now ≡ self.now }
         ensures rises { IsTrue (rises self.now) }
-        ensures within { IsTrue (is_within 2147483647 self.now) }
+        ensures within { IsTrue (is_within LARGEST_VARIABLE self.now) }
     {
-        self.literals.as_slice()
+        literals(&self.storage)
     }
 }

@@ -25,19 +25,10 @@ impl Model for Formula {
     ghost invariant = { λ f. IsTrue (are_within f.variables f.clauses.items) };
 }
 
-fn is_within(variables: u32, clause: &Clause) -> bool
-    ensures { result ≡ is_within variables clause.now }
-{
-    clause
-        .literals()
-        .iter()
-        .all(|literal| literal.variable() <= variables)
-}
-
 fn are_within(variables: u32, clauses: &[Clause]) -> bool
     ensures { result ≡ are_within variables clauses.now }
 {
-    clauses.iter().all(|clause| is_within(variables, clause))
+    clauses.iter().all(|clause| clause.is_within(variables))
 }
 
 impl Formula {

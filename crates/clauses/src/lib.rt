@@ -9,6 +9,7 @@ mod clause;
 mod formula;
 mod laws;
 mod literal;
+mod storage;
 
 pub use assignment::Assignment;
 pub use clause::{Clause, ClauseFault};

@@ -33,12 +33,15 @@ impl Model for Lit {
     ghost inverse_ok = { λ l _. ap (λ (n : ℕ). record { number = n }) (packed-unpacked l.number) };
 }
 
+/// A literal for places that hold none.
+pub(crate) const FILLER: Lit = Lit { number: 2 };
+
 impl Lit {
     /// The variable of this number, or its negation where `positive` is false. There is none for 0
     /// and for a number above [`LARGEST_VARIABLE`].
     pub fn make(variable: u32, positive: bool) -> Option<Lit>
         ensures made { IfSome result (λ l. l ≡ record { variable = variable; positive = positive }) }
-        ensures when { IsSome result ↔ ((1 ≤ variable) × (variable ≤ 2147483647)) }
+        ensures when { IsSome result ↔ ((1 ≤ variable) × (variable ≤ LARGEST_VARIABLE)) }
     {
         if variable == 0 || variable > LARGEST_VARIABLE {
             return None;
@@ -55,7 +58,7 @@ impl Lit {
     pub fn variable(&self) -> u32
         ensures same { result ≡ self.now.variable }
         ensures from_one { 1 ≤ result }
-        ensures most { result ≤ 2147483647 }
+        ensures most { result ≤ LARGEST_VARIABLE }
     {
         self.number / 2
     }

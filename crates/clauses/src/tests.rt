@@ -225,3 +225,29 @@ fn empty_clause_and_empty_formula(rt: HostRuntime) -> Result<(), Fail> {
     assert!(rt; !assignment.satisfies(&formula(0, clauses)?));
     Ok(())
 }
+
+#[test]
+fn clauses_of_each_size(rt: HostRuntime) -> Result<(), Fail> {
+    let alloc = rt.alloc();
+    let signs: [(u32, bool); 6] = [
+        (1, true),
+        (3, false),
+        (4, true),
+        (8, true),
+        (9, false),
+        (2_147_483_647, true),
+    ];
+    for len in 0..signs.len() + 1 {
+        let wanted = literals(alloc, &signs[..len])?;
+        let made = clause(alloc, &signs[..len])?;
+        assert_eq!(rt; made.literals(), wanted.as_slice());
+        assert_eq!(rt; made.copy(alloc)?.literals(), wanted.as_slice());
+        assert!(rt; made.is_within(2_147_483_647));
+        assert_eq!(rt; made.is_within(8), len < 5);
+        match Clause::from_vec(literals(alloc, &signs[..len])?) {
+            Ok(kept) => assert_eq!(rt; kept.literals(), wanted.as_slice()),
+            Err(_literals) => return Err(Fail::from("no clause")),
+        }
+    }
+    Ok(())
+}

@@ -113,6 +113,8 @@ impl<'a> FileSet for DiskFiles<'a> {
             _ => Err(OpenFault::Device),
         }
     }
+
+    fn close(&mut self, _path: &str, _writer: DiskWriter<'a>) {}
 }
 
 /// Reads a file of a disk in pieces.

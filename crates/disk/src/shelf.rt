@@ -1,5 +1,5 @@
 //! Files in memory that tell what they hold.
-ghost use Rattle.std.specs.Prelude.{option_map, true};
+ghost use Rattle.std.specs.Prelude.{bytes_eq, codes, option_map, true};
 ghost use Rattle.disk.specs.Shelves.{shelf_file};
 
 use files::{FileSet, OpenFault};
@@ -24,6 +24,8 @@ impl<'a> FileSet for Shelf<'a> {
         (option_map (λ bytes. bytes.items) shelf.out) };
 
     ghost tells_written = { true };
+
+    ghost takes = { λ _ path. bytes_eq path (codes "out") };
 
     type Reader = &'a [u8];
 

@@ -9,6 +9,7 @@ use thiserror::Error;
 /// Why a file can't be opened.
 #[derive(Clone, Copy, Debug, PartialEq, Eq, Error)]
 pub enum OpenFault {
+    /// Memory ran out.
     #[error("out of memory")]
     Memory,
     /// The system refused, as for a file that isn't there.
@@ -30,6 +31,7 @@ impl From<io::Error> for OpenFault {
 /// Why a file can't be read to its end.
 #[derive(Clone, Copy, Debug, PartialEq, Eq, Error)]
 pub enum LoadFault {
+    /// Memory ran out.
     #[error("out of memory")]
     Memory,
     /// A read failed.

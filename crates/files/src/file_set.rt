@@ -1,5 +1,6 @@
 //! Files that are opened by their path.
-ghost use Rattle.std.specs.Prelude.{◌≡◌, ℕ, Bool, false, List, [], Option, Some, None, IfOk, IfSome, IsTrue, OnOk};
+ghost use Rattle.std.specs.Prelude.{◌≡◌, ℕ, Bool, false, true, List, [], Option, Some, None, IfOk, IfSome, IsTrue, OnErr, OnOk};
+ghost use Rattle.files.specs.Contents.{KeepsOthers};
 
 use crate::OpenFault;
 use std::io::{Read, Write};
@@ -18,8 +19,11 @@ pub trait FileSet {
     // The bytes of the file at a path, where the set tells them.
     ghost held: { Self → List ℕ → Option (List ℕ) } = { λ _ _. None };
 
-    // Whether the set's writers tell the bytes that they took.
+    // Whether the set's writers tell the bytes that they took, and the set what it then holds.
     ghost tells_written: { Bool } = { false };
+
+    // Whether a file at this path can be written.
+    ghost takes: { Self → List ℕ → Bool } = { λ _ _. true };
 
     /// Opens the file at a path to be read. No file changes.
     fn open_read(&mut self, path: &str) -> Result<Self::Reader, OpenFault>
@@ -28,16 +32,22 @@ pub trait FileSet {
         ensures same { held self.new ≡ held self.old };
 
     /// Opens the file at a path to be written. What it held is gone, and what it holds is told once
-    /// it is closed.
+    /// it is closed. Every other file holds what it held, and where the opening is refused this one
+    /// does too.
     fn open_write(&mut self, path: &str) -> Result<Self::Writer, OpenFault>
         ensures empty { IsTrue tells_written →
             IfOk result (λ writer. Self.Writer.contents writer ≡ Some []) }
-        ensures untold { OnOk result (held self.new path.now ≡ None) };
+        ensures untold { OnOk result (held self.new path.now ≡ None) }
+        ensures taken { OnOk result (IsTrue (takes self.new path.now)) }
+        ensures others { KeepsOthers path.now (held self.old) (held self.new) }
+        ensures refused { OnErr result (held self.new ≡ held self.old) };
 
-    /// Ends the writing of the file at a path. Where the set then tells what the file holds, that
-    /// is what its writer took.
+    /// Ends the writing of the file at a path, which then holds what its writer took. Every other
+    /// file holds what it held.
     fn close(&mut self, path: &str, writer: Self::Writer)
-        requires { held self.old path.now ≡ None }
-        ensures { IfSome (held self.new path.now) (λ bytes. Self.Writer.contents writer ≡ Some bytes) }
-    {}
+        requires untold { held self.old path.now ≡ None }
+        requires taken { IsTrue (takes self.old path.now) }
+        ensures bytes { IsTrue tells_written
+            → held self.new path.now ≡ Self.Writer.contents writer }
+        ensures others { KeepsOthers path.now (held self.old) (held self.new) };
 }

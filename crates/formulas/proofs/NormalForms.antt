@@ -1,15 +1,16 @@
 -- The normal form of a clause keeps its meaning, and rises.
-use Rattle.std.proofs.Common.{◌≡◌, ℕ, suc, ◌+◌, ◌<◌, Bool, true, false, not, ◌&&◌, ◌||◌, ◌==◌, nat_lt, if◌then◌else◌, List, [], ◌∷◌, Option, Some, None, refl, sym, ap, ◌∙◌, arith}
+use Rattle.std.proofs.Common.{◌≡◌, ℕ, suc, ◌+◌, ◌<◌, Bool, true, false, not, ◌&&◌, ◌||◌, ◌==◌, nat_lt, if◌then◌else◌, List, [], ◌∷◌, ◌++◌, map, Option, Some, None, refl, sym, ap, ◌∙◌, arith}
 use Rattle.std.specs.Prelude.{All}
-use Rattle.std.specs.List.{filter_map, cons_option, fold, list_any, list_all}
+use Rattle.std.specs.List.{filter_map, flat_map, cons_option, fold, list_any, list_all}
 use Rattle.std.proofs.lemmas.Bool.Decides.{nat_tests}
 use Rattle.std.proofs.lemmas.List.Folds.{list_all-append}
 use Rattle.callorder.specs.Programs.{MpiProgram}
 use Rattle.clauses.specs.Clauses.{Literal, TruthAssignment, signed, holds, rises_above, rises, satisfies_clause, satisfies}
 use Rattle.formulas.specs.Facts.{Statement, is_true, is_false, is_earlier}
-use Rattle.formulas.specs.Families.{SymbolicClause, families}
-use Rattle.formulas.specs.Numbering.{comes_first, put, sorted, has_both_signs, place_of, literal_of, normal_form, numbered}
-use Rattle.formulas.proofs.Elements.{and_both, all_flat_map, each_from}
+use Rattle.formulas.specs.Families.{SymbolicClause, families_of_order, families_of_end, sends_are_buffered_as_allowed, place_of}
+use Rattle.formulas.specs.Orders.{SignedMeaning, order_clauses}
+use Rattle.formulas.specs.Numbering.{comes_first, put, sorted, has_both_signs, literal_of, in_normal_form, normal_form, numbered, literal_of_signed, numbered_order}
+use Rattle.formulas.proofs.Elements.{and_both, all_append, all_flat_map, each_from}
 use Rattle.formulas.specs.Laws.{holds_if_any, Agrees, NumberedClausesMeanSymbolic, ClausesRise}
 
 all_head : {X : Type 0} (P : X → Type 0) (x : X) (xs : List X) → All P (x ∷ xs) → P x
@@ -143,10 +144,12 @@ sorted_in_order : (literals : List Literal) → InOrder (sorted literals)
 unfolding InOrder
 sorted_in_order literals = fold_order literals [] tt
 
+pub in_normal_form_means : (a : TruthAssignment) (literals : List Literal) → satisfies a (in_normal_form literals) ≡ satisfies_clause a literals
+in_normal_form_means a literals =
+    unless_step a (sorted literals) (has_both_signs (sorted literals)) refl (sorted_in_order literals) ∙ fold_means a literals []
+
 normal_form_means : (p : MpiProgram) (a : TruthAssignment) (is_right : Statement → Bool) (clause : SymbolicClause) → All (Agrees p a is_right) clause → satisfies a (normal_form p clause) ≡ list_any is_right clause
-normal_form_means p a is_right clause same =
-    let literals = filter_map (literal_of p) clause in
-    unless_step a (sorted literals) (has_both_signs (sorted literals)) refl (sorted_in_order literals) ∙ fold_means a literals [] ∙ literals_mean p a is_right clause same
+normal_form_means p a is_right clause same = in_normal_form_means a (filter_map (literal_of p) clause) ∙ literals_mean p a is_right clause same
 
 pub numbered_clauses_mean_symbolic : NumberedClausesMeanSymbolic
 numbered_clauses_mean_symbolic p a is_right [] same = refl
@@ -245,17 +248,41 @@ unless_rises : (clause : List Literal) (b : Bool) → has_both_signs clause ≡ 
 unless_rises clause true e positive order = refl
 unless_rises clause false e positive order = and_both (rises clause) true (clause_rises clause positive order e) refl
 
-sorted_numbered : (p : MpiProgram) (clause : SymbolicClause) → Numbered (sorted (filter_map (literal_of p) clause))
+in_normal_form_rises : (literals : List Literal) → Numbered literals → list_all rises (in_normal_form literals) ≡ true
 unfolding Numbered
-sorted_numbered p clause = fold_numbered (filter_map (literal_of p) clause) [] (literals_numbered p clause) tt
+in_normal_form_rises literals h =
+    unless_rises (sorted literals) (has_both_signs (sorted literals)) refl (fold_numbered literals [] h tt) (sorted_in_order literals)
 
-normal_form_rises : (p : MpiProgram) (clause : SymbolicClause) → list_all rises (normal_form p clause) ≡ true
-normal_form_rises p clause =
-    let literals = sorted (filter_map (literal_of p) clause) in
-    unless_rises literals (has_both_signs literals) refl (sorted_numbered p clause) (sorted_in_order (filter_map (literal_of p) clause))
+-- what statements make rises, and so do meanings with signs
+pub statements_rise : (p : MpiProgram) (clause : SymbolicClause) → list_all rises (normal_form p clause) ≡ true
+statements_rise p clause = in_normal_form_rises (filter_map (literal_of p) clause) (literals_numbered p clause)
+
+family_rises : (p : MpiProgram) (clauses : List SymbolicClause) → list_all rises (numbered p clauses) ≡ true
+family_rises p clauses =
+    all_flat_map rises (normal_form p) clauses
+    (each_from (λ clause. list_all rises (normal_form p clause) ≡ true) (λ clause.
+    in_normal_form_rises (filter_map (literal_of p) clause) (literals_numbered p clause)) clauses)
+
+signed_numbered : (p : MpiProgram) (clause : List SignedMeaning) → Numbered (map (literal_of_signed p) clause)
+unfolding Numbered
+signed_numbered p [] = tt
+signed_numbered p (x ∷ clause) = (one_more _, signed_numbered p clause)
+
+pub meanings_rise : (p : MpiProgram) (clause : List SignedMeaning) → list_all rises (in_normal_form (map (literal_of_signed p) clause)) ≡ true
+meanings_rise p clause = in_normal_form_rises (map (literal_of_signed p) clause) (signed_numbered p clause)
+
+order_rises_too : (p : MpiProgram) → list_all rises (numbered_order p) ≡ true
+order_rises_too p =
+    all_flat_map rises (λ clause. in_normal_form (map (literal_of_signed p) clause)) (order_clauses p)
+    (each_from (λ clause. list_all rises (in_normal_form (map (literal_of_signed p) clause)) ≡ true) (λ clause.
+    in_normal_form_rises (map (literal_of_signed p) clause) (signed_numbered p clause)) (order_clauses p))
 
 pub clauses_rise : ClausesRise
 clauses_rise p =
-    all_flat_map rises (numbered p) (families p)
-    (each_from (λ clauses. list_all rises (numbered p clauses) ≡ true) (λ clauses.
-    all_flat_map rises (normal_form p) clauses (each_from (λ clause. list_all rises (normal_form p clause) ≡ true) (normal_form_rises p) clauses)) (families p))
+    let others = families_of_order p ++ families_of_end p in
+    let policy = sends_are_buffered_as_allowed p in
+    all_append rises (flat_map (numbered p) others ++ numbered_order p) (numbered p policy)
+    (all_append rises (flat_map (numbered p) others) (numbered_order p)
+    (all_flat_map rises (numbered p) others (each_from (λ clauses. list_all rises (numbered p clauses) ≡ true) (family_rises p) others))
+    (order_rises_too p))
+    (family_rises p policy)

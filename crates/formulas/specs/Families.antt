@@ -1,7 +1,7 @@
 -- The clauses of a program, family by family, before their variables are numbered. Together they say of the end of a
 -- run, and of the order of its events, that the run follows the program and is stuck.
-use Rattle.std.specs.Prelude.{ℕ, zero, suc, ◌+◌, ◌-◌, Bool, true, false, not, ◌==◌, nat_lt, if◌then◌else◌, is_some, List, [], ◌∷◌, ◌++◌, map, filter, length, get_or, Option, Some, None}
-use Rattle.std.specs.List.{flat_map, range_with_len}
+use Rattle.std.specs.Prelude.{ℕ, zero, suc, ◌+◌, Bool, true, false, not, ◌==◌, nat_lt, if◌then◌else◌, is_some, List, [], ◌∷◌, ◌++◌, map, filter, get_or, Option, Some, None}
+use Rattle.std.specs.List.{flat_map, position_or_len}
 use Rattle.calltext.specs.declared.call.Mode.TheVariants.{Standard, Synchronous, Buffered}
 use Rattle.calltext.specs.declared.call.Policy.{Policy}
 use Rattle.calltext.specs.declared.call.Policy.TheVariants.{Any, Never, Always}
@@ -12,7 +12,9 @@ use Rattle.callorder.specs.Calls.{pattern_of, receive_of}
 use Rattle.callorder.specs.Programs.{MpiProgram, call_at, are_of_one_rank, are_fit}
 use Rattle.candidates.specs.Pairs.{places, takers_of, pairs_of}
 use Rattle.nonovertake.specs.Earlier.{earlier_sends, earlier_takers}
-use Rattle.formulas.specs.Facts.{Event, issue_of, match_of, issued, buffered, matched, unfinished, Statement, is_true, is_false, is_earlier}
+pub use Rattle.formulas.specs.declared.facts.Condition.{Condition}
+pub use Rattle.formulas.specs.declared.facts.Condition.TheVariants.{AtOnce as at_once, IfMatched as if_matched, IfFetched as if_fetched, IfBufferedOrFetched as if_buffered_or_fetched}
+use Rattle.formulas.specs.Facts.{Event, issue_of, match_of, issued, buffered, matched, unfinished, Statement, is_true, is_false, is_earlier, is_same_event}
 
 -- ---- calls
 
@@ -89,9 +91,9 @@ events p = map issue_of (places p) ++ map match_of (filter (is_taker p) (places 
 abbrev pub event_at : MpiProgram → ℕ → Event
 event_at p place = get_or (events p) place (issue_of 0)
 
--- the numbers above the first one and below the second, rising
-abbrev pub between : ℕ → ℕ → List ℕ
-between low high = range_with_len (low + 1) (high - (low + 1))
+-- the place of an event in the list
+abbrev pub place_of : MpiProgram → Event → ℕ
+place_of p e = position_or_len (is_same_event e) (events p)
 
 -- the event by which a taker with this receive on its handle, or with none, fetches its message
 abbrev pub event_of_fetch : Option ℕ → ℕ → Event
@@ -103,13 +105,6 @@ abbrev pub fetch_of : MpiProgram → ℕ → Event
 fetch_of p taker = event_of_fetch (receive_on_handle p taker) taker
 
 -- ---- when an issued call has returned
-
--- At once, where a taker is matched, where a send is fetched, or where a send is buffered or fetched.
-pub data Condition : Type 0 where
-  at_once : Condition
-  if_matched : ℕ → Condition
-  if_fetched : ℕ → Condition
-  if_buffered_or_fetched : ℕ → Condition
 
 -- the condition under which the operation of a call of this kind is done
 abbrev pub when_done_kind : Kind → ℕ → Condition
@@ -309,19 +304,6 @@ some_rank_is_unfinished p =
     flat_map (λ c. where_returned p c (is_false (unfinished (rank_of p c)))) (last_calls p) ++
     (map (λ c. is_true (unfinished (rank_of p c))) (last_calls p) ∷ [])
 
--- the three events don't go round, in either direction
-abbrev pub is_transitive_at : Event → Event → Event → List SymbolicClause
-is_transitive_at e f g =
-    (is_earlier f e ∷ is_earlier e g ∷ is_earlier g f ∷ []) ∷ (is_earlier e f ∷ is_earlier g e ∷ is_earlier f g ∷ []) ∷ []
-
--- The order of events is transitive: no three events go round, each earlier than the next one.
-abbrev pub order_is_transitive : MpiProgram → List SymbolicClause
-order_is_transitive p =
-    let most = length (events p) in
-    flat_map
-    (λ e. flat_map (λ f. flat_map (λ g. is_transitive_at (event_at p e) (event_at p f) (event_at p g)) (between f most)) (between e most))
-    (range_with_len 0 most)
-
 -- what the policy says of a standard send
 abbrev pub buffered_under : Policy → ℕ → List SymbolicClause
 buffered_under Any send = []
@@ -332,18 +314,21 @@ buffered_under Always send = (is_true (buffered send) ∷ []) ∷ []
 abbrev pub sends_are_buffered_as_allowed : MpiProgram → List SymbolicClause
 sends_are_buffered_as_allowed p = flat_map (buffered_under p.policy) (standard_sends p)
 
--- the families in the order of the formula
-abbrev pub families : MpiProgram → List (List SymbolicClause)
-families p =
+-- the families that state which of two events is earlier, in the order of the formula
+abbrev pub families_of_order : MpiProgram → List (List SymbolicClause)
+families_of_order p =
     calls_are_issued_in_order p ∷
     calls_are_issued_after_returns p ∷
     matches_come_after_issues p ∷
     calls_are_matched_once p ∷
     sends_do_not_overtake p ∷
     takers_do_not_overtake p ∷
-    no_pair_waits p ∷
-    no_issue_waits p ∷
-    some_rank_is_unfinished p ∷
-    order_is_transitive p ∷
-    sends_are_buffered_as_allowed p ∷
     []
+
+-- the families that say that the run is stuck
+abbrev pub families_of_end : MpiProgram → List (List SymbolicClause)
+families_of_end p = no_pair_waits p ∷ no_issue_waits p ∷ some_rank_is_unfinished p ∷ []
+
+-- the families in the order of the formula
+abbrev pub families : MpiProgram → List (List SymbolicClause)
+families p = families_of_order p ++ families_of_end p ++ (sends_are_buffered_as_allowed p ∷ [])

@@ -3,8 +3,7 @@ use Rattle.std.proofs.Common.{◌≡◌, ◌≢◌, ℕ, zero, suc, ◌<◌, ◌
 use Rattle.std.specs.Option.{unwrap_or}
 use Rattle.std.proofs.lemmas.Bool.{cases_eq, cases_lt}
 use Rattle.std.proofs.lemmas.Grind.{get_or-set_at}
-use Rattle.std.proofs.lemmas.List.{length-set, length-replicate, set_past}
-use Rattle.std.proofs.lemmas.Option.{unwrap_or-slice_get}
+use Rattle.std.proofs.lemmas.List.{length-set, length-replicate}
 use Rattle.callorder.specs.declared.calls.Call.{Call}
 use Rattle.callorder.specs.declared.calls.Kind.{Kind}
 use Rattle.callorder.specs.declared.calls.Kind.TheVariants.{Send, Receive, MatchedProbe, MatchedReceive, Wait}
@@ -13,7 +12,7 @@ use Rattle.callorder.specs.Programs.{MpiProgram, call_at, are_fit, fit_calls}
 use Rattle.semantics.specs.declared.state.Step.{Step}
 use Rattle.semantics.specs.declared.state.Step.TheVariants.{Issue, Match}
 use Rattle.semantics.specs.Machine.{Configuration, opening, after, after_all, CanMatch, IsEnabled, IsRun, is_matched}
-use Rattle.semantics.proofs.Lengths.{matched_within}
+use Rattle.semantics.proofs.Lengths.{matched_within, matched_is, some_set, matched_grows}
 use Rattle.semantics.proofs.Runs.{IsRun-at}
 use Rattle.histories.specs.Places.{IsMatchedAt, IsSendMatchedBefore, IsTakerMatchedBefore}
 use Rattle.histories.specs.Laws.{EarlierSendsMatchFirst, EarlierTakersMatchFirst, MatchedOnce}
@@ -31,9 +30,6 @@ pub record FitMatch (p : MpiProgram) (steps : List Step) (c : ℕ) : Type 0 wher
 
 abbrev some_at : List (Option ℕ) → ℕ → Bool
 some_at partner c = is_some (get_or partner c None)
-
-matched_is : (m : Configuration) (c : ℕ) → is_matched m c ≡ some_at m.partner c
-matched_is m c = ap is_some (unwrap_or-slice_get m.partner c None)
 
 is_matched-other : (m : Configuration) (s t c : ℕ) → c ≢ s → c ≢ t → is_matched (after m (Match s t)) c ≡ is_matched m c
 is_matched-other m s t c not_s not_t =
@@ -118,7 +114,7 @@ fits_apart_calls (Some x) None z f g = cc
 fits_apart_calls (Some x) (Some y) None f g = cc
 fits_apart_calls (Some x) (Some y) (Some z) f g = fits_apart x.rank y.rank z.rank x.rank x.kind y.kind z.kind f g
 
-no_send_is_taker : (p : MpiProgram) (e t s : ℕ) → are_fit p e t ≡ true → are_fit p s e ≡ true → ⊥
+pub no_send_is_taker : (p : MpiProgram) (e t s : ℕ) → are_fit p e t ≡ true → are_fit p s e ≡ true → ⊥
 no_send_is_taker p e t s f g = fits_apart_calls (call_at p e) (call_at p t) (call_at p s) f g
 
 -- what is matched before a place, and is no taker or no send
@@ -155,25 +151,9 @@ earlier_takers_match_first p steps i s t e run there below same fit =
 some_at-same : (partner : List (Option ℕ)) (i c x : ℕ) → c ≡ i → i < length partner → some_at (slice_set partner i (Some x)) c ≡ true
 some_at-same partner i c x e within = ap is_some (get_or-set_at partner i c (Some x) None e within)
 
-some_at-grows : (partner : List (Option ℕ)) (i c x : ℕ) → some_at partner c ≡ true → some_at (slice_set partner i (Some x)) c ≡ true
-some_at-grows partner i c x holds =
-    elim (cases_lt i (length partner)) [
-      | inl within ↦
-          elim (cases_eq c i) [
-            | inl e ↦ some_at-same partner i c x e within
-            | inr differ ↦ ap is_some (get_or-set_other partner i c (Some x) None differ) ∙ holds
-          ]
-      | inr past ↦ ap (λ (l : List (Option ℕ)). some_at l c) (set_past partner i (Some x) past) ∙ holds
-    ]
-
-stays_matched : (m : Configuration) (x : Step) (c : ℕ) → is_matched m c ≡ true → is_matched (after m x) c ≡ true
-stays_matched m (Issue r b) c holds = holds
-stays_matched m (Match s t) c holds =
-    matched_is (after m (Match s t)) c ∙ some_at-grows (slice_set m.partner s (Some t)) t c s (some_at-grows m.partner s c t (sym (matched_is m c) ∙ holds))
-
 all_stay_matched : (m : Configuration) (xs : List Step) (c : ℕ) → is_matched m c ≡ true → is_matched (after_all m xs) c ≡ true
 all_stay_matched m [] c holds = holds
-all_stay_matched m (x ∷ xs) c holds = all_stay_matched (after m x) xs c (stays_matched m x c holds)
+all_stay_matched m (x ∷ xs) c holds = all_stay_matched (after m x) xs c (matched_grows m x c holds)
 
 -- a step keeps the number of partners
 same_size : (m : Configuration) (x : Step) → length (after m x).partner ≡ length m.partner
@@ -185,7 +165,7 @@ now_matched p m s t c size can which =
     let within = matched_within p m s t can in
     matched_is (after m (Match s t)) c ∙
     elim which [
-      | inl e ↦ some_at-grows (slice_set m.partner s (Some t)) t c s (some_at-same m.partner s c t e (omega (arith, size, within.0)))
+      | inl e ↦ some_set (slice_set m.partner s (Some t)) t c s (some_at-same m.partner s c t e (omega (arith, size, within.0)))
       | inr e ↦ some_at-same (slice_set m.partner s (Some t)) t c s e (omega (arith, size, within.1, length-set m.partner s (Some t)))
     ]
 

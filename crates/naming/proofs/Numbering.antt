@@ -1,5 +1,5 @@
 -- Names that get numbers one after another: each stands among the keys at its number, and no two keys are equal.
-use Rattle.std.proofs.Common.{◌≡◌, ◌⊎◌, ℕ, zero, suc, ◌+◌, ◌<◌, ◌≤◌, Bool, true, false, cond, List, [], ◌∷◌, ◌++◌, Option, None, Some, length, get_or, slice_get, refl, sym, ap, subst, ◌∙◌, arith, inl, inr}
+use Rattle.std.proofs.Common.{◌≡◌, ◌⊎◌, ℕ, zero, suc, ◌+◌, ◌<◌, ◌≤◌, Bool, true, false, cond, ◌||◌, List, [], ◌∷◌, ◌++◌, Option, None, Some, length, get_or, slice_get, refl, sym, ap, subst, ◌∙◌, arith, inl, inr}
 use Rattle.std.specs.Cmp.{IsEquivalence}
 use Rattle.std.specs.List.{IsDistinct, list_any}
 use Rattle.std.proofs.lemmas.Bool.{cases_eq, cases_lt}
@@ -20,6 +20,8 @@ pub record AreNumbered {K : Type 0} (eq : K → K → Bool) (keys : List K) (nam
   pub few : length keys ≤ length names
   pub distinct : IsDistinct eq keys
   pub each : (place : ℕ) (name : Option K) → slice_get names place ≡ Some name → (number : Option ℕ) × (slice_get numbers place ≡ Some number) × IsNumbered eq keys name number
+  pub used : (n : ℕ) → n < length keys → (place : ℕ) × (slice_get numbers place ≡ Some (Some n))
+  pub in_order : (place number smaller : ℕ) → slice_get numbers place ≡ Some (Some number) → smaller < number → (earlier : ℕ) × (earlier < place) × (slice_get numbers earlier ≡ Some (Some smaller))
 
 -- before the first name
 pub AreNumbered-start : {K : Type 0} (eq : K → K → Bool) (keys : List K) (numbers : List (Option ℕ)) → keys ≡ [] → numbers ≡ [] → IsDistinct eq keys → AreNumbered eq keys [] numbers
@@ -28,6 +30,8 @@ AreNumbered-start eq keys numbers no_keys no_numbers distinct = record {
   few = omega (arith, ap length no_keys);
   distinct = distinct;
   each = λ place name there. absurd (cc);
+  used = λ n below. absurd (omega (arith, ap length no_keys));
+  in_order = λ place number smaller there below. absurd (cc);
 }
 
 -- what stands in a list with one more at the end
@@ -55,8 +59,9 @@ pushed_last (z ∷ xs) x (suc place) here = pushed_last xs x place (omega arith)
 -- one more name and its number, where the keys that stand stay where they stand
 pub AreNumbered-push : {K : Type 0} (eq : K → K → Bool) (keys more : List K) (names : List (Option K)) (numbers : List (Option ℕ)) (name : Option K) (number : Option ℕ)
     → ((n : ℕ) (key : K) → slice_get keys n ≡ Some key → slice_get more n ≡ Some key) → length more ≤ length keys + 1 → IsDistinct eq more → IsNumbered eq more name number
+    → ((n : ℕ) → length keys ≤ n → n < length more → number ≡ Some n)
     → AreNumbered eq keys names numbers → AreNumbered eq more (names ++ name ∷ []) (numbers ++ number ∷ [])
-AreNumbered-push {K} eq keys more names numbers name number stay few distinct here so_far = record {
+AreNumbered-push {K} eq keys more names numbers name number stay few distinct here new_used so_far = record {
   size = omega (arith, so_far.size, length-append names (name ∷ []), length-append numbers (number ∷ []));
   few = omega (arith, so_far.few, length-append names (name ∷ []));
   distinct = distinct;
@@ -66,8 +71,24 @@ AreNumbered-push {K} eq keys more names numbers name number stay few distinct he
         (old.0, pushed_front numbers number old.0 place old.1, still eq keys more stay one old.0 old.2)
     | inr last ↦ (number, pushed_last numbers number place (last.0 ∙ sym so_far.size), subst (λ (o : Option K). IsNumbered eq more o number) (sym last.1) here)
   ];
+  used = λ n below. elim (cases_lt n (length keys)) [
+    | inl old ↦ let u = so_far.used n old in (u.0, pushed_front numbers number (Some n) u.0 u.1)
+    | inr new ↦ (length numbers, pushed_last numbers number (length numbers) refl ∙ ap (λ (o : Option ℕ). Some o) (new_used n new below))
+  ];
+  in_order = λ place at smaller there below. elim (in_pushed numbers number (Some at) place there) [
+    | inl front ↦ let e = so_far.in_order place at smaller front below in (e.0, e.1, pushed_front numbers number (Some smaller) e.0 e.2)
+    | inr last ↦
+        let u = so_far.used smaller (smaller_is_old name at (sym last.1) smaller below here) in
+        (u.0, omega (arith, last.0, slice_get_within numbers u.0 (Some smaller) u.1), pushed_front numbers number (Some smaller) u.0 u.1)
+  ];
 }
   where
+    smaller_is_old : (name : Option K) (at : ℕ) → number ≡ Some at → (smaller : ℕ) → smaller < at → IsNumbered eq more name number → smaller < length keys
+    smaller_is_old None at is smaller below none = absurd cc
+    smaller_is_old (Some one) at is smaller below h =
+        let same : h.0 ≡ at = same_Some h.0 at (sym h.1 ∙ is) in
+        omega (arith, few, slice_get_within more h.0 h.2 h.3)
+
     still : {K : Type 0} (eq : K → K → Bool) (keys more : List K) → ((n : ℕ) (key : K) → slice_get keys n ≡ Some key → slice_get more n ≡ Some key) → (name : Option K) (number : Option ℕ) → IsNumbered eq keys name number → IsNumbered eq more name number
     still eq keys more stay None number h = h
     still eq keys more stay (Some name) number h = (h.0, h.1, h.2, stay h.0 h.2 h.3, h.4)
@@ -86,6 +107,27 @@ insert_key-few {K} eq keys k = by (list_any (eq k) keys)
     by : (b : Bool) → length (cond b keys (keys ++ k ∷ [])) ≤ length keys + 1
     by true = omega arith
     by false = omega (arith, length-append keys (k ∷ []))
+
+or_right : (b c : Bool) → c ≡ true → (b || c) ≡ true
+or_right true c e = refl
+or_right false c e = e
+
+any_at : {K : Type 0} (test : K → Bool) (keys : List K) (n : ℕ) (key : K) → slice_get keys n ≡ Some key → test key ≡ true → list_any test keys ≡ true
+any_at test [] n key there passes = absurd cc
+any_at test (x ∷ keys) zero key there passes = ap (λ (b : Bool). b || list_any test keys) (ap test (same_Some x key there) ∙ passes)
+any_at {K} test (x ∷ keys) (suc n) key there passes = or_right (test x) (list_any test keys) (any_at test keys n key there passes)
+
+-- a key that is new stands at the end
+pub insert_key-new : {K : Type 0} (eq : K → K → Bool) (keys : List K) (k : K) (n : ℕ) (key : K) → slice_get (insert_key eq keys k) n ≡ Some key → eq k key ≡ true
+    → (i : ℕ) → length keys ≤ i → i < length (insert_key eq keys k) → n ≡ i
+insert_key-new {K} eq keys k n key there equal i past within = by (list_any (eq k) keys) refl there within
+  where
+    by : (b : Bool) → list_any (eq k) keys ≡ b → slice_get (cond b keys (keys ++ k ∷ [])) n ≡ Some key → i < length (cond b keys (keys ++ k ∷ [])) → n ≡ i
+    by true known at below = absurd (omega arith)
+    by false known at below = elim (in_pushed keys k key n at) [
+      | inl front ↦ absurd (let both : true ≡ false = sym (any_at (eq k) keys n key front equal) ∙ known in cc)
+      | inr last ↦ omega (arith, last.0, length-append keys (k ∷ []))
+    ]
 
 -- distinct keys that are equal stand at one place
 one_place : {K : Type 0} (eq : K → K → Bool) → IsEquivalence eq → (keys : List K) → IsDistinct eq keys → (m n : ℕ) (a b : K) → slice_get keys m ≡ Some a → slice_get keys n ≡ Some b → eq a b ≡ true → m ≡ n
@@ -118,6 +160,7 @@ IsNumbering-from {K} eq laws keys names numbers so_far = record {
   below = λ place number numbered. is_below place number numbered (names_at place (omega (arith, so_far.size, slice_get_within numbers place (Some number) numbered)));
   unnamed = λ place there. let at = so_far.each place None there in at.1 ∙ ap Some at.2;
   named = λ place name there. let at = so_far.each place (Some name) there in (at.2.0, at.1 ∙ ap Some at.2.1);
+  in_order = so_far.in_order;
   same = λ i j a b m n named_i named_j numbered_i numbered_j.
       let p = number_of eq keys names numbers so_far i a m named_i numbered_i in
       let q = number_of eq keys names numbers so_far j b n named_j numbered_j in (
@@ -146,7 +189,7 @@ pub AreNumbered-none : {K : Type 0} (eq : K → K → Bool) (keys after : List K
     → after ≡ keys → name ≡ None → number ≡ None → new ≡ numbers ++ number ∷ [] → AreNumbered eq keys names numbers → AreNumbered eq after (names ++ name ∷ []) new
 AreNumbered-none {K} eq keys after names numbers new name number same unnamed none pushed so_far =
     let here : IsNumbered eq keys name number = subst (λ (o : Option K). IsNumbered eq keys o number) (sym unnamed) none in
-    let more = AreNumbered-push eq keys keys names numbers name number (λ n key there. there) (omega arith) so_far.distinct here so_far in
+    let more = AreNumbered-push eq keys keys names numbers name number (λ n key there. there) (omega arith) so_far.distinct here (λ n past within. absurd (omega arith)) so_far in
     subst (λ (ks : List K). AreNumbered eq ks (names ++ name ∷ []) new) (sym same)
     (subst (λ (ns : List (Option ℕ)). AreNumbered eq keys (names ++ name ∷ []) ns) (sym pushed) more)
 
@@ -158,5 +201,7 @@ AreNumbered-some {K} eq keys after names numbers new name number k n inserted di
     let here : IsNumbered eq after (Some k) number = (n, numbered, stored.0, stored.1, stored.2) in
     let stay = λ (m : ℕ) (key : K) (there : slice_get keys m ≡ Some key). ap (λ (ks : List K). slice_get ks m) inserted ∙ insert_key-stays eq keys k m key there in
     let few = subst (λ (ks : List K). length ks ≤ length keys + 1) (sym inserted) (insert_key-few eq keys k) in
-    let more = AreNumbered-push eq keys after names numbers name number stay few distinct (subst (λ (o : Option K). IsNumbered eq after o number) (sym named) here) so_far in
+    let new_used = λ (i : ℕ) (past : length keys ≤ i) (within : i < length after).
+    numbered ∙ ap (λ (m : ℕ). Some m) (insert_key-new eq keys k n stored.0 (subst (λ (ks : List K). slice_get ks n ≡ Some stored.0) inserted stored.1) stored.2 i past (subst (λ (ks : List K). i < length ks) inserted within)) in
+    let more = AreNumbered-push eq keys after names numbers name number stay few distinct (subst (λ (o : Option K). IsNumbered eq after o number) (sym named) here) new_used so_far in
     subst (λ (ns : List (Option ℕ)). AreNumbered eq after (names ++ name ∷ []) ns) (sym pushed) more

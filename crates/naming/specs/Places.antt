@@ -42,11 +42,12 @@ pub record IsTable (bound : ℕ) (entry : ℕ → Option ℕ) (table : List (Opt
   pub size : length table ≡ bound
   pub entries : (number : ℕ) → number < bound → get_or table number None ≡ entry number
 
--- The numbers of the names: a name has a number, below how many places there are, and two names have the same number
--- exactly where they are equal.
+-- The numbers of the names: a name has a number, below how many places there are; two names have the same number exactly where
+-- they are equal; and numbers are given in the order of first use, so that each smaller number stands before.
 pub record IsNumbering {K : Type 0} (eq : K → K → Bool) (names : List (Option K)) (numbers : List (Option ℕ)) : Type 0 where
   pub size : length numbers ≡ length names
   pub below : AreBelow (length names) numbers
   pub unnamed : (place : ℕ) → slice_get names place ≡ Some None → slice_get numbers place ≡ Some None
   pub named : (place : ℕ) (name : K) → slice_get names place ≡ Some (Some name) → (number : ℕ) × (slice_get numbers place ≡ Some (Some number))
   pub same : (i j : ℕ) (a b : K) (m n : ℕ) → slice_get names i ≡ Some (Some a) → slice_get names j ≡ Some (Some b) → slice_get numbers i ≡ Some (Some m) → slice_get numbers j ≡ Some (Some n) → (m ≡ n) ↔ (eq a b ≡ true)
+  pub in_order : (place number smaller : ℕ) → slice_get numbers place ≡ Some (Some number) → smaller < number → (earlier : ℕ) × (earlier < place) × (slice_get numbers earlier ≡ Some (Some smaller))

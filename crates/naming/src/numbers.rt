@@ -7,7 +7,7 @@ use indexmap::IndexSet;
 use std::alloc::{AllocError, Global};
 use std::hash::Hash;
 
-/// A number for each name, in order of first use, from 0. A place without a name has no number. The only error is want
+/// A number for each name, from 0, in the order in which names are first used. A place without a name has no number. The only error is want
 /// of memory.
 pub fn number<K: Eq + Hash + Drop>(
     alloc: Global,

@@ -1,6 +1,6 @@
 //! Numbers, as their decimal digits.
 
-ghost use Rattle.std.specs.Prelude.{◌≡◌, ◌≢◌, ℕ, IfNone, IfSome, OnOk, ◌++◌, min};
+ghost use Rattle.std.specs.Prelude.{◌≡◌, ◌≢◌, ℕ, IfNone, IfSome, OnErr, OnOk, ◌++◌, min};
 ghost use Rattle.plaintext.specs.Plain.{numeral};
 
 use itoa::Buffer;
@@ -36,9 +36,10 @@ pub fn number_of(word: &[u8]) -> Option<u32>
     Some(value)
 }
 
-/// Writes the number's numeral at the end. The only error is want of memory.
+/// Writes the number's numeral at the end. The only error is want of memory, after which nothing is written.
 pub fn put_number(out: &mut Vec<u8>, number: u32) -> Result<(), AllocError>
-    ensures { OnOk result (out.new.items ≡ out.old.items ++ numeral number) }
+    ensures written { OnOk result (out.new.items ≡ out.old.items ++ numeral number) }
+    ensures unchanged { OnErr result (out.new.items ≡ out.old.items) }
 {
     let mut buffer = Buffer::new();
     out.extend_from_slice(buffer.format(number).as_bytes())?;

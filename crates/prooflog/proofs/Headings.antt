@@ -1,5 +1,5 @@
 -- The two headings of an evidence, and what follows them.
-use Rattle.std.proofs.Common.{◌≡◌, ◌≢◌, ℕ, ◌≤◌, List, [], ◌∷◌, ◌++◌, map, min, refl, sym, ap, ◌∙◌, arith}
+use Rattle.std.proofs.Common.{◌≡◌, ◌≢◌, ℕ, ◌≤◌, List, [], ◌∷◌, ◌++◌, map, refl, sym, ap, ◌∙◌, arith}
 use Rattle.std.specs.Prelude.{codes}
 use Rattle.std.proofs.lemmas.List.{append_cancel_right}
 use Rattle.plaintext.specs.Plain.{text_lines}
@@ -118,7 +118,3 @@ is_refutation_text bytes rest v c r cut counts limits e = record {
       ∙ ap (λ (n : ℕ). opening r.variables n ++ to_end (map item_line (items r))) (sym counts.1)
       );
 }
-
--- counts that are read in range are the line's
-pub capped_counts : (n : ℕ) → min n 2147483648 ≤ 2147483647 → min n 2147483648 ≡ n
-capped_counts n fits = omega (arith, fits)

@@ -105,9 +105,6 @@ pub record NodesSoFar (bytes rest : List ℕ) (first number : ℕ) (nodes : List
   pub trees : (more : List Node) → are_trees 1 (nodes ++ more) ≡ are_trees (length waiting) more
   pub deep : (more : List Node) → list_all is_depth (depths (0 ∷ []) (nodes ++ more)) ≡ list_all is_depth (depths (reverse waiting) more)
 
-pub nodes_begun : (bytes : List ℕ) (first : ℕ) → NodesSoFar bytes bytes first first [] (0 ∷ [])
-nodes_begun bytes first = record { cut = refl; place = omega arith; numbered = refl; few = omega arith; trees = λ more. refl; deep = λ more. refl }
-
 -- the depths that wait after a node
 abbrev pub waiting_after : List ℕ → ℕ → Node → List ℕ
 waiting_after others depth (Split v) = (others ++ (depth + 1) ∷ []) ++ (depth + 1) ∷ []

@@ -42,9 +42,6 @@ pub record LinesSoFar (bytes rest : List ℕ) (number : ℕ) (lines : List Proof
   pub few : length lines ≤ 1000000
   pub place : number ≡ 3 + length lines
 
-pub lines_begun : (bytes : List ℕ) → LinesSoFar bytes bytes 3 []
-lines_begun bytes = record { cut = refl; in_range = refl; few = omega arith; place = refl }
-
 push_line : (lines : List ProofLine) (p : ProofLine) → map item_line (map a_proof (lines ++ p ∷ [])) ≡ map item_line (map a_proof lines) ++ item_line (a_proof p) ∷ []
 push_line lines p = ap (map item_line) (map_push a_proof lines p) ∙ map_push item_line (map a_proof lines) (a_proof p)
 
@@ -58,14 +55,6 @@ one_more_line bytes rest after number lines p line so next spelled fits few = re
   few = omega (arith, few, length-append lines (p ∷ []));
   place = omega (arith, so.place, length-append lines (p ∷ []));
 }
-
--- the line `tree`
-pub at_tree : (bytes rest after : List ℕ) (number : ℕ) (lines : List ProofLine) → LinesSoFar bytes rest number lines → text_lines rest ≡ item_line the_tree ∷ text_lines after
-    → text_lines bytes ≡ map item_line (map a_proof lines ++ the_tree ∷ []) ++ text_lines after
-at_tree bytes rest after number lines so next =
-    so.cut ∙ ap (λ (ls : List (List ℕ)). map item_line (map a_proof lines) ++ ls) next
-    ∙ sym (append_assoc (map item_line (map a_proof lines)) (item_line the_tree ∷ []) (text_lines after))
-    ∙ ap (λ (ls : List (List ℕ)). ls ++ text_lines after) (sym (map_push item_line (map a_proof lines) the_tree))
 
 module _ (bytes rest : List ℕ) (number : ℕ) (lines : List ProofLine) (so : LinesSoFar bytes rest number lines) (line : List ℕ) (after : List (List ℕ)) (next : text_lines rest ≡ line ∷ after) (v c : ℕ) (v_fits : v ≤ 2147483647) (c_fits : c ≤ 2147483647) where
   cut : text_lines bytes ≡ map item_line (map a_proof lines) ++ line ∷ after

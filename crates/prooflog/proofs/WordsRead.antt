@@ -1,8 +1,9 @@
 -- What the loops over the words of a proof line keep, and where they stop.
-use Rattle.std.proofs.Common.{◌≡◌, ℕ, ◌+◌, ◌⊎◌, inl, inr, Bool, true, false, List, [], ◌∷◌, ◌++◌, Option, Some, None, length, map, refl, sym, ap, ◌∙◌, append_assoc}
+use Rattle.std.proofs.Common.{◌≡◌, ℕ, ◌+◌, ◌<◌, ◌⊎◌, inl, inr, Bool, false, List, [], ◌∷◌, ◌++◌, Option, Some, None, length, map, IfSome, refl, sym, ap, ◌∙◌, append_assoc, arith, Bor}
 use Rattle.std.specs.Prelude.{codes}
+use Rattle.std.specs.Option.{option_copied}
 use Rattle.std.specs.List.{AllByRecursion}
-use Rattle.std.proofs.lemmas.List.{map_push, append-nil}
+use Rattle.std.proofs.lemmas.List.{map_push}
 use Rattle.plaintext.specs.Plain.{numeral}
 use Rattle.plaintext.proofs.Ascii.{all_append}
 use Rattle.plaintext.proofs.FirstFaults.{heads}
@@ -41,9 +42,6 @@ one_number whole rest after read word n found so next is caps = record {
   are = (λ i. so.are i ++ caps i ∷ []) ∙ sym (map_push capped so.numbers n);
 }
 
-pub all_numbers : (whole rest : Option (List ℕ)) (read : List ℕ) → NumbersSoFar whole rest read → rest ≡ None → (ns : List ℕ) × (map numeral ns ≡ words_after whole) × (read ≡ map capped ns)
-all_numbers whole rest read so none = (so.numbers, sym (append-nil (map numeral so.numbers)) ∙ ap (λ (o : Option (List ℕ)). map numeral so.numbers ++ words_after o) (sym none) ∙ so.cut, so.are)
-
 next_numeral : (ns done : List ℕ) (word : List ℕ) (more : List (List ℕ)) → map numeral ns ≡ map numeral done ++ word ∷ more → (n : ℕ) × (numeral n ≡ word)
 next_numeral [] [] word more e = absurd cc
 next_numeral [] (d ∷ done) word more e = absurd cc
@@ -62,9 +60,6 @@ pub record LiteralsSoFar (whole rest : Option (List ℕ)) (in_range : Bool) (rea
   pub literals : List Literal
   pub cut : map literal_word literals ++ words_after rest ≡ words_after whole
   pub are : AreRead in_range read literals
-
-pub no_literals : (whole : Option (List ℕ)) → LiteralsSoFar whole whole true []
-no_literals whole = record { literals = []; cut = refl; are = ((λ t. tt, λ t. refl), λ t. refl) }
 
 all_front : {A : Type 0} (P : A → Type 0) (xs ys : List A) → AllByRecursion P (xs ++ ys) → AllByRecursion P xs × AllByRecursion P ys
 all_front P [] ys all = (tt, all)
@@ -89,11 +84,6 @@ one_out_of_range whole rest after in_range read word l so next is reads = record
   are = ((λ t. absurd cc, λ all. absurd (reads (all_front IsVariable so.literals (l ∷ []) all).1.0)), λ t. absurd cc);
 }
 
-pub at_colon : (whole rest after : Option (List ℕ)) (in_range : Bool) (read : List Literal) (word : List ℕ) → LiteralsSoFar whole rest in_range read → words_after rest ≡ word ∷ words_after after → word ≡ codes ":"
-    → (ls : List Literal) × (map literal_word ls ++ codes ":" ∷ words_after after ≡ words_after whole) × AreRead in_range read ls
-at_colon whole rest after in_range read word so next is =
-    (so.literals, ap (λ (ws : List (List ℕ)). map literal_word so.literals ++ ws) (ap (λ (w : List ℕ). w ∷ words_after after) (sym is) ∙ sym next) ∙ so.cut, so.are)
-
 -- after some literals of those that stand before a colon comes another literal, or the colon
 next_word : (ls done : List Literal) (hints rest : List (List ℕ)) → map literal_word ls ++ codes ":" ∷ hints ≡ map literal_word done ++ rest
     → (word : List ℕ) × (more : List (List ℕ)) × (rest ≡ word ∷ more) × ((word ≡ codes ":") ⊎ ((l : Literal) × (literal_word l ≡ word)))
@@ -115,3 +105,14 @@ no_more_words whole rest in_range read so none ls hints e =
     let n = next_word ls so.literals hints (words_after rest) (e ∙ sym so.cut) in
     let empty : [] ≡ n.0 ∷ n.1 = ap (λ (o : Option (List ℕ)). words_after o) (sym none) ∙ n.2 in
     cc
+
+-- one more literal, whether it is in range or not
+pub one_read : (whole rest after : Option (List ℕ)) (in_range : Bool) (read : List Literal) (word : List ℕ) (l : Literal) (found : Option Literal) → LiteralsSoFar whole rest in_range read → words_after rest ≡ word ∷ words_after after → literal_word l ≡ word
+    → IsReadLiteral found l → (in_range : Bool) × (read : List Literal) × LiteralsSoFar whole after in_range read
+one_read whole rest after in_range read word l None so next is reads = (false, read, one_out_of_range whole rest after in_range read word l so next is reads)
+one_read whole rest after in_range read word l (Some found) so next is reads = (in_range, read ++ found ∷ [], one_literal whole rest after in_range read word l found so next is reads)
+
+-- fewer bytes are left after a word
+pub fewer_left : (after : Option (Bor (List ℕ))) (words : List ℕ) → IfSome after (λ rest. length rest.now < length words) → bytes_left (option_copied after) < length words + 1
+fewer_left None words shorter = omega arith
+fewer_left (Some rest) words shorter = omega (arith, shorter)

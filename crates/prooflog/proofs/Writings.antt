@@ -3,14 +3,14 @@ use Rattle.std.proofs.Common.{◌≡◌, ℕ, ◌+◌, ◌<◌, List, [], ◌∷
 use Rattle.std.specs.Prelude.{codes}
 use Rattle.std.specs.List.{flat_map, join_with_byte}
 use Rattle.std.proofs.lemmas.Grind.{flat_map-append}
-use Rattle.std.proofs.lemmas.List.{append-nil, map_push, take_more, flat_map_more}
+use Rattle.std.proofs.lemmas.List.{append-nil, map_push, take_more}
 use Rattle.std.proofs.lemmas.List.Concat.{flat_map-cons}
 use Rattle.std.proofs.lemmas.List.Folds.{flat_map-map}
 use Rattle.plaintext.specs.Plain.{numeral, spaced}
 use Rattle.plaintext.proofs.Spaced.{spaced-append, spaced-join}
 use Rattle.refutations.specs.Proofs.{ProofLine}
 use Rattle.prooflog.specs.declared.evidence.Evidence.TheVariants.{Refutation}
-use Rattle.prooflog.specs.Refutations.{ClaimedRefutation, Item, a_proof, the_tree, a_node, literal_word, item_line, items, IsRefutation}
+use Rattle.prooflog.specs.Refutations.{ClaimedRefutation, a_proof, the_tree, a_node, literal_word, item_line, items, IsRefutation}
 use Rattle.prooflog.specs.Grammar.{heading_line, refutation_line, IsEvidenceText}
 
 -- ---- words
@@ -42,13 +42,6 @@ proof_text out line =
     ∙ append_assoc out (join_with_byte 32 (codes "line" ∷ others)) (10 ∷ [])
 
 -- ---- lines
-
--- one more item is written
-pub one_item : {A : Type 0} (as_item : A → Item) (head : List ℕ) (xs : List A) (k : ℕ) (d : A) → k < length xs
-    → (head ++ flat_map item_line (map as_item (take k xs))) ++ item_line (as_item (get_or xs k d)) ≡ head ++ flat_map item_line (map as_item (take (k + 1) xs))
-one_item as_item head xs k d lt =
-    flat_map_more item_line head (map as_item (take k xs)) (as_item (get_or xs k d))
-    ∙ ap (λ (is : List Item). head ++ flat_map item_line is) (sym (ap (map as_item) (take_more xs k d lt) ∙ map_push as_item (take k xs) (get_or xs k d)))
 
 -- the text of a refutation
 pub refutation_text : (r : ClaimedRefutation) (out : List ℕ) → IsRefutation r

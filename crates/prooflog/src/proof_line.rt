@@ -58,22 +58,42 @@ fn literal_of(word: &[u8]) -> Option<Option<Lit>>
     Some(Lit::make(variable, true))
 }
 
-/// How many words there may be before a byte that begins one, or to the end, so that room is made for
-/// them once.
-fn most_words(others: Option<&[u8]>, end: u8) -> usize {
-    let Some(words) = others else {
-        return 0;
-    };
-    let mut count = 1usize;
-    for byte in words {
-        if *byte == end {
-            return count - 1;
+/// How many literals stand before the colon, where there are literals and a colon. Nothing is kept of
+/// them, so a line of another shape costs no memory.
+fn literal_count(others: Option<&[u8]>) -> Option<usize>
+    ensures { IfNone result ((ls : List Literal) (hints : List (List ℕ)) → map literal_word ls ++ codes ":" ∷ hints ≢ words_after (option_copied others.entry)) }
+{
+    let mut count = 0usize;
+    let mut rest = others;
+    while let Some(words) = rest {
+        let (word, after) = cut_word(words);
+        if is_word(word, ":") {
+            return Some(count);
         }
-        if *byte == b' ' {
-            count += 1;
-        }
+        let Some(_found) = literal_of(word) else {
+            return None;
+        };
+        count += 1;
+        rest = after;
     }
-    count
+    None
+}
+
+/// How many numbers the words are, where each is one. Nothing is kept of them.
+fn number_count(others: Option<&[u8]>) -> Option<usize>
+    ensures { IfNone result ((ns : List ℕ) → map numeral ns ≢ words_after (option_copied others.entry)) }
+{
+    let mut count = 0usize;
+    let mut rest = others;
+    while let Some(words) = rest {
+        let (word, after) = cut_word(words);
+        let Some(_number) = number_of(word) else {
+            return None;
+        };
+        count += 1;
+        rest = after;
+    }
+    Some(count)
 }
 
 /// What stands before the colon of a proof line and after it.
@@ -89,7 +109,10 @@ fn literals_of(alloc: Global, others: Option<&[u8]>) -> Result<Option<Literals<'
     ensures none { IfOk result (λ found. IfNone found ((ls : List Literal) (hints : List (List ℕ)) → map literal_word ls ++ codes ":" ∷ hints ≢ words_after (option_copied others.entry))) }
     ensures some { IfOk result (λ found. IfSome found (λ read. (ls : List Literal) × (map literal_word ls ++ codes ":" ∷ words_after (option_copied read.hints) ≡ words_after (option_copied others.entry)) × AreRead read.in_range read.literals.items ls)) }
 {
-    let mut literals = Vec::with_capacity(alloc, most_words(others, b':'))?;
+    let Some(count) = literal_count(others) else {
+        return Ok(None);
+    };
+    let mut literals = Vec::with_capacity(alloc, count)?;
     let mut in_range = true;
     let mut rest = others;
     while let Some(words) = rest {
@@ -116,7 +139,10 @@ fn numbers_of(alloc: Global, others: Option<&[u8]>) -> Result<Option<Vec<u32>>, 
     ensures none { IfOk result (λ found. IfNone found ((ns : List ℕ) → map numeral ns ≢ words_after (option_copied others.entry))) }
     ensures some { IfOk result (λ found. IfSome found (λ read. (ns : List ℕ) × (map numeral ns ≡ words_after (option_copied others.entry)) × (read.items ≡ map capped ns))) }
 {
-    let mut numbers = Vec::with_capacity(alloc, most_words(others, b'\n'))?;
+    let Some(count) = number_count(others) else {
+        return Ok(None);
+    };
+    let mut numbers = Vec::with_capacity(alloc, count)?;
     let mut rest = others;
     while let Some(words) = rest {
         let (word, after) = cut_word(words);

@@ -1,1 +1,4 @@
+pub mod Answering
+pub mod Elements
+pub mod Tellings
 pub mod Walks

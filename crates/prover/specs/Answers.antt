@@ -1,38 +1,31 @@
 -- What the prover's answers say of a program's text.
-use Rattle.std.specs.Prelude.{◌≢◌, ℕ, List}
+use Rattle.std.specs.Prelude.{◌≡◌, ◌≢◌, ◌⊎◌, ℕ, List}
 use Rattle.callorder.specs.Programs.{MpiProgram}
 use Rattle.callorder.specs.Resolving.{IsTextOf}
 use Rattle.pool.specs.declared.why.Why.TheVariants as whys
 use Rattle.semantics.specs.declared.state.Step.{Step}
-use Rattle.semantics.specs.Machine.{IsStuckRun}
-use Rattle.prooflog.specs.declared.evidence.Evidence.TheVariants.{Schedule}
-use Rattle.prooflog.specs.Grammar.{IsEvidenceText}
+use Rattle.semantics.specs.Machine.{IsFinishedRun}
 use Rattle.checker.specs.declared.reason.Reason.TheVariants as reasons
 use Rattle.checker.specs.Verdicts.{Shows, OfRefutation, IsReason, IsProgramReason}
 use Rattle.prover.specs.declared.answer.Answer.{Answer}
 use Rattle.prover.specs.declared.answer.Answer.TheVariants as answers
+use Rattle.prover.specs.Telling.{told_run}
 use Rattle.prover.specs.declared.steps.Replayed.{Replayed}
 use Rattle.prover.specs.declared.steps.Replayed.TheVariants as replays
 
 -- A deadlock comes with the text of an evidence that shows it. A program is refused for a fault of its own text, and
--- never for want of memory; so another reason than memory for which no answer is known comes only where the text is a
--- program's. That there is no deadlock isn't answered yet.
+-- never for want of memory. Where no answer is known, the reason is want of memory; or the search is used up, and then
+-- the text is a program's, of which some run ends with all ranks finished. That there is no deadlock isn't answered yet.
 abbrev pub Answers : List ℕ → Answer → Type 0
 Answers program (answers.NoDeadlock evidence) = ⊥
 Answers program (answers.Deadlock evidence) = Shows program evidence.items
-Answers program (answers.Unknown why) = why ≢ whys.Memory → (p : MpiProgram) × IsTextOf program p
+Answers program (answers.Unknown why) =
+    (why ≡ whys.Memory) ⊎ ((why ≡ whys.Budget) × (p : MpiProgram) × (steps : List Step) × IsTextOf program p × IsFinishedRun p steps)
 Answers program (answers.Refused reason) = IsProgramReason program reason × (reason ≢ reasons.Memory)
 
--- A replay that ends stuck is one of a schedule that shows a deadlock. Else it is told that the evidence is no schedule,
--- or the first reason why it shows none.
+-- A replay that ends stuck is one of a schedule that shows a deadlock, and tells its steps. Else it is told that the
+-- evidence is no schedule, or the first reason why it shows none.
 abbrev pub Replays : List ℕ → List ℕ → Replayed → Type 0
-Replays program evidence (replays.Stuck text) = Shows program evidence
+Replays program evidence (replays.Stuck text) = (shown : Shows program evidence) × (text.items ≡ told_run shown.p shown.steps)
 Replays program evidence (replays.Refused reason) = IsReason program evidence reason × (reason ≢ reasons.Counts)
 Replays program evidence replays.NotASchedule = OfRefutation program evidence
-
--- a deadlock comes with the text of a schedule that is a stuck run of the program
-abbrev pub AnswersPool : MpiProgram → Answer → Type 0
-AnswersPool p (answers.NoDeadlock evidence) = ⊥
-AnswersPool p (answers.Deadlock evidence) = (steps : List Step) × IsEvidenceText evidence.items (Schedule steps) × IsStuckRun p steps
-AnswersPool p (answers.Unknown why) = Unit {0}
-AnswersPool p (answers.Refused reason) = ⊥

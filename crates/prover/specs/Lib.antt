@@ -1,2 +1,5 @@
 pub mod Answers
 pub mod Ranges
+pub mod Searches
+pub mod Telling
+pub mod Walks

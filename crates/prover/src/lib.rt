@@ -3,6 +3,7 @@
 
 mod answer;
 mod explore;
+mod manner;
 mod options;
 mod steps;
 mod walk;

@@ -1,6 +1,6 @@
 //! How much work the prover may do.
 ghost use Rattle.std.specs.Prelude.{◌≡◌, ◌≤◌, ◌↔◌, IfSome, IsSome};
-ghost use Rattle.prover.specs.Ranges.{AreInRange};
+ghost use Rattle.prover.specs.Ranges.{AreInRange, AreUsual};
 
 /// The number of workers, 1 to 64, the depth of the first tree, 0 to 15, and the conflicts that
 /// each worker may meet, 0 to 1,000,000,000.
@@ -29,24 +29,40 @@ impl Options {
         })
     }
 
-    /// How many workers there are.
+    /// How many workers there are, 1 to 64.
     pub fn workers(&self) -> u32
-        ensures { result ≡ self.now.workers }
+        ensures same { result ≡ self.now.workers }
+        ensures in_range { (1 ≤ result) × (result ≤ 64) }
     {
         self.workers
     }
 
-    /// The depth of the first tree.
+    /// The depth of the first tree, 0 to 15.
     pub fn depth(&self) -> u32
-        ensures { result ≡ self.now.depth }
+        ensures same { result ≡ self.now.depth }
+        ensures in_range { result ≤ 15 }
     {
         self.depth
     }
 
-    /// How many conflicts each worker may meet.
+    /// How many conflicts each worker may meet, 0 to 1,000,000,000.
     pub fn budget(&self) -> u32
-        ensures { result ≡ self.now.budget }
+        ensures same { result ≡ self.now.budget }
+        ensures in_range { result ≤ 1000000000 }
     {
         self.budget
+    }
+}
+
+/// 4 workers, the depth 4 and 1,000,000 conflicts.
+impl Default for Options {
+    ghost is_default = { λ options. AreUsual options.workers options.depth options.budget };
+
+    fn default() -> Options {
+        Options {
+            workers: 4,
+            depth: 4,
+            budget: 1_000_000,
+        }
     }
 }

@@ -1,17 +1,22 @@
 //! The steps of a schedule, told one by one.
 
-ghost use Rattle.semantics.specs.Machine.{IsRun, opening};
+ghost use Rattle.std.specs.Prelude.{◌≡◌, ◌++◌, IfOk, IsSome, OnOk, slice_get};
+ghost use Rattle.semantics.specs.Machine.{IsEnabled, IsRun, opening};
 ghost use Rattle.prover.specs.Answers.{Replays};
+ghost use Rattle.prover.specs.Telling.{how_issued, issue_line, told_line, told_run, verb_of};
 
-use callorder::{Kind, Mode, Program};
+use callorder::{Kind, Program};
+use calltext::Verb;
 use checker::{NoRun, Reason, stuck_run_of};
+use plaintext::put_number;
+use prooflog::put_match;
 use semantics::{State, Step};
 use std::alloc::{AllocError, Global};
 
 /// How a replay ends.
 #[derive(Debug, Drop)]
 pub enum Replayed {
-    /// The schedule is a run of the program that ends stuck. This is the text of its steps.
+    /// The schedule is a run of the program that ends stuck. This is the text that tells its steps.
     Stuck(Vec<u8>),
     /// There is no such schedule, for this reason, which is never `Counts`.
     Refused(Reason),
@@ -19,68 +24,88 @@ pub enum Replayed {
     NotASchedule,
 }
 
-/// The word of a call.
-fn word_of(kind: &Kind) -> &'static str {
+/// The verb of a call, as a program's text has it.
+fn verb_of(kind: &Kind) -> Verb
+    ensures { result ≡ verb_of kind.now }
+{
     match *kind {
-        Kind::Send { mode, blocking, .. } => send_word(mode, blocking),
-        Kind::Receive { blocking: true, .. } => "recv",
-        Kind::Receive {
-            blocking: false,
-            ..
-        } => "irecv",
-        Kind::MatchedProbe { .. } => "mprobe",
-        Kind::MatchedReceive { blocking: true } => "mrecv",
-        Kind::MatchedReceive { blocking: false } => "imrecv",
-        Kind::Wait { .. } => "wait",
+        Kind::Send { mode, blocking, .. } => Verb::Send {
+            mode,
+            started: !blocking,
+        },
+        Kind::Receive { blocking, .. } => Verb::Receive { started: !blocking },
+        Kind::MatchedProbe { .. } => Verb::MatchedProbe,
+        Kind::MatchedReceive { blocking } => Verb::MatchedReceive { started: !blocking },
+        Kind::Wait { .. } => Verb::Wait,
     }
 }
 
-fn send_word(mode: Mode, blocking: bool) -> &'static str {
-    match (mode, blocking) {
-        (Mode::Standard, true) => "send",
-        (Mode::Standard, false) => "isend",
-        (Mode::Synchronous, true) => "ssend",
-        (Mode::Synchronous, false) => "issend",
-        (Mode::Buffered, true) => "bsend",
-        (Mode::Buffered, false) => "ibsend",
+fn how_issued(buffered: bool) -> &'static str
+    ensures { result.now ≡ how_issued buffered }
+{
+    if buffered {
+        " buffered call "
+    } else {
+        " call "
     }
 }
 
-/// The line of a step that is taken in a state. Ranks count from 0, calls from 1.
-fn line_of(
-    alloc: Global,
+/// Tells the issue of the call at a place. Ranks count from 0, calls from 1.
+fn put_issue(
+    out: &mut Vec<u8>,
+    program: &Program,
+    place: usize,
+    rank: u32,
+    buffered: bool,
+) -> Result<(), AllocError>
+    requires { IsSome (slice_get program.now.calls place) }
+    ensures { OnOk result (out.new.items ≡ out.old.items ++ issue_line program.now place rank buffered) }
+{
+    let _calls = program.calls();
+    let Some(call) = program.call(place) else {
+        unreachable!();
+    };
+    out.extend_from_slice(b"issue ")?;
+    put_number(out, rank)?;
+    out.extend_from_slice(how_issued(buffered).as_bytes())?;
+    put_number(out, place as u32 + 1)?;
+    out.push(b' ')?;
+    out.extend_from_slice(verb_of(&call.kind).text().as_bytes())?;
+    out.push(b'\n')?;
+    Ok(())
+}
+
+/// Tells a step that is enabled in a state.
+fn put_told(
+    out: &mut Vec<u8>,
     program: &Program,
     state: &State,
     step: Step,
-) -> Result<String, AllocError> {
+) -> Result<(), AllocError>
+    requires { IsEnabled program.now state.now step }
+    ensures { OnOk result (out.new.items ≡ out.old.items ++ told_line program.now state.now step) }
+{
+    let _calls = program.calls();
     match step {
         Step::Issue { rank, buffered } => {
-            let place = state.next_of(rank).unwrap_or(0);
-            let word = match program.call(place) {
-                Some(call) => word_of(&call.kind),
-                None => "",
+            let Some(place) = state.next_of(rank) else {
+                unreachable!();
             };
-            let how = if buffered { "buffered " } else { "" };
-            let number = place.saturating_add(1);
-            format!(in alloc; "issue {rank} {how}call {number} {word}\n")
+            put_issue(out, program, place, rank, buffered)
         }
-        Step::Match { send, taker } => {
-            let send = send.saturating_add(1);
-            let taker = taker.saturating_add(1);
-            format!(in alloc; "match {send} {taker}\n")
-        }
+        Step::Match { send, taker } => put_match(out, send as u32 + 1, taker as u32 + 1),
     }
 }
 
 /// A line for each step of a run, and then `stuck`.
 fn text_of(alloc: Global, program: &Program, steps: &[Step]) -> Result<Vec<u8>, AllocError>
     requires { IsRun program.now (opening program.now) steps.now }
+    ensures { IfOk result (λ text. text.items ≡ told_run program.now steps.now) }
 {
     let mut state = State::start(alloc, program)?;
     let mut text = Vec::new(alloc);
     for step in steps {
-        let line = line_of(alloc, program, &state, *step)?;
-        text.extend_from_slice(line.as_bytes())?;
+        put_told(&mut text, program, &state, *step)?;
         state.apply(program, *step);
     }
     text.extend_from_slice(b"stuck\n")?;

@@ -5,5 +5,6 @@ pub mod Marks
 pub mod Proofs
 pub mod Propagation
 pub mod Refutations
+pub mod Tables
 pub mod TreeFaults
 pub mod Trees

@@ -8,21 +8,23 @@
 mod laws;
 mod line;
 mod line_check;
+mod line_list;
 mod partial;
 mod refutation;
 mod tree;
 mod tree_check;
 
 pub use laws::{
-    accepted_refute, accepted_trees_refute, derivations_follow, derived_lines_follow,
-    preorders_are_trees,
+    accepted_refute, derivations_follow, derived_lines_follow, preorders_are_trees,
+    preorders_tell_trees,
 };
 pub use line::{LARGEST_NUMBER, Line, MakeLineFault};
 pub use line_check::{LineFault, check_line, check_line_in, clause_at};
+pub use line_list::LineList;
 pub use partial::{ClauseStatus, PartialAssignment};
 pub use refutation::{FaultyLine, RefutationFault, check_lines_in, check_refutation};
 pub use tree::{Node, ProofTree, is_numbered};
-pub use tree_check::{TreeFault, check_tree};
+pub use tree_check::{TreeFault, check_tree, refutes};
 
 #[cfg(test)]
 mod tests;

@@ -57,7 +57,7 @@ pub fn check_lines_in(
 {
     let clauses = formula.clauses();
     for place in from..to {
-        if let Err(fault) = check_line_in(known, formula, &lines[..place], &lines[place]) {
+        if let Err(fault) = check_line_in(known, formula, &&lines[..place], &lines[place]) {
             return Err(FaultyLine {
                 number: clauses.len() + place + 1,
                 fault,

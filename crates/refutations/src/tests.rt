@@ -246,7 +246,7 @@ fn faults_of_lines(rt: HostRuntime) -> Result<(), Fail> {
     ];
     for (signs, hints, answer) in rows {
         let line = line(alloc, signs, hints)?;
-        let told = check_line(alloc, &formula, earlier.as_slice(), &line);
+        let told = check_line(alloc, &formula, &earlier.as_slice(), &line);
         assert_eq!(rt; told, answer, "at {hints:?}");
     }
     Ok(())
@@ -262,11 +262,12 @@ fn told_after(
     requires { length known.old ≡ formula.now.variables + 1 }
     ensures { length known.new ≡ length known.old }
 {
-    match check_line_in(known, formula, &[], first) {
+    let none: &[Line] = &[];
+    match check_line_in(known, formula, &none, first) {
         Ok(()) => {}
         Err(_fault) => {}
     }
-    check_line_in(known, formula, &[], second)
+    check_line_in(known, formula, &none, second)
 }
 
 #[test]
@@ -399,7 +400,7 @@ struct Writer<'a> {
 impl<'a> Writer<'a> {
     fn number_of(&self, wanted: &[Lit]) -> Result<u32, Fail> {
         for number in 1..1_000 {
-            if let Some(literals) = clause_at(self.formula, self.lines.as_slice(), number) {
+            if let Some(literals) = clause_at(self.formula, &self.lines.as_slice(), number) {
                 if literals == wanted {
                     return Ok(number);
                 }
@@ -525,5 +526,41 @@ fn pigeons_with_a_hint_dropped(rt: HostRuntime) -> Result<(), Fail> {
             }
         }
     }
+    Ok(())
+}
+
+#[test]
+fn copies_of_lines(rt: HostRuntime) -> Result<(), Fail> {
+    let alloc = rt.alloc();
+    let signs: [(u32, bool); 6] = [
+        (1, true),
+        (2, false),
+        (4, true),
+        (5, true),
+        (7, false),
+        (9, true),
+    ];
+    for len in 0..signs.len() + 1 {
+        let one = line(alloc, &signs[..len], &[3, 1])?;
+        let other = one.copy(alloc)?;
+        assert_eq!(rt; other.literals(), one.literals());
+        assert_eq!(rt; other.hints(), one.hints());
+        assert_eq!(rt; other.clause().literals().len(), len);
+    }
+    Ok(())
+}
+
+#[test]
+fn leaves_refuted_by_paths(rt: HostRuntime) -> Result<(), Fail> {
+    let alloc = rt.alloc();
+    let path = literals(alloc, &[(3, true), (1, false)])?;
+    let below = literals(alloc, &[(1, true), (3, false)])?;
+    let beside = literals(alloc, &[(1, true), (2, false)])?;
+    let same = literals(alloc, &[(3, true)])?;
+    assert!(rt; refutes(path.as_slice(), below.as_slice()));
+    assert!(rt; refutes(path.as_slice(), &[]));
+    assert!(rt; !refutes(path.as_slice(), beside.as_slice()));
+    assert!(rt; !refutes(path.as_slice(), same.as_slice()));
+    assert!(rt; !refutes(&[], same.as_slice()));
     Ok(())
 }

@@ -3,6 +3,7 @@
 mod calls;
 mod faults;
 mod limits;
+mod long;
 mod machine;
 mod names;
 mod no_schedule;

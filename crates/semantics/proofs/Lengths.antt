@@ -115,7 +115,7 @@ issued_grows_call : (m : Configuration) (r : ℕ) (b : Bool) (k : ℕ) (o : Opti
 issued_grows_call m r b k None holds = holds
 issued_grows_call m r b k (Some call) holds = true_lt k _ (omega (arith, lt_true _ _ holds, next_grows m.next r call.rank))
 
-issued_grows : (p : MpiProgram) (m : Configuration) (step : Step) (k : ℕ) → IsTrue (is_issued p m k) → IsTrue (is_issued p (after m step) k)
+pub issued_grows : (p : MpiProgram) (m : Configuration) (step : Step) (k : ℕ) → IsTrue (is_issued p m k) → IsTrue (is_issued p (after m step) k)
 issued_grows p m (Issue r b) k holds = issued_grows_call m r b k (call_at p k) holds
 issued_grows p m (Match s t) k holds = same (call_at p k) holds
   where
@@ -123,10 +123,10 @@ issued_grows p m (Match s t) k holds = same (call_at p k) holds
     same None holds = holds
     same (Some call) holds = holds
 
-matched_is : (m : Configuration) (k : ℕ) → is_matched m k ≡ is_some (get_or m.partner k None)
+pub matched_is : (m : Configuration) (k : ℕ) → is_matched m k ≡ is_some (get_or m.partner k None)
 matched_is m k = ap is_some (unwrap_or-slice_get m.partner k None)
 
-some_set : (partner : List (Option ℕ)) (i k x : ℕ) → IsTrue (is_some (get_or partner k None)) → IsTrue (is_some (get_or (slice_set partner i (Some x)) k None))
+pub some_set : (partner : List (Option ℕ)) (i k x : ℕ) → IsTrue (is_some (get_or partner k None)) → IsTrue (is_some (get_or (slice_set partner i (Some x)) k None))
 some_set partner i k x holds =
     elim (cases_lt i (length partner)) [
       | inl within ↦ elim (cases_eq k i) [
@@ -136,7 +136,7 @@ some_set partner i k x holds =
       | inr past ↦ ap (λ (l : List (Option ℕ)). is_some (get_or l k None)) (set_past partner i (Some x) past) ∙ holds
     ]
 
-matched_grows : (m : Configuration) (step : Step) (k : ℕ) → IsTrue (is_matched m k) → IsTrue (is_matched (after m step) k)
+pub matched_grows : (m : Configuration) (step : Step) (k : ℕ) → IsTrue (is_matched m k) → IsTrue (is_matched (after m step) k)
 matched_grows m (Issue r b) k holds = holds
 matched_grows m (Match s t) k holds =
     matched_is (after m (Match s t)) k ∙ some_set (slice_set m.partner s (Some t)) t k s (some_set m.partner s k t (sym (matched_is m k) ∙ holds))

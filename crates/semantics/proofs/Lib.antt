@@ -1,3 +1,4 @@
 pub mod Runs
 pub mod MachineLaws
 pub mod Lengths
+pub mod RankOrder

@@ -10,7 +10,8 @@ use Rattle.semantics.specs.declared.schedule.End.{End}
 use Rattle.semantics.specs.declared.schedule.End.TheVariants.{Stuck, Finished, Live}
 use Rattle.semantics.specs.Replays.{Replays}
 use Rattle.callorder.specs.Programs.{MpiProgram}
-use Rattle.semantics.specs.Machine.{Configuration, IsStuckRun, IsFinishedRun, IsLiveRun, StopsAt, opening, after, after_all, IsEnabled, IsRun, IsConfigurationOf, NoIssue, NoMatch, IsStuck, IsFinished, is_rank_finished}
+use Rattle.semantics.specs.Machine.{Configuration, IsStuckRun, IsFinishedRun, IsLiveRun, StopsAt, opening, after, after_all, IsEnabled, IsRun, IsConfigurationOf, IsStuck, IsFinished, is_rank_finished}
+use Rattle.semantics.specs.StuckParts.{NoIssue, NoMatch}
 
 pub after_all-push : (m : Configuration) (xs : List Step) (x : Step) → after_all m (xs ++ x ∷ []) ≡ after (after_all m xs) x
 after_all-push m [] x = refl

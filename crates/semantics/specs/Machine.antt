@@ -61,6 +61,10 @@ partner_of m c = unwrap_or (slice_get m.partner c) None
 abbrev pub is_matched : Configuration → ℕ → Bool
 is_matched m c = is_some (partner_of m c)
 
+-- the call is issued and not matched
+abbrev pub is_open : MpiProgram → Configuration → ℕ → Bool
+is_open p m c = is_issued p m c && not (is_matched m c)
+
 -- a matched taker fetches the message: a receive at once, a matched probe when the receive on its handle is issued
 -- (sections 3.8.2 and 3.8.3)
 abbrev pub fetches : MpiProgram → Configuration → Kind → Bool
@@ -245,14 +249,3 @@ pub record StopsAt (p : MpiProgram) (steps : List Step) (at : ℕ) : Type 0 wher
   pub there : slice_get steps place ≡ Some step
   pub run : IsRun p (opening p) (take place steps)
   pub not_enabled : IsEnabled p (after_all (opening p) (take place steps)) step → ⊥
-
--- ---- parts of `IsStuck`, as its test goes through them
-
-abbrev pub NoIssue : MpiProgram → Configuration → Type 0
-NoIssue p m = (rank : ℕ) (buffered : Bool) → IsTrue (can_issue p m rank buffered) → ⊥
-
-abbrev pub NoMatchOf : MpiProgram → Configuration → ℕ → Type 0
-NoMatchOf p m s = (t : ℕ) → CanMatch p m s t → ⊥
-
-abbrev pub NoMatch : MpiProgram → Configuration → Type 0
-NoMatch p m = (s : ℕ) → NoMatchOf p m s

@@ -1,7 +1,7 @@
 //! The replay of a schedule.
 
 ghost use Rattle.std.specs.Prelude.{◌≡◌, ◌↔◌, ◌⊎◌, ℕ};
-ghost use Rattle.semantics.specs.Machine.{opening, IsConfigurationOf, IsStuckRun, IsFinishedRun, IsLiveRun, StopsAt};
+ghost use Rattle.semantics.specs.Machine.{opening, IsStuckRun, IsFinishedRun, IsLiveRun, StopsAt};
 ghost use Rattle.semantics.specs.Replays.{Replays};
 
 use crate::state::{State, Step};
@@ -40,8 +40,7 @@ pub enum ReplayFault {
 }
 
 fn ending(mut state: State, program: &Program, steps: &[Step]) -> Result<End, usize>
-    requires opening { state ≡ opening program.now }
-    requires of { IsConfigurationOf program.now state }
+    requires { state ≡ opening program.now }
     ensures { Replays program.now steps.now result }
 {
     for (place, step) in steps.iter().enumerate() {
@@ -62,8 +61,7 @@ fn ending(mut state: State, program: &Program, steps: &[Step]) -> Result<End, us
 /// Takes the steps from the opening state on, and says how they end, or which, counted from 1, is the first that is
 /// not enabled. Takes no memory.
 pub fn replay_from(state: State, program: &Program, steps: &[Step]) -> Result<End, usize>
-    requires opening { state ≡ opening program.now }
-    requires of { IsConfigurationOf program.now state }
+    requires { state ≡ opening program.now }
     ensures stuck { (result ≡ Ok End.Stuck) ↔ IsStuckRun program.now steps.now }
     ensures finished { (result ≡ Ok End.Finished) ↔ IsFinishedRun program.now steps.now }
     ensures live { (result ≡ Ok End.Live) ↔ IsLiveRun program.now steps.now }

@@ -2,7 +2,8 @@
 
 ghost use Rattle.std.specs.Prelude.{◌≡◌, ℕ, ◌<◌, ◌↔◌, length, IsTrue, IfOk, IfSome, IfNone, slice_get, slice_index, false, nat_lt, map};
 ghost use Rattle.std.specs.List.{count_by, range_with_len};
-ghost use Rattle.semantics.specs.Machine.{opening, first_call, is_issued, is_buffered, partner_of, is_matched, is_fetched, is_done, is_returned, has_returned_before, may_be, can_issue, can_issue_call, NoSendWaits, NoTakerWaits, CanMatch, IsEnabled, after, is_rank_finished, IsFinished, IsStuck, IsConfigurationOf, fetches, NoIssue, NoMatch, NoMatchOf};
+ghost use Rattle.semantics.specs.Machine.{opening, first_call, is_issued, is_buffered, partner_of, is_matched, is_open, is_fetched, is_done, is_returned, has_returned_before, may_be, can_issue, can_issue_call, NoSendWaits, NoTakerWaits, CanMatch, IsEnabled, after, is_rank_finished, IsFinished, IsStuck, IsConfigurationOf, fetches};
+ghost use Rattle.semantics.specs.StuckParts.{NoIssue, NoMatch, NoMatchOf};
 
 use callorder::{Call, Kind, Mode, Policy, Program};
 use std::alloc::{AllocError, Global};
@@ -112,6 +113,13 @@ impl State {
         self.partner(call).is_some()
     }
 
+    /// Whether the call at a place is issued and not matched.
+    pub fn is_open(&self, program: &Program, call: usize) -> bool
+        ensures { result ≡ is_open program.now self.now call }
+    {
+        self.is_issued(program, call) && !self.is_matched(call)
+    }
+
     /// Whether a matched taker of this kind has fetched its message.
     fn fetches(&self, program: &Program, kind: &Kind) -> bool
         ensures { result ≡ fetches program.now self.now kind.now }
@@ -211,28 +219,33 @@ impl State {
             && may_be(program.policy(), &call.kind, buffered)
     }
 
+    /// Whether each earlier send of the send's rank that fits the taker is matched. The calls of a rank stand
+    /// together, so no call of another rank is looked at but one.
     fn no_send_waits(&self, program: &Program, send: usize, taker: usize) -> bool
         ensures { IsTrue result ↔ NoSendWaits program.now self.now send taker }
     {
-        for earlier in 0..send {
-            if program.are_of_one_rank(earlier, send)
-                && program.are_fit(earlier, taker)
-                && !self.is_matched(earlier)
-            {
+        let _calls = program.calls();
+        for earlier in (0..send).rev() {
+            if !program.are_of_one_rank(earlier, send) {
+                return true;
+            }
+            if program.are_fit(earlier, taker) && !self.is_matched(earlier) {
                 return false;
             }
         }
         true
     }
 
+    /// Whether each earlier taker of the taker's rank that the send fits is matched.
     fn no_taker_waits(&self, program: &Program, send: usize, taker: usize) -> bool
         ensures { IsTrue result ↔ NoTakerWaits program.now self.now send taker }
     {
-        for earlier in 0..taker {
-            if program.are_of_one_rank(earlier, taker)
-                && program.are_fit(send, earlier)
-                && !self.is_matched(earlier)
-            {
+        let _calls = program.calls();
+        for earlier in (0..taker).rev() {
+            if !program.are_of_one_rank(earlier, taker) {
+                return true;
+            }
+            if program.are_fit(send, earlier) && !self.is_matched(earlier) {
                 return false;
             }
         }

@@ -1,2 +1,10 @@
 pub mod DeadlockLines
 pub mod Deadlocks
+pub mod CommandLines
+pub mod SecondWords
+pub mod PlainWords
+pub mod PlainFaults
+pub mod Requests
+pub mod RunLaws
+pub mod PlainAnswers
+pub mod OptionWords

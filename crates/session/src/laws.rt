@@ -1,28 +1,76 @@
 //! What follows from how a run ended. Each function does nothing: its contract is the law.
+ghost use Rattle.session.specs.CommandLine.{OptionWordsAreRead, PlainWordsAreRead};
 ghost use Rattle.session.specs.Deadlocks.{
   CheckedDeadlockIsShown,
-  PrintedDeadlockIsShown,
+  CheckedSafetyIsPrinted,
+  PlainWordsAreAnswered,
   ProvedDeadlockIsShown,
-  StatusOneIsShown,
+  ReplayedDeadlockIsShown,
+  ShownDeadlockIsChecked,
+  ShownDeadlockIsReplayed,
+  ToldDeadlockIsShown,
+  WrittenDeadlockIsShown,
 };
 
-/// Where `check` printed the line that tells a deadlock, the evidence of the one file shows a stuck
-/// run of the program of the other.
+/// Where words ask for a check, and the run printed the line that tells a deadlock or ended with the
+/// status 1, the evidence of the one file shows a stuck run of the program of the other.
 pub fn checked_deadlock_is_shown()
     ensures { CheckedDeadlockIsShown }
 {}
 
-/// Where `prove` printed that line, some evidence shows a stuck run of the program of the file.
+/// Where the evidence of the one file shows a stuck run of the program of the other, a check ends
+/// with the status 1, or with that of want of memory or of a file or an output that fails.
+pub fn shown_deadlock_is_checked()
+    ensures { ShownDeadlockIsChecked }
+{}
+
+/// A check that ended with the status 0 printed the line that tells that there is no deadlock.
+pub fn checked_safety_is_printed()
+    ensures { CheckedSafetyIsPrinted }
+{}
+
+/// Where words ask for a replay, and the run ended with the status 1, the evidence of the one file
+/// shows a stuck run of the program of the other.
+pub fn replayed_deadlock_is_shown()
+    ensures { ReplayedDeadlockIsShown }
+{}
+
+/// Where the evidence of the one file shows a stuck run of the program of the other, a replay ends
+/// with the status 1, or with that of want of memory or of a file or an output that fails.
+pub fn shown_deadlock_is_replayed()
+    ensures { ShownDeadlockIsReplayed }
+{}
+
+/// Where words ask to prove a program, and the run printed the line that tells a deadlock or ended
+/// with the status 1, some evidence shows a stuck run of the program of the file.
 pub fn proved_deadlock_is_shown()
     ensures { ProvedDeadlockIsShown }
 {}
 
-/// Where any request printed that line, it is true of a program among the files.
-pub fn printed_deadlock_is_shown()
-    ensures { PrintedDeadlockIsShown }
+/// And where they name a file for the evidence, it holds such an evidence afterwards.
+pub fn written_deadlock_is_shown()
+    ensures { WrittenDeadlockIsShown }
 {}
 
-/// Where a run ended with the status 1, some evidence shows a stuck run of a program among the files.
-pub fn status_one_is_shown()
-    ensures { StatusOneIsShown }
+/// Where any run printed that line or ended with the status 1, its words ask to prove, check or
+/// replay a program, and a stuck run of that program is shown.
+pub fn told_deadlock_is_shown()
+    ensures { ToldDeadlockIsShown }
+{}
+
+/// In their usual order the words of a command give the files' names and `--json`.
+pub fn plain_words_are_read()
+    ensures { PlainWordsAreRead }
+{}
+
+/// A run of such words answers their command, or ends with the status 4 for want of memory before it
+/// is known.
+pub fn plain_words_are_answered()
+    ensures { PlainWordsAreAnswered }
+{}
+
+/// `--json` may stand before, between and after the files of `check`, and the options of `prove`
+/// before and after its file.
+pub fn option_words_are_read()
+    ensures { OptionWordsAreRead }
 {}

@@ -1,4 +1,11 @@
 //! What the words of a command line ask for.
+
+ghost use Rattle.std.specs.Prelude.{◌≡◌, ◌⊎◌, IfErr, IfOk, IfSome, codes, map, string_bytes};
+ghost use Rattle.clap.specs.Words.{IsAmong, fault_of, found_of, kind_of, rows_of, subcommand_rows_of};
+ghost use Rattle.session.specs.CommandLine.{AskFor, IsRuled, IsShaped, Makes, MakesSome, check_app, command_line};
+ghost use Rattle.session.specs.CommandLine.{evidence_rule, json_rule, number_rule, number_with, option_rule, out_rule, program_rule};
+ghost use Rattle.session.specs.CommandLine.{prove_app, replay_app};
+
 use clap::builder::{Command, ValueParser};
 use clap::error::ErrorKind;
 use clap::{Arg, ArgAction, ArgMatches, Error, value_parser};
@@ -30,18 +37,38 @@ pub enum Request<'a> {
 
 /// What the words ask for. The first word is the program's own name. An error is a fault of usage, a
 /// question for help, or want of memory.
-pub fn request_of(alloc: Global, words: &[String]) -> Result<Request<'_>, Error> {
+pub fn request_of(alloc: Global, words: &[String]) -> Result<Request<'_>, Error>
+    ensures asked { IfOk result (AskFor (map (λ w. string_bytes w) words.now)) }
+    ensures faults { IfErr result (λ e. (kind_of e ≡ ErrorKind.OutOfMemory)
+        ⊎ IsAmong (kind_of e) (fault_of command_line (map (λ w. string_bytes w) words.now))) }
+{
     let mut command = command(alloc)?;
-    let matches = command.try_get_matches_from_mut(words)?;
-    match matches.subcommand().and_then(requested) {
+    let matches = match command.try_get_matches_from_mut(words) {
+        Ok(matches) => matches,
+        Err(fault) => return Err(fault),
+    };
+    match requested_by(&matches) {
         Some(request) => Ok(request),
-        None => Err(command.error(ErrorKind::ValueValidation, "a value is missing")?),
+        // A parse that succeeds gives each value, so this doesn't come.
+        None => Err(Error::from(AllocError)),
     }
+}
+
+/// The request of the matches of a whole command line.
+fn requested_by<'a>(matches: &ArgMatches<'a>) -> Option<Request<'a>>
+    ensures { IfSome result (MakesSome (subcommand_rows_of matches.now)) }
+{
+    let Some(subcommand) = matches.subcommand() else {
+        return None;
+    };
+    requested(subcommand)
 }
 
 /// The request of a subcommand's matches. There is one wherever its required arguments have values
 /// in their ranges, as after each parse.
-fn requested<'a>(subcommand: (&'a str, &ArgMatches<'a>)) -> Option<Request<'a>> {
+fn requested<'a>(subcommand: (&'a str, &ArgMatches<'a>)) -> Option<Request<'a>>
+    ensures { IfSome result (Makes subcommand.entry.0.now (rows_of (found_of subcommand.entry.1.now))) }
+{
     let (name, matches) = subcommand;
     let program = matches.get_str(PROGRAM)?;
     match name {
@@ -84,43 +111,32 @@ const BUDGET: &str = "budget";
 const JSON: &str = "json";
 
 /// The whole command line.
-fn command<'a>(alloc: Global) -> Result<Command<'a>, AllocError> {
+fn command<'a>(alloc: Global) -> Result<Command<'a>, AllocError>
+    ensures { IfOk result (λ c. IsShaped c command_line) }
+{
     Command::new(alloc, "mpiprove")
-        .about("Finds deadlocks of single-path MPI programs, with evidence that can be checked")
         .subcommand_required(true)
         .subcommand(prove_command(alloc)?)?
         .subcommand(check_command(alloc)?)?
         .subcommand(replay_command(alloc)?)
 }
 
-fn prove_command<'a>(alloc: Global) -> Result<Command<'a>, AllocError> {
+fn prove_command<'a>(alloc: Global) -> Result<Command<'a>, AllocError>
+    ensures { IfOk result (λ c. IsShaped c prove_app) }
+{
     Command::new(alloc, "prove")
         .about("Decides whether some run of a program gets stuck")
         .arg(program(alloc))?
-        .arg(
-            option(alloc, OUT)
-                .value_name("FILE")
-                .help("Write the evidence here"),
-        )?
-        .arg(
-            number(alloc, WORKERS, value_parser!(u32).range(1..=64))
-                .default_value("4")
-                .help("Workers, 1 to 64"),
-        )?
-        .arg(
-            number(alloc, DEPTH, value_parser!(u32).range(0..=15))
-                .default_value("4")
-                .help("Depth of the first tree of cubes, 0 to 15"),
-        )?
-        .arg(
-            number(alloc, BUDGET, value_parser!(u32).range(0..=1_000_000_000))
-                .default_value("1000000")
-                .help("Conflicts for each worker, 0 to 1000000000"),
-        )?
+        .arg(out(alloc))?
+        .arg(workers(alloc))?
+        .arg(depth(alloc))?
+        .arg(budget(alloc))?
         .arg(json(alloc))
 }
 
-fn check_command<'a>(alloc: Global) -> Result<Command<'a>, AllocError> {
+fn check_command<'a>(alloc: Global) -> Result<Command<'a>, AllocError>
+    ensures { IfOk result (λ c. IsShaped c check_app) }
+{
     Command::new(alloc, "check")
         .about("Judges a program by an evidence")
         .arg(program(alloc))?
@@ -128,37 +144,81 @@ fn check_command<'a>(alloc: Global) -> Result<Command<'a>, AllocError> {
         .arg(json(alloc))
 }
 
-fn replay_command<'a>(alloc: Global) -> Result<Command<'a>, AllocError> {
+fn replay_command<'a>(alloc: Global) -> Result<Command<'a>, AllocError>
+    ensures { IfOk result (λ c. IsShaped c replay_app) }
+{
     Command::new(alloc, "replay")
         .about("Prints the steps of a schedule")
         .arg(program(alloc))?
         .arg(evidence(alloc))
 }
 
-fn program<'a>(alloc: Global) -> Arg<'a> {
+fn program<'a>(alloc: Global) -> Arg<'a>
+    ensures { IsRuled result program_rule }
+{
     Arg::new(alloc, PROGRAM)
         .required(true)
         .action(ArgAction::Set)
         .help("The program text")
 }
 
-fn evidence<'a>(alloc: Global) -> Arg<'a> {
+fn evidence<'a>(alloc: Global) -> Arg<'a>
+    ensures { IsRuled result evidence_rule }
+{
     Arg::new(alloc, EVIDENCE)
         .required(true)
         .action(ArgAction::Set)
         .help("The evidence text")
 }
 
-fn json<'a>(alloc: Global) -> Arg<'a> {
+fn json<'a>(alloc: Global) -> Arg<'a>
+    ensures { IsRuled result json_rule }
+{
     option(alloc, JSON)
         .action(ArgAction::SetTrue)
         .help("Print the answer as a JSON object")
 }
 
-fn number<'a>(alloc: Global, name: &'a str, parser: ValueParser<'a>) -> Arg<'a> {
+fn out<'a>(alloc: Global) -> Arg<'a>
+    ensures { IsRuled result out_rule }
+{
+    option(alloc, OUT)
+        .value_name("FILE")
+        .help("Write the evidence here")
+}
+
+fn workers<'a>(alloc: Global) -> Arg<'a>
+    ensures { IsRuled result (number_with (codes "workers") 1 64 (codes "4")) }
+{
+    number(alloc, WORKERS, value_parser!(u32).range(1..=64))
+        .default_value("4")
+        .help("Workers, 1 to 64")
+}
+
+fn depth<'a>(alloc: Global) -> Arg<'a>
+    ensures { IsRuled result (number_with (codes "depth") 0 15 (codes "4")) }
+{
+    number(alloc, DEPTH, value_parser!(u32).range(0..=15))
+        .default_value("4")
+        .help("Depth of the first tree of cubes, 0 to 15")
+}
+
+fn budget<'a>(alloc: Global) -> Arg<'a>
+    ensures { IsRuled result (number_with (codes "budget") 0 1000000000 (codes "1000000")) }
+{
+    number(alloc, BUDGET, value_parser!(u32).range(0..=1_000_000_000))
+        .default_value("1000000")
+        .help("Conflicts for each worker, 0 to 1000000000")
+}
+
+fn number<'a>(alloc: Global, name: &'a str, parser: ValueParser<'a>) -> Arg<'a>
+    ensures { IsRuled result (number_rule name.entry.now parser.entry) }
+{
     option(alloc, name).value_name("N").value_parser(parser)
 }
 
-fn option<'a>(alloc: Global, name: &'a str) -> Arg<'a> {
+fn option<'a>(alloc: Global, name: &'a str) -> Arg<'a>
+    ensures { IsRuled result (option_rule name.entry.now) }
+{
     Arg::new(alloc, name).long(name).action(ArgAction::Set)
 }

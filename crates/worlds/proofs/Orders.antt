@@ -1,20 +1,17 @@
--- The clocks of different events differ, so their order is transitive.
-use Rattle.std.proofs.Common.{◌≡◌, ◌≢◌, ℕ, ◌+◌, ◌-◌, ◌<◌, inl, inr, true, false, ◌||◌, nat_lt, List, Option, Some, None, length, take, slice_get, refl, sym, ap, subst, arith}
-use Rattle.std.specs.List.{flat_map}
-use Rattle.std.proofs.lemmas.Bool.{cases_lt}
+-- The clocks of different events differ.
+use Rattle.std.proofs.Common.{◌≡◌, ℕ, ◌<◌, inl, inr, true, List, Option, Some, None, length, take, slice_get, refl, sym, ap, subst, arith}
 use Rattle.std.proofs.lemmas.Bool.Decides.{nat_tests}
 use Rattle.callorder.specs.Programs.{MpiProgram}
 use Rattle.semantics.specs.declared.state.Step.{Step}
 use Rattle.semantics.specs.declared.state.Step.TheVariants.{Issue, Match}
 use Rattle.semantics.specs.Machine.{Configuration, opening, after_all}
-use Rattle.formulas.specs.Facts.{Event, issue_of, match_of}
-use Rattle.formulas.specs.Families.{events, event_at, between, is_transitive_at}
-use Rattle.formulas.specs.Numbering.{place_of}
-use Rattle.worlds.specs.Worlds.{is_that, is_event, clause_holds, clauses_hold, clock_from, world_of}
-use Rattle.worlds.specs.Laws.{OrderIsTransitive}
-use Rattle.worlds.proofs.Lists.{both, or_left, or_right, all_made_range}
+use Rattle.formulas.specs.declared.facts.Event.{Event}
+use Rattle.formulas.specs.declared.facts.Event.TheVariants.{Issue as issue_of, Match as match_of}
+use Rattle.formulas.specs.Families.{event_at, place_of}
+use Rattle.worlds.specs.Worlds.{is_that, is_event, clock_from}
+use Rattle.worlds.specs.Laws.{ClocksDiffer}
 use Rattle.worlds.proofs.Clocks.{happens, happens_or_never}
-use Rattle.worlds.proofs.Events.{place_of_event}
+use Rattle.formulas.proofs.Events.{events_stand_once}
 
 -- ---- clocks of different events
 
@@ -53,49 +50,7 @@ one_place_each p m steps e f same =
           ]
     ]
 
-clocks_differ : (p : MpiProgram) (steps : List Step) (i j : ℕ) → i < j → j < length (events p) → (world_of p steps).clock (event_at p i) ≢ (world_of p steps).clock (event_at p j)
+pub clocks_differ : ClocksDiffer
 clocks_differ p steps i j first below same =
     let e = one_place_each p (opening p) steps (event_at p i) (event_at p j) same in
-    omega (arith, e, place_of_event p i (omega arith), place_of_event p j below, first)
-
--- ---- three different numbers don't go round
-
-round_one : (a b c : ℕ) → a ≢ b → (nat_lt b a || (nat_lt a c || (nat_lt c b || false))) ≡ true
-round_one a b c differ =
-    elim (cases_lt b a) [
-      | inl h ↦ or_left (nat_lt b a) _ (grind (arith, nat_tests))
-      | inr not_less ↦
-          or_right (nat_lt b a) _
-          (elim (cases_lt a c) [
-            | inl h ↦ or_left (nat_lt a c) _ (grind (arith, nat_tests))
-            | inr also_not ↦ or_right (nat_lt a c) _ (or_left (nat_lt c b) _ (let h : c < b = omega (arith, not_less, also_not) in grind (arith, nat_tests)))
-          ])
-    ]
-
-round_other : (a b c : ℕ) → a ≢ b → (nat_lt a b || (nat_lt c a || (nat_lt b c || false))) ≡ true
-round_other a b c differ =
-    elim (cases_lt a b) [
-      | inl h ↦ or_left (nat_lt a b) _ (grind (arith, nat_tests))
-      | inr not_less ↦
-          or_right (nat_lt a b) _
-          (elim (cases_lt c a) [
-            | inl h ↦ or_left (nat_lt c a) _ (grind (arith, nat_tests))
-            | inr also_not ↦ or_right (nat_lt c a) _ (or_left (nat_lt b c) _ (let h : b < c = omega (arith, not_less, also_not) in grind (arith, nat_tests)))
-          ])
-    ]
-
-transitive_at : (p : MpiProgram) (steps : List Step) (i j k : ℕ) → i < j → j < length (events p) → clauses_hold (world_of p steps) (is_transitive_at (event_at p i) (event_at p j) (event_at p k)) ≡ true
-transitive_at p steps i j k first below =
-    let clock = (world_of p steps).clock in
-    let differ = clocks_differ p steps i j first below in
-    both _ _ (round_one (clock (event_at p i)) (clock (event_at p j)) (clock (event_at p k)) differ)
-    (both _ _ (round_other (clock (event_at p i)) (clock (event_at p j)) (clock (event_at p k)) differ) refl)
-
-pub order_is_transitive : OrderIsTransitive
-order_is_transitive p steps program stuck =
-    let most = length (events p) in
-    let test = clause_holds (world_of p steps) in
-    all_made_range test (λ e. flat_map (λ f. flat_map (λ g. is_transitive_at (event_at p e) (event_at p f) (event_at p g)) (between f most)) (between e most)) 0 most most (omega arith)
-    (λ e _ below. all_made_range test (λ f. flat_map (λ g. is_transitive_at (event_at p e) (event_at p f) (event_at p g)) (between f most)) (e + 1) (most - (e + 1)) most (omega (arith, below))
-    (λ f above within. all_made_range test (λ g. is_transitive_at (event_at p e) (event_at p f) (event_at p g)) (f + 1) (most - (f + 1)) most (omega (arith, within))
-    (λ g _ _. transitive_at p steps e f g (omega (arith, above)) within)))
+    omega (arith, e, events_stand_once p i (omega (arith, first, below)), events_stand_once p j below, first)

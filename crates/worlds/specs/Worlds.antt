@@ -7,9 +7,13 @@ use Rattle.callorder.specs.Programs.{MpiProgram, IsProgram}
 use Rattle.semantics.specs.declared.state.Step.{Step}
 use Rattle.semantics.specs.declared.state.Step.TheVariants.{Issue, Match}
 use Rattle.semantics.specs.Machine.{Configuration, opening, after, after_all, IsStuckRun, is_issued, is_buffered, partner_of, is_rank_finished}
-use Rattle.formulas.specs.Facts.{Event, issue_of, match_of, Fact, issued, buffered, matched, unfinished, Statement, is_true, is_false, is_earlier}
-use Rattle.formulas.specs.Families.{SymbolicClause, is_standard}
-use Rattle.formulas.specs.Numbering.{place_of}
+use Rattle.formulas.specs.declared.facts.Event.{Event}
+use Rattle.formulas.specs.declared.facts.Event.TheVariants.{Issue as issue_of, Match as match_of}
+use Rattle.formulas.specs.declared.facts.Fact.{Fact}
+use Rattle.formulas.specs.declared.facts.Fact.TheVariants.{Issued as issued, Buffered as buffered, Matched as matched, Unfinished as unfinished}
+use Rattle.formulas.specs.declared.facts.Statement.{Statement}
+use Rattle.formulas.specs.declared.facts.Statement.TheVariants.{Holds as is_true, Fails as is_false, Earlier as is_earlier}
+use Rattle.formulas.specs.Families.{SymbolicClause, is_standard, place_of}
 
 -- which facts hold, and for each event a number, its clock, by which events are ordered
 pub record World : Type 0 where

@@ -1,6 +1,7 @@
-//! The clauses of a program hold in the world of each of its stuck runs, family by family.
+//! The clauses of a program hold in the world of each of its stuck runs, family by family, and its formula is satisfied
+//! by what each stuck run gives.
 
-ghost use Rattle.worlds.specs.Laws.{CallsAreIssuedInOrder, CallsAreIssuedAfterReturns, MatchesComeAfterIssues, CallsAreMatchedOnce, SendsDoNotOvertake, TakersDoNotOvertake, NoPairWaits, NoIssueWaits, SomeRankIsUnfinished, OrderIsTransitive, SendsAreBufferedAsAllowed};
+ghost use Rattle.worlds.specs.Laws.{CallsAreIssuedInOrder, CallsAreIssuedAfterReturns, MatchesComeAfterIssues, CallsAreMatchedOnce, SendsDoNotOvertake, TakersDoNotOvertake, NoPairWaits, NoIssueWaits, SomeRankIsUnfinished, ClocksDiffer, SendsAreBufferedAsAllowed, StuckRunsSatisfyFormula, UnsatisfiableHaveNoStuckRun};
 
 /// In the world of a stuck run calls are issued in order.
 pub fn calls_are_issued_in_order()
@@ -47,12 +48,22 @@ pub fn some_rank_is_unfinished()
     ensures { SomeRankIsUnfinished }
 {}
 
-/// In the world of a stuck run the order of events is transitive.
-pub fn order_is_transitive()
-    ensures { OrderIsTransitive }
+/// In the world of a run the clocks of different events differ.
+pub fn clocks_differ()
+    ensures { ClocksDiffer }
 {}
 
 /// In the world of a stuck run standard sends are buffered as the policy says.
 pub fn sends_are_buffered_as_allowed()
     ensures { SendsAreBufferedAsAllowed }
+{}
+
+/// A stuck run gives an assignment that satisfies the formula of its program.
+pub fn stuck_runs_satisfy_formula()
+    ensures { StuckRunsSatisfyFormula }
+{}
+
+/// A program whose formula no assignment satisfies has no stuck run.
+pub fn unsatisfiable_have_no_stuck_run()
+    ensures { UnsatisfiableHaveNoStuckRun }
 {}

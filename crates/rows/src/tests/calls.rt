@@ -229,11 +229,12 @@ fn waited_for(alloc: Global, sends: usize) -> Result<String, AllocError> {
 fn counts_the_calls_of_a_joined_send_and_receive(rt: HostRuntime) -> Result<(), Fail> {
     let alloc = rt.alloc();
     for (sends, status, line) in [
-        (252, "1", "deadlock"),
-        (253, "3", "refused rank 0 place 254 too many calls"),
-        (255, "3", "refused rank 0 place 256 too many calls"),
-        (256, "3", "refused rank 0 place 257 too many calls"),
-        (257, "3", "refused rank 0 place 257 too many calls"),
+        (253, "1", "deadlock"),
+        (1020, "1", "deadlock"),
+        (1021, "3", "refused rank 0 place 1022 too many calls"),
+        (1023, "3", "refused rank 0 place 1024 too many calls"),
+        (1024, "3", "refused rank 0 place 1025 too many calls"),
+        (1025, "3", "refused rank 0 place 1025 too many calls"),
     ] {
         let program = joined_after(alloc, sends)?;
         let scene = Scene::of(&program, "");
@@ -246,10 +247,10 @@ fn counts_the_calls_of_a_joined_send_and_receive(rt: HostRuntime) -> Result<(), 
 fn counts_the_waits_of_a_list(rt: HostRuntime) -> Result<(), Fail> {
     let alloc = rt.alloc();
     for (sends, status, line) in [
-        (128, "2", "unknown budget"),
-        (129, "3", "refused rank 0 place 130 too many calls"),
-        (256, "3", "refused rank 0 place 257 too many calls"),
-        (257, "3", "refused rank 0 place 257 too many calls"),
+        (512, "2", "unknown budget"),
+        (513, "3", "refused rank 0 place 514 too many calls"),
+        (1024, "3", "refused rank 0 place 1025 too many calls"),
+        (1025, "3", "refused rank 0 place 1025 too many calls"),
     ] {
         let program = waited_for(alloc, sends)?;
         let scene = Scene::of(&program, "");

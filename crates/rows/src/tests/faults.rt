@@ -123,3 +123,38 @@ fn tells_the_programs_fault_before_the_schedules(rt: HostRuntime) -> Result<(), 
     let line = "refused rank 0 place 1 peer range";
     assert_answer(&rt, alloc, "check program evidence", scene, "3", line)
 }
+
+/// Each reason for which texts are refused, once, with its line: program, evidence, line. The three
+/// limits of sizes are told where the limits are tried.
+const REASONS: &str = "\
+ranks 1/policy any/rank 0/recv 0 \u{e9}/ |  | refused line 4 not ascii
+ranks 1/policy any/rank 0/receive 0 1/ |  | refused line 4 syntax
+ranks 1/policy any/rank 0/probe 0 1/ |  | refused line 4 out of profile probe
+ranks 1/policy any/rank 0/recv 0 32768/ |  | refused line 4 range
+ranks 1/policy any/rank 0/wait q/ |  | refused rank 0 place 1 request unknown
+ranks 1/policy any/rank 0/irecv q 0 1/irecv q 0 1/wait q/ |  | refused rank 0 place 2 request open
+ranks 1/policy any/rank 0/irecv q 0 1/ |  | refused rank 0 place 1 request left
+ranks 1/policy any/rank 0/mrecv h/ |  | refused rank 0 place 1 handle unknown
+ranks 1/policy any/rank 0/mprobe h 0 1/mprobe h 0 1/mrecv h/ |  | refused rank 0 place 2 handle open
+ranks 1/policy any/rank 0/mprobe h 0 1/ |  | refused rank 0 place 1 handle left
+ranks 1/policy any/rank 0/recv 1 1/ |  | refused rank 0 place 1 peer range
+ranks 1/policy any/rank 0/recv 0 1/ | evidence 1/schedule/issue/ | refused evidence line 3 syntax
+ranks 1/policy any/rank 0/recv 0 1/ | evidence 1/schedule/issue 2147483648/ | refused evidence line 3 range
+ranks 1/policy any/rank 0/recv 0 1/ | evidence 1/refutation 2 3/tree/leaf 1/ | refused counts
+ranks 1/policy any/rank 0/recv 0 1/ | evidence 1/schedule/issue 0/issue 0/ | refused step 2 not enabled
+ranks 1/policy any/rank 0/ | evidence 1/schedule/ | refused not stuck finished
+ranks 1/policy any/rank 0/recv 0 1/ | evidence 1/schedule/ | refused not stuck live";
+
+#[test]
+fn tells_each_reason(rt: HostRuntime) -> Result<(), Fail> {
+    let alloc = rt.alloc();
+    for row in REASONS.lines() {
+        let (program, row) = column(row)?;
+        let (evidence, line) = column(row)?;
+        let program = lines(alloc, program)?;
+        let evidence = lines(alloc, evidence)?;
+        let scene = Scene::of(&program, &evidence);
+        assert_answer(&rt, alloc, "check program evidence", scene, "3", line)?;
+    }
+    Ok(())
+}

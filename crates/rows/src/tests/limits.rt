@@ -83,12 +83,12 @@ fn program_of_calls(alloc: Global, first: usize, second: usize) -> Result<String
 
 /// The numbers of calls of two ranks, with the status and the line of `prove`.
 const CALLS: &str = "\
-256 | 0 | 1 | deadlock
-128 | 128 | 1 | deadlock
-128 | 129 | 3 | refused rank 1 place 129 too many calls
-256 | 1 | 3 | refused rank 1 place 1 too many calls
-257 | 0 | 3 | refused rank 0 place 257 too many calls
-300 | 300 | 3 | refused rank 0 place 257 too many calls";
+1024 | 0 | 1 | deadlock
+512 | 512 | 1 | deadlock
+512 | 513 | 3 | refused rank 1 place 513 too many calls
+1024 | 1 | 3 | refused rank 1 place 1 too many calls
+1025 | 0 | 3 | refused rank 0 place 1025 too many calls
+1100 | 1100 | 3 | refused rank 0 place 1025 too many calls";
 
 #[test]
 fn keeps_the_limit_of_calls(rt: HostRuntime) -> Result<(), Fail> {

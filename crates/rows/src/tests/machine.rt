@@ -105,12 +105,13 @@ fn replays_schedules(rt: HostRuntime) -> Result<(), Fail> {
     assert_rows(&rt, rt.alloc(), "replay program evidence", REPLAYED)
 }
 
-/// Programs, and the schedules that the search finds.
+/// Programs, and the schedules that the search finds. That of the three ranks under `any` is found only by a walk that buffers.
 const FOUND: &str = "\
 any exchange | issue 0/issue 1/
 none exchange | issue 0/issue 1/
 any wildcard | issue 0/issue 1/issue 2/match 1 2/issue 1/
 all three | issue 0 buffered/issue 0 buffered/issue 1 buffered/issue 1/issue 2/match 1 4/match 2 5/issue 2/
+any three | issue 0 buffered/issue 0 buffered/issue 1 buffered/issue 1/match 1 4/issue 2/match 2 5/issue 2/
 any itself | issue 0/
 all receive | issue 0/
 any waiting | issue 0/issue 0/issue 1/match 1 4/issue 1/
@@ -152,11 +153,10 @@ fn finds_deadlocks(rt: HostRuntime) -> Result<(), Fail> {
     Ok(())
 }
 
-/// Programs whose walk doesn't end stuck.
+/// Programs of which every walk ends finished.
 const NOT_FOUND: &str = "\
 all exchange
 none three
-any three
 any overtaking
 all itself
 all waiting

@@ -149,22 +149,30 @@ fn tells_the_fault_of_the_smaller_rank(rt: HostRuntime) -> Result<(), Fail> {
 fn tells_faults_beside_too_many_calls(rt: HostRuntime) -> Result<(), Fail> {
     let alloc = rt.alloc();
     for (sends, calls, line) in [
-        (255, "wait q/", "refused rank 0 place 256 request unknown"),
-        (256, "wait q/", "refused rank 0 place 257 request unknown"),
-        (257, "wait q/", "refused rank 0 place 257 too many calls"),
-        (256, "irecv q 0 1/", "refused rank 0 place 257 request left"),
-        (256, "mrecv h/", "refused rank 0 place 257 handle unknown"),
-        (256, "mprobe h * */", "refused rank 0 place 257 handle left"),
-        (256, "send 1 1/", "refused rank 0 place 257 peer range"),
+        (1023, "wait q/", "refused rank 0 place 1024 request unknown"),
+        (1024, "wait q/", "refused rank 0 place 1025 request unknown"),
+        (1025, "wait q/", "refused rank 0 place 1025 too many calls"),
         (
-            254,
+            1024,
+            "irecv q 0 1/",
+            "refused rank 0 place 1025 request left",
+        ),
+        (1024, "mrecv h/", "refused rank 0 place 1025 handle unknown"),
+        (
+            1024,
+            "mprobe h * */",
+            "refused rank 0 place 1025 handle left",
+        ),
+        (1024, "send 1 1/", "refused rank 0 place 1025 peer range"),
+        (
+            1022,
             "sendrecv 1 1 0 1/",
-            "refused rank 0 place 255 peer range",
+            "refused rank 0 place 1023 peer range",
         ),
         (
-            254,
+            1022,
             "sendrecv 0 1 0 1/wait q/",
-            "refused rank 0 place 255 too many calls",
+            "refused rank 0 place 1023 too many calls",
         ),
     ] {
         let sends = "bsend 0 1/".repeat(alloc, sends)?;

@@ -9,9 +9,9 @@ use Rattle.prooflog.proofs.writer.write_refutation.Goals as goal
 pub returns : goal.returns
 returns c =
     let first = c.in_ok-extend_from_slice.ensures.items ∙ ap (λ (t : List ℕ). t ++ (codes "evidence 1" ++ 10 ∷ codes "refutation ")) c.new-out.ensures.items in
-    let variables = c.in_ok-put_number.ensures ∙ (λ i. first i ++ numeral (c.variables.ensures.same i)) in
+    let variables = c.in_ok-put_number.ensures.written ∙ (λ i. first i ++ numeral (c.variables.ensures.same i)) in
     let space = c.in_ok-push.ensures.items ∙ ap (λ (t : List ℕ). t ++ 32 ∷ []) variables in
-    let clauses = c.in_ok-put_number-2.ensures ∙ (λ i. space i ++ numeral (c.clauses.ensures.same i)) in
+    let clauses = c.in_ok-put_number-2.ensures.written ∙ (λ i. space i ++ numeral (c.clauses.ensures.same i)) in
     let ended = c.in_ok-push-2.ensures.items ∙ ap (λ (t : List ℕ). t ++ 10 ∷ []) clauses in
     let lines = c.in_ok-put_lines.ensures ∙ (λ i. ended i ++ flat_map item_line (map a_proof (c.lines.ensures.same i))) in
     let tree = c.in_ok-extend_from_slice-2.ensures.items ∙ ap (λ (t : List ℕ). t ++ (codes "tree" ++ 10 ∷ [])) lines in

@@ -1,11 +1,12 @@
-use Rattle.std.proofs.Common.{◌≡◌}
+use Rattle.std.proofs.Common.{◌≡◌, length}
 use Rattle.semantics.specs.Machine.{IsConfigurationOf, IsRun, opening, after_all}
 use Rattle.prover.proofs.walk.walk.Given as goal
 
-abbrev pub invariant-loop : goal.invariant-loop
-invariant-loop l =
+abbrev pub invariant-loop-turn : goal.invariant-loop-turn
+invariant-loop-turn l =
     record {
       of : IsConfigurationOf l.program l.state;
       now : l.state ≡ after_all (opening l.program) l.steps.items;
       run : IsRun l.program (opening l.program) l.steps.items;
+      size : length l.steps.items ≡ l.turn;
     }

@@ -5,11 +5,11 @@ use Rattle.refutations.proofs.refutation.check_refutation.Goals as goal
 
 pub returns-in-Ok-check_tree-clause-accepted : goal.returns-in-Ok-check_tree-clause-accepted
 returns-in-Ok-check_tree-clause-accepted c =
-    λ _. accepts-made c.args.formula.now c.args.lines.now c.args.tree.now (c.in_default-check_lines_in.ensures.derived.0 refl) c.in-Ok-check_tree.ensures.tree (c.in-Ok-check_tree.ensures.accepted refl)
+    λ _. accepts-made c.args.formula.now c.args.lines.now c.args.tree.now (c.in_default-check_lines_in.ensures.derived.0 refl) (c.in-Ok-check_tree.ensures.accepted refl)
 
 pub returns-in-Ok-check_tree-clause-unsatisfiable : goal.returns-in-Ok-check_tree-clause-unsatisfiable
 returns-in-Ok-check_tree-clause-unsatisfiable c =
-    λ _. accepted-refute c.args.formula.now c.args.lines.now c.args.tree.now (accepts-made c.args.formula.now c.args.lines.now c.args.tree.now (c.in_default-check_lines_in.ensures.derived.0 refl) c.in-Ok-check_tree.ensures.tree (c.in-Ok-check_tree.ensures.accepted refl))
+    λ _. accepted-refute c.args.formula.now c.args.lines.now c.args.tree.now (accepts-made c.args.formula.now c.args.lines.now c.args.tree.now (c.in_default-check_lines_in.ensures.derived.0 refl) (c.in-Ok-check_tree.ensures.accepted refl))
 
 pub returns-in-Err-Leaf-clause-tree : goal.returns-in-Err-Leaf-clause-tree
 returns-in-Err-Leaf-clause-tree c =

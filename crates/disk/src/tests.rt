@@ -1,0 +1,42 @@
+//! Long contents, in pieces.
+use crate::{Disk, DiskFiles, Trouble};
+use files::{FileSet, load, store};
+use std::alloc::{AllocError, Global};
+use std::cell::{Cell, RefCell};
+use std::test::Fail;
+
+/// More bytes than 4,096 reads or writes move.
+const LONG: u32 = 40_000;
+
+/// So many bytes, of which those that stand near each other differ.
+fn long_bytes(alloc: Global) -> Result<Vec<u8>, AllocError> {
+    let mut bytes = Vec::new(alloc);
+    for number in 0..LONG {
+        bytes.push((number % 251) as u8)?;
+    }
+    Ok(bytes)
+}
+
+#[test]
+fn moves_long_contents(rt: HostRuntime) -> Result<(), Fail> {
+    let alloc = rt.alloc();
+    let bytes = long_bytes(alloc)?;
+    let disk = Disk {
+        program: &bytes,
+        evidence: b"",
+        written: RefCell::new(Vec::new(alloc)),
+        writers: Cell::new(0),
+        steps: Cell::new(0),
+        trouble_at: 0,
+        trouble: Trouble::Device,
+    };
+    let mut files = DiskFiles { disk: &disk };
+    let mut reader = files.open_read("program")?;
+    let loaded = load(alloc, &mut reader)?;
+    assert!(rt; loaded == bytes);
+    let mut writer = files.open_write("out")?;
+    store(&mut writer, &loaded)?;
+    files.close("out", writer);
+    assert!(rt; disk.written.into_inner() == bytes);
+    Ok(())
+}

@@ -1,0 +1,51 @@
+-- A run told step by step, a line for each step.
+use Rattle.std.specs.Prelude.{codes, ℕ, ◌+◌, Bool, true, false, not, List, [], ◌∷◌, ◌++◌, Option, Some, None, slice_index}
+use Rattle.plaintext.specs.Plain.{numeral}
+use Rattle.calltext.specs.declared.verb.Verb.{Verb}
+use Rattle.calltext.specs.declared.verb.Verb.TheVariants as verb
+use Rattle.calltext.specs.Verbs.{verb_word}
+use Rattle.callorder.specs.declared.calls.Call.{Call}
+use Rattle.callorder.specs.declared.calls.Kind.{Kind}
+use Rattle.callorder.specs.declared.calls.Kind.TheVariants.{Send, Receive, MatchedProbe, MatchedReceive, Wait}
+use Rattle.callorder.specs.Programs.{MpiProgram, call_at}
+use Rattle.semantics.specs.declared.state.Step.{Step}
+use Rattle.semantics.specs.declared.state.Step.TheVariants.{Issue, Match}
+use Rattle.semantics.specs.Machine.{Configuration, opening, after}
+use Rattle.prooflog.specs.Steps.{step_line, written}
+
+-- the verb of a call of this kind, as a program's text has it; a nonblocking call is one that is started
+abbrev pub verb_of : Kind → Verb
+verb_of (Send mode blocking message) = verb.Send mode (not blocking)
+verb_of (Receive blocking pattern) = verb.Receive (not blocking)
+verb_of (MatchedProbe pattern receive) = verb.MatchedProbe
+verb_of (MatchedReceive blocking) = verb.MatchedReceive (not blocking)
+verb_of (Wait operation) = verb.Wait
+
+-- the word of a call that exists
+abbrev pub word_of : Option Call → List ℕ
+word_of None = []
+word_of (Some call) = verb_word (verb_of call.kind)
+
+-- whether the call was issued as a buffered send
+abbrev pub how_issued : Bool → List ℕ
+how_issued false = codes " call "
+how_issued true = codes " buffered call "
+
+-- the line that tells the issue of a call: `issue R call N WORD`, or `issue R buffered call N WORD`; ranks count from 0, calls from 1
+abbrev pub issue_line : MpiProgram → ℕ → ℕ → Bool → List ℕ
+issue_line p c rank buffered =
+    codes "issue " ++ (numeral rank ++ (how_issued buffered ++ (numeral (c + 1) ++ (codes " " ++ (word_of (call_at p c) ++ codes "\n")))))
+
+-- the line that tells a step in a configuration: that of an issue, or `match S T`
+abbrev pub told_line : MpiProgram → Configuration → Step → List ℕ
+told_line p m (Issue rank buffered) = issue_line p (slice_index m.next rank) rank buffered
+told_line p m (Match s t) = step_line (written (Match s t))
+
+-- the lines that tell steps from a configuration on
+abbrev pub told_steps : MpiProgram → Configuration → List Step → List ℕ
+told_steps p m [] = []
+told_steps p m (step ∷ steps) = told_line p m step ++ told_steps p (after m step) steps
+
+-- the lines that tell a run that ends stuck: a line for each step, and then `stuck`
+abbrev pub told_run : MpiProgram → List Step → List ℕ
+told_run p steps = told_steps p (opening p) steps ++ codes "stuck\n"

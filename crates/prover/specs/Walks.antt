@@ -1,0 +1,43 @@
+-- Walks: runs that go on until no step is enabled.
+use Rattle.std.specs.Prelude.{ℕ, Bool, true, false, not, ◌&&◌, ◌==◌, is_some, IsTrue, List, Option, Some, None}
+use Rattle.callorder.specs.declared.calls.Call.{Call}
+use Rattle.callorder.specs.Calls.{message_of, pattern_of}
+use Rattle.callorder.specs.Programs.{MpiProgram, call_at}
+use Rattle.semantics.specs.declared.state.Step.{Step}
+use Rattle.semantics.specs.Machine.{Configuration, opening, after_all, is_open, can_issue, IsEnabled, IsRun}
+
+-- no step is enabled
+abbrev pub NothingEnabled : MpiProgram → Configuration → Type 0
+NothingEnabled p m = (step : Step) → IsEnabled p m step → ⊥
+
+-- a run from the opening configuration after which no step is enabled
+pub record IsWalk (p : MpiProgram) (steps : List Step) : Type 0 where
+  pub run : IsRun p (opening p) steps
+  pub ended : NothingEnabled p (after_all (opening p) steps)
+
+-- ---- parts of a walk's step
+
+-- the rank isn't the one that is held back
+abbrev pub is_other : Option ℕ → ℕ → Bool
+is_other None rank = true
+is_other (Some held) rank = not (held == rank)
+
+-- no call of the rank can be issued
+abbrev pub NoIssueOf : MpiProgram → Configuration → ℕ → Type 0
+NoIssueOf p m rank = (buffered : Bool) → IsTrue (can_issue p m rank buffered) → ⊥
+
+abbrev pub is_open_send_call : MpiProgram → Configuration → ℕ → Option Call → Bool
+is_open_send_call p m c None = false
+is_open_send_call p m c (Some call) = is_some (message_of call.kind) && is_open p m c
+
+-- the call is a send that is issued and not matched
+abbrev pub is_open_send : MpiProgram → Configuration → ℕ → Bool
+is_open_send p m c = is_open_send_call p m c (call_at p c)
+
+abbrev pub is_open_taker_call : MpiProgram → Configuration → ℕ → Option Call → Bool
+is_open_taker_call p m c None = false
+is_open_taker_call p m c (Some call) = is_some (pattern_of call.kind) && is_open p m c
+
+-- the call is a receive or a matched probe that is issued and not matched
+abbrev pub is_open_taker : MpiProgram → Configuration → ℕ → Bool
+is_open_taker p m c = is_open_taker_call p m c (call_at p c)

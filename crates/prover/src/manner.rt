@@ -1,0 +1,72 @@
+//! Which step a walk takes where several are enabled.
+
+ghost use Rattle.std.specs.Prelude.{◌≤◌};
+
+/// Which step a walk takes where several are enabled. Ranks count from 0.
+#[derive(Clone, Copy, Debug, PartialEq, Eq)]
+pub struct Manner {
+    /// Whether a standard send is buffered where the policy leaves that open.
+    pub buffers: bool,
+    /// Whether matches come before issues.
+    pub matches_first: bool,
+    /// Whether the last match is taken, by send, then by taker, and not the first.
+    pub last_match: bool,
+    /// Whether the highest rank issues first, and not the lowest.
+    pub highest_rank: bool,
+    /// A rank that issues only where nothing else is enabled.
+    pub held_back: Option<u32>,
+}
+
+/// Issues where it can, of the lowest rank first, and else matches; buffers only what it must.
+const PLAIN: Manner = Manner {
+    buffers: false,
+    matches_first: false,
+    last_match: false,
+    highest_rank: false,
+    held_back: None,
+};
+
+/// Matches where it can, and else issues; buffers what it may.
+const EAGER: Manner = Manner {
+    buffers: true,
+    matches_first: true,
+    ..PLAIN
+};
+
+/// The manners that are tried in each program, in this order.
+const FIRST: [Manner; 5] = [
+    PLAIN,
+    EAGER,
+    Manner {
+        highest_rank: true,
+        ..EAGER
+    },
+    Manner {
+        last_match: true,
+        ..EAGER
+    },
+    Manner {
+        last_match: true,
+        highest_rank: true,
+        ..EAGER
+    },
+];
+
+/// How many manners are tried in a program with so many ranks.
+pub fn manners(ranks: u32) -> u32
+    ensures { 1 ≤ result }
+{
+    ranks.saturating_add(FIRST.len() as u32)
+}
+
+/// The manner that is tried at this turn, from 0: first those for all programs, then one for each rank
+/// that holds this rank back.
+pub fn manner_at(turn: u32) -> Manner {
+    if let Some(manner) = FIRST.get(turn as usize) {
+        return *manner;
+    }
+    Manner {
+        held_back: Some(turn.saturating_sub(FIRST.len() as u32)),
+        ..PLAIN
+    }
+}

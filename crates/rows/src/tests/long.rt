@@ -1,0 +1,78 @@
+//! Long runs: texts that take thousands of reads and writes, and schedules of many steps.
+use crate::run::{Scene, run};
+use std::alloc::{AllocError, Global};
+use std::test::Fail;
+
+/// Rank 0 sends so many messages to rank 1, which receives them; then each waits for one more.
+fn program_of(alloc: Global, messages: u32) -> Result<String, AllocError> {
+    let mut text = String::from_str(alloc, "ranks 2\npolicy any\nrank 0\n")?;
+    for _ in 0..messages {
+        text.push_str("send 1 1\n")?;
+    }
+    text.push_str("recv 1 1\nrank 1\n")?;
+    for _ in 0..messages {
+        text.push_str("recv 0 1\n")?;
+    }
+    text.push_str("recv 0 1\n")?;
+    Ok(text)
+}
+
+/// The evidence of its first walk: each message is sent, received and matched before the next.
+fn evidence_of(alloc: Global, messages: u32) -> Result<String, AllocError> {
+    let mut text = String::from_str(alloc, "evidence 1\nschedule\n")?;
+    for send in 1..=messages {
+        let taker = messages as u64 + 1 + send as u64;
+        text.push_str(format!(in alloc; "issue 0\nissue 1\nmatch {send} {taker}\n")?.as_str())?;
+    }
+    text.push_str("issue 0\nissue 1\n")?;
+    Ok(text)
+}
+
+/// What a replay of it prints.
+fn page_of(alloc: Global, messages: u32) -> Result<String, AllocError> {
+    let mut text = String::new(alloc);
+    for send in 1..=messages {
+        let taker = messages as u64 + 1 + send as u64;
+        text.push_str(format!(in alloc;
+            "issue 0 call {send} send\nissue 1 call {taker} recv\nmatch {send} {taker}\n"
+        )?.as_str())?;
+    }
+    let one = messages as u64 + 1;
+    let other = one + one;
+    text.push_str(format!(in alloc;
+        "issue 0 call {one} recv\nissue 1 call {other} recv\nstuck\n"
+    )?.as_str())?;
+    Ok(text)
+}
+
+#[test]
+fn long_runs_are_found_checked_and_told(rt: HostRuntime) -> Result<(), Fail> {
+    let alloc = rt.alloc();
+    for messages in [126u32, 510] {
+        let program = program_of(alloc, messages)?;
+        let evidence = evidence_of(alloc, messages)?;
+        let page = page_of(alloc, messages)?;
+        let scene = Scene::of(&program, &evidence);
+        let found = run(alloc, "prove program --out out", scene)?;
+        assert_eq!(rt; found.status, 1, "{messages}");
+        assert!(rt; found.out.as_slice() == b"deadlock\n", "{messages}");
+        assert!(rt;
+            found.written.as_slice() == evidence.as_bytes(),
+            "{messages}"
+        );
+        let checked = run(alloc, "check program evidence", scene)?;
+        assert_eq!(rt; checked.status, 1, "{messages}");
+        assert!(rt; checked.out.as_slice() == b"deadlock\n", "{messages}");
+        let told = run(alloc, "replay program evidence", scene)?;
+        assert_eq!(rt; told.status, 1, "{messages}");
+        assert!(rt; told.out.as_slice() == page.as_bytes(), "{messages}");
+    }
+    Ok(())
+}
+
+#[test]
+fn a_page_takes_thousands_of_writes(rt: HostRuntime) -> Result<(), Fail> {
+    let page = page_of(rt.alloc(), 510)?;
+    assert!(rt; page.len() > 7 * 4096, "{}", page.len());
+    Ok(())
+}

@@ -1,0 +1,169 @@
+-- Words in their usual order have no fault.
+use Rattle.std.proofs.Common.{◌≡◌, ◌∙◌, ap, ap₂, refl, Bool, true, false, List, [], ◌∷◌, Option, Some, None, codes}
+use Rattle.std.specs.Prelude.{find, if◌then◌else◌}
+use Rattle.std.specs.Option.{option_map_or}
+use Rattle.clap.specs.Words.{Kinds, Shape, Text, built, fault_of}
+use Rattle.clap.specs.Kinds.{or_else}
+use Rattle.clap.specs.Lexer.{long_of}
+use Rattle.clap.specs.Faults.{bundle_fault, check_fault, defaults_fault, flag_word_fault, level_fault, other_fault, settle_fault, step_fault, turn_fault, walk_fault}
+use Rattle.clap.specs.Walk.{Held, Step, Waiting, Walk, answers_to, finished, nothing_held, plain_word, settled, walk, walked, word_met}
+use Rattle.clap.specs.Simple.{help_shape, label_of, names_of}
+use Rattle.clap.proofs.OnLiterals.{clap_on_literals}
+use Rattle.session.specs.CommandLine.{begins_with_hyphen, command_line}
+use Rattle.session.proofs.PlainWords.{after_free, check_rules, check_walk, free_met, no_dashes, no_long, no_short, out_walk, prove_out, prove_rules, prove_walk, prove_word, replay_rules, replay_walk, start, two_words, walked_free}
+
+-- ---- one free word
+
+-- a free word is no faulty flag
+unfaulted : (s : Shape) (waiting : Waiting) (word : Text) (h : Held) → begins_with_hyphen word ≡ false → other_fault s None word h ≡ []
+unfaulted s waiting word h free =
+    ap (λ (b : Bool). if b then [] else flag_word_fault s.rules s.args_override_self (long_of word) word h) (no_dashes word free)
+    ∙ (ap (λ (o : Option (Text × Option Text)). flag_word_fault s.rules s.args_override_self o word h) (no_long word free)
+    ∙ ap (λ (o : Option Text). option_map_or (λ flags. bundle_fault s.rules s.args_override_self flags h) o []) (no_short word free))
+
+-- the fault of a free word is that of the step to which it leads
+abbrev free_fault : Shape → Walk → Text → Kinds
+free_fault s w word = step_fault s w.position (plain_word s.rules w.waiting word w.held).0 (plain_word s.rules w.waiting word w.held).1
+
+turn_at_rest : (s : Shape) (w : Walk) (word : Text) → begins_with_hyphen word ≡ false
+    → or_else (other_fault s None word w.held) (step_fault s w.position (word_met s.rules [] false w.waiting w.position word w.held).0 (word_met s.rules [] false w.waiting w.position word w.held).1)
+    ≡ free_fault s w word
+turn_at_rest s w word free =
+    ap₂ (λ (k : Kinds) (met : Held × Step). or_else k (step_fault s w.position met.0 met.1))
+    (unfaulted s w.waiting word w.held free) (free_met s.rules w.waiting w.position word w.held free)
+
+-- ---- a command's words
+
+abbrev leaf_fault : Shape → List Text → Kinds
+leaf_fault s words = level_fault s [] nothing_held words false []
+
+-- the faults after the walk
+abbrev end_fault : Shape → Walk → Kinds
+end_fault s w =
+    or_else (settle_fault s.rules s.args_override_self w.held)
+    (or_else (defaults_fault (settled s.rules w.held).rows s.rules) (check_fault s (finished s.rules w.held) false))
+
+leaf_by_walk : (s : Shape) (words : List Text) (w : Walk) → walk_fault s [] start words ≡ [] → walk s.rules [] nothing_held words ≡ w
+    → leaf_fault s words ≡ end_fault s w
+leaf_by_walk s words w sound walks =
+    ap₂ (λ (k : Kinds) (x : Walk). or_else k (end_fault s x)) sound walks
+
+-- ---- each command in its usual order
+
+abbrev shape_in : Option Shape → Shape
+shape_in None = help_shape
+shape_in (Some s) = s
+
+abbrev check_shape : Shape
+check_shape = shape_in (find (λ s. answers_to (codes "check") (label_of s)) (built command_line).subs)
+
+abbrev replay_shape : Shape
+replay_shape = shape_in (find (λ s. answers_to (codes "replay") (label_of s)) (built command_line).subs)
+
+abbrev prove_shape : Shape
+prove_shape = shape_in (find (λ s. answers_to (codes "prove") (label_of s)) (built command_line).subs)
+
+abbrev whole_fault : List Text → Kinds → Kinds
+whole_fault words below = level_fault (built command_line).top (names_of (built command_line)) nothing_held words true below
+
+check_first : (p : Text) → begins_with_hyphen p ≡ false → turn_fault check_shape [] start p ≡ []
+unfolding clap_on_literals
+check_first p fp = turn_at_rest check_shape start p fp
+
+check_second : (p e : Text) → begins_with_hyphen p ≡ false → begins_with_hyphen e ≡ false
+    → turn_fault check_shape [] (walked check_rules [] start p) e ≡ []
+unfolding clap_on_literals
+check_second p e fp fe =
+    ap (λ (w : Walk). turn_fault check_shape [] w e) (walked_free check_rules start p refl refl fp)
+    ∙ turn_at_rest check_shape (after_free check_rules start p) e fe
+
+check_leaf : (p e : Text) → begins_with_hyphen p ≡ false → begins_with_hyphen e ≡ false → leaf_fault check_shape (p ∷ e ∷ []) ≡ []
+unfolding clap_on_literals
+check_leaf p e fp fe =
+    let turns : walk_fault check_shape [] start (p ∷ e ∷ []) ≡ [] =
+    ap₂ (λ (a b : Kinds). or_else a (or_else b [])) (check_first p fp) (check_second p e fp fe) in
+    leaf_by_walk check_shape (p ∷ e ∷ []) (two_words check_rules p e) turns (check_walk p e fp fe)
+
+check_json_leaf : (p e : Text) → begins_with_hyphen p ≡ false → begins_with_hyphen e ≡ false
+    → leaf_fault check_shape (p ∷ e ∷ codes "--json" ∷ []) ≡ []
+unfolding clap_on_literals
+check_json_leaf p e fp fe =
+    let third : turn_fault check_shape [] (walked check_rules [] (walked check_rules [] start p) e) (codes "--json") ≡ [] =
+    ap (λ (w : Walk). turn_fault check_shape [] w (codes "--json")) (check_walk p e fp fe) in
+    let turns : walk_fault check_shape [] start (p ∷ e ∷ codes "--json" ∷ []) ≡ [] =
+    ap₂ (λ (a b : Kinds). or_else a b) (check_first p fp)
+    (ap₂ (λ (a b : Kinds). or_else a (or_else b [])) (check_second p e fp fe) third) in
+    leaf_by_walk check_shape (p ∷ e ∷ codes "--json" ∷ []) (walked check_rules [] (two_words check_rules p e) (codes "--json")) turns
+    (ap (λ (w : Walk). walked check_rules [] w (codes "--json")) (check_walk p e fp fe))
+
+replay_leaf : (p e : Text) → begins_with_hyphen p ≡ false → begins_with_hyphen e ≡ false → leaf_fault replay_shape (p ∷ e ∷ []) ≡ []
+unfolding clap_on_literals
+replay_leaf p e fp fe =
+    let first : turn_fault replay_shape [] start p ≡ [] = turn_at_rest replay_shape start p fp in
+    let second : turn_fault replay_shape [] (walked replay_rules [] start p) e ≡ [] =
+    ap (λ (w : Walk). turn_fault replay_shape [] w e) (walked_free replay_rules start p refl refl fp)
+    ∙ turn_at_rest replay_shape (after_free replay_rules start p) e fe in
+    let turns : walk_fault replay_shape [] start (p ∷ e ∷ []) ≡ [] = ap₂ (λ (a b : Kinds). or_else a (or_else b [])) first second in
+    leaf_by_walk replay_shape (p ∷ e ∷ []) (two_words replay_rules p e) turns (replay_walk p e fp fe)
+
+prove_first : (p : Text) → begins_with_hyphen p ≡ false → turn_fault prove_shape [] start p ≡ []
+unfolding clap_on_literals
+prove_first p fp = turn_at_rest prove_shape start p fp
+
+prove_leaf : (p : Text) → begins_with_hyphen p ≡ false → leaf_fault prove_shape (p ∷ []) ≡ []
+unfolding clap_on_literals
+prove_leaf p fp =
+    let turns : walk_fault prove_shape [] start (p ∷ []) ≡ [] = ap (λ (a : Kinds). or_else a []) (prove_first p fp) in
+    leaf_by_walk prove_shape (p ∷ []) (prove_word p) turns (prove_walk p fp)
+
+prove_json_leaf : (p : Text) → begins_with_hyphen p ≡ false → leaf_fault prove_shape (p ∷ codes "--json" ∷ []) ≡ []
+unfolding clap_on_literals
+prove_json_leaf p fp =
+    let second : turn_fault prove_shape [] (walked prove_rules [] start p) (codes "--json") ≡ [] =
+    ap (λ (w : Walk). turn_fault prove_shape [] w (codes "--json")) (prove_walk p fp) in
+    let turns : walk_fault prove_shape [] start (p ∷ codes "--json" ∷ []) ≡ [] =
+    ap₂ (λ (a b : Kinds). or_else a (or_else b [])) (prove_first p fp) second in
+    leaf_by_walk prove_shape (p ∷ codes "--json" ∷ []) (walked prove_rules [] (prove_word p) (codes "--json")) turns
+    (ap (λ (w : Walk). walked prove_rules [] w (codes "--json")) (prove_walk p fp))
+
+prove_out_leaf : (p file : Text) → begins_with_hyphen p ≡ false → begins_with_hyphen file ≡ false
+    → leaf_fault prove_shape (p ∷ codes "--out" ∷ file ∷ []) ≡ []
+unfolding clap_on_literals
+prove_out_leaf p file fp ff =
+    let second : turn_fault prove_shape [] (walked prove_rules [] start p) (codes "--out") ≡ [] =
+    ap (λ (w : Walk). turn_fault prove_shape [] w (codes "--out")) (prove_walk p fp) in
+    let third : turn_fault prove_shape [] (walked prove_rules [] (walked prove_rules [] start p) (codes "--out")) file ≡ [] =
+    ap (λ (w : Walk). turn_fault prove_shape [] (walked prove_rules [] w (codes "--out")) file) (prove_walk p fp)
+    ∙ turn_at_rest prove_shape (walked prove_rules [] (prove_word p) (codes "--out")) file ff in
+    let turns : walk_fault prove_shape [] start (p ∷ codes "--out" ∷ file ∷ []) ≡ [] =
+    ap₂ (λ (a b : Kinds). or_else a b) (prove_first p fp) (ap₂ (λ (a b : Kinds). or_else a (or_else b [])) second third) in
+    leaf_by_walk prove_shape (p ∷ codes "--out" ∷ file ∷ []) (prove_out p file) turns (out_walk p file fp ff)
+
+pub check_faultless : (name p e : Text) → begins_with_hyphen p ≡ false → begins_with_hyphen e ≡ false
+    → fault_of command_line (name ∷ codes "check" ∷ p ∷ e ∷ []) ≡ []
+unfolding clap_on_literals
+check_faultless name p e fp fe = ap (whole_fault (codes "check" ∷ p ∷ e ∷ [])) (check_leaf p e fp fe)
+
+pub check_json_faultless : (name p e : Text) → begins_with_hyphen p ≡ false → begins_with_hyphen e ≡ false
+    → fault_of command_line (name ∷ codes "check" ∷ p ∷ e ∷ codes "--json" ∷ []) ≡ []
+unfolding clap_on_literals
+check_json_faultless name p e fp fe = ap (whole_fault (codes "check" ∷ p ∷ e ∷ codes "--json" ∷ [])) (check_json_leaf p e fp fe)
+
+pub replay_faultless : (name p e : Text) → begins_with_hyphen p ≡ false → begins_with_hyphen e ≡ false
+    → fault_of command_line (name ∷ codes "replay" ∷ p ∷ e ∷ []) ≡ []
+unfolding clap_on_literals
+replay_faultless name p e fp fe = ap (whole_fault (codes "replay" ∷ p ∷ e ∷ [])) (replay_leaf p e fp fe)
+
+pub prove_faultless : (name p : Text) → begins_with_hyphen p ≡ false → fault_of command_line (name ∷ codes "prove" ∷ p ∷ []) ≡ []
+unfolding clap_on_literals
+prove_faultless name p fp = ap (whole_fault (codes "prove" ∷ p ∷ [])) (prove_leaf p fp)
+
+pub prove_json_faultless : (name p : Text) → begins_with_hyphen p ≡ false
+    → fault_of command_line (name ∷ codes "prove" ∷ p ∷ codes "--json" ∷ []) ≡ []
+unfolding clap_on_literals
+prove_json_faultless name p fp = ap (whole_fault (codes "prove" ∷ p ∷ codes "--json" ∷ [])) (prove_json_leaf p fp)
+
+pub prove_out_faultless : (name p file : Text) → begins_with_hyphen p ≡ false → begins_with_hyphen file ≡ false
+    → fault_of command_line (name ∷ codes "prove" ∷ p ∷ codes "--out" ∷ file ∷ []) ≡ []
+unfolding clap_on_literals
+prove_out_faultless name p file fp ff = ap (whole_fault (codes "prove" ∷ p ∷ codes "--out" ∷ file ∷ [])) (prove_out_leaf p file fp ff)

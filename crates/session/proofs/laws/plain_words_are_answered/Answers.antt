@@ -1,0 +1,5 @@
+use Rattle.session.proofs.PlainAnswers.{plain_words_are_answered}
+use Rattle.session.proofs.laws.plain_words_are_answered.Goals as goal
+
+pub returns : goal.returns
+returns c = plain_words_are_answered

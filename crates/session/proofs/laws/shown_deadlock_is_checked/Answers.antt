@@ -1,0 +1,5 @@
+use Rattle.session.proofs.RunLaws.{shown_checked}
+use Rattle.session.proofs.laws.shown_deadlock_is_checked.Goals as goal
+
+pub returns : goal.returns
+returns c = shown_checked

@@ -1,0 +1,5 @@
+use Rattle.session.proofs.RunLaws.{written}
+use Rattle.session.proofs.laws.written_deadlock_is_shown.Goals as goal
+
+pub returns : goal.returns
+returns c = written

@@ -1,0 +1,57 @@
+use Rattle.std.proofs.Common.{rules, ◌≡◌, ◌∙◌, ap, sym, subst, option_map, codes, ℕ, List, Option, Some, None, Result}
+use Rattle.std.specs.Str.Parse.{ParsesUnsigned, ExplainsUnsignedError, HasUnsignedDigitsIfOk}
+use Rattle.clap.specs.Matches.{ReadsOne, found_of, one_text}
+use Rattle.clap.specs.Words.{Text, rows_of}
+use Rattle.clap.specs.declared.parser.matches.ArgMatches.{ArgMatches}
+use Rattle.session.specs.CommandLine.{Reads}
+use Rattle.session.proofs.CommandLines.{given_by_rows, flag_by_rows, number_by_rows}
+use Rattle.session.proofs.request.requested.Goals as goal
+
+number_of : (E : Type 0) (gives : List ℕ → Result ℕ E → Type 0) (m : ArgMatches) (id : Text) (given : Option ℕ) (n kept : ℕ)
+    → ((text : List ℕ) (r : Result ℕ E) → gives text r → ParsesUnsigned 32 10 text r) → n ≡ kept → given ≡ Some n
+    → (one_text (found_of m) id ≡ None → given ≡ None)
+    → ((text : List ℕ) → one_text (found_of m) id ≡ Some text → ReadsOne gives text given)
+    → Reads (rows_of (found_of m)) id kept
+number_of E gives m id given n kept parses same is absent reads =
+    subst (λ (k : ℕ). Reads (rows_of (found_of m)) id k) same (number_by_rows E gives m id given n parses is absent reads)
+
+pub returns-in_ok-make-in-prove : goal.returns-in_ok-make-in-prove
+returns-in_ok-make-in-prove c =
+    let m = c.args.subcommand.1.now in
+    let made = c.in_ok-make-in-prove.ensures.given in
+    record {
+      command = search rules;
+      values = (
+        given_by_rows m _ c.get_str.result c.get_str.ensures ∙ ap (option_map (λ s. s.now)) c.in_ok-program.was,
+        given_by_rows m _ c.get_str-in-prove.result c.get_str-in-prove.ensures,
+        flag_by_rows m _ c.get_flag.result c.get_flag.ensures.value c.get_flag.ensures.other,
+        record {
+          workers = number_of _ (λ t r. ParsesUnsigned 32 10 t r × ExplainsUnsignedError 10 t r × HasUnsignedDigitsIfOk t r) m (codes "workers") _ _ _ (λ t r parsed. parsed.0) (sym made.0) c.in_ok-workers-in-prove.was c.get_one.ensures.none c.get_one.ensures.value;
+          depth = number_of _ (λ t r. ParsesUnsigned 32 10 t r × ExplainsUnsignedError 10 t r × HasUnsignedDigitsIfOk t r) m (codes "depth") _ _ _ (λ t r parsed. parsed.0) (sym made.1) c.in_ok-depth-in-prove.was c.get_one-in-prove.ensures.none c.get_one-in-prove.ensures.value;
+          budget = number_of _ (λ t r. ParsesUnsigned 32 10 t r × ExplainsUnsignedError 10 t r × HasUnsignedDigitsIfOk t r) m (codes "budget") _ _ _ (λ t r parsed. parsed.0) (sym made.2) c.in_ok-budget-in-prove.was c.get_one-in-prove-2.ensures.none c.get_one-in-prove-2.ensures.value;
+        },
+      );
+    }
+
+pub returns-in_ok-get_str-in-check : goal.returns-in_ok-get_str-in-check
+returns-in_ok-get_str-in-check c =
+    let m = c.args.subcommand.1.now in
+    record {
+      command = search rules;
+      values = (
+        given_by_rows m _ c.get_str.result c.get_str.ensures ∙ ap (option_map (λ s. s.now)) c.in_ok-program.was,
+        given_by_rows m _ c.get_str-in-check.result c.get_str-in-check.ensures ∙ ap (option_map (λ s. s.now)) c.in_ok-get_str-in-check.was,
+        flag_by_rows m _ c.get_flag-in-check.result c.get_flag-in-check.ensures.value c.get_flag-in-check.ensures.other,
+      );
+    }
+
+pub returns-in_ok-get_str-in-replay : goal.returns-in_ok-get_str-in-replay
+returns-in_ok-get_str-in-replay c =
+    let m = c.args.subcommand.1.now in
+    record {
+      command = search rules;
+      values = (
+        given_by_rows m _ c.get_str.result c.get_str.ensures ∙ ap (option_map (λ s. s.now)) c.in_ok-program.was,
+        given_by_rows m _ c.get_str-in-replay.result c.get_str-in-replay.ensures ∙ ap (option_map (λ s. s.now)) c.in_ok-get_str-in-replay.was,
+      );
+    }
