@@ -3,7 +3,7 @@
 ghost use Rattle.std.specs.Prelude.{◌≡◌, ◌<◌, ◌∷◌, [], IfOk, OnOk, map};
 ghost use Rattle.std.specs.Option.{option_copied};
 ghost use Rattle.callorder.specs.Expansion.{names_in, message, pattern, parts_of, parts_of_lines, parts_of_text, starting, wait_for, joined};
-ghost use Rattle.callorder.specs.Tables.{Expands, Adds, letters_of};
+ghost use Rattle.callorder.specs.Tables.{Expands, Adds, letters_of, action_of, request_of, handle_of};
 
 use crate::calls::{Message, Pattern};
 use crate::part::{Action, Part};
@@ -78,6 +78,70 @@ fn part_of(rank: u32, place: usize, action: Action) -> Part
         rank,
         place,
         action,
+    }
+}
+
+/// What the call of a line does that stands for one call.
+fn action_of(line: &CallLine) -> Action
+    ensures { result ≡ action_of line.now }
+{
+    match line {
+        CallLine::Send {
+            mode,
+            request,
+            destination,
+            tag,
+            communicator,
+        } => Action::Send {
+            mode: *mode,
+            blocking: request.is_none(),
+            message: message(*destination, *tag, *communicator),
+        },
+        CallLine::Receive {
+            request,
+            source,
+            tag,
+            communicator,
+        } => Action::Receive {
+            blocking: request.is_none(),
+            pattern: pattern(*source, *tag, *communicator),
+        },
+        CallLine::MatchedProbe {
+            handle: _,
+            source,
+            tag,
+            communicator,
+        } => Action::MatchedProbe {
+            pattern: pattern(*source, *tag, *communicator),
+        },
+        CallLine::MatchedReceive { request, handle: _ } => Action::MatchedReceive {
+            blocking: request.is_none(),
+        },
+        _ => Action::Wait,
+    }
+}
+
+/// The request that the call of such a line starts or waits for, if any.
+fn request_of(line: &CallLine) -> Option<&[u8]>
+    ensures { option_copied result ≡ request_of line.now }
+{
+    match line {
+        CallLine::Send { request, .. } => letters(request),
+        CallLine::Receive { request, .. } => letters(request),
+        CallLine::MatchedReceive { request, .. } => letters(request),
+        CallLine::Wait { request } => Some(request.letters()),
+        _ => None,
+    }
+}
+
+/// The handle that the call of such a line makes or receives on, if any.
+fn handle_of(line: &CallLine) -> Option<&[u8]>
+    ensures { option_copied result ≡ handle_of line.now }
+{
+    match line {
+        CallLine::MatchedProbe { handle, .. } => Some(handle.letters()),
+        CallLine::MatchedReceive { handle, .. } => Some(handle.letters()),
+        _ => None,
     }
 }
 
@@ -215,48 +279,6 @@ impl Expansion {
         ensures { OnOk result (Adds self.old self.new (parts_of rank place line.now)) }
     {
         match line {
-            CallLine::Send {
-                mode,
-                request,
-                destination,
-                tag,
-                communicator,
-            } => {
-                let action = Action::Send {
-                    mode: *mode,
-                    blocking: request.is_none(),
-                    message: message(*destination, *tag, *communicator),
-                };
-                self.push_starting(alloc, rank, place, letters(request), action)
-            }
-            CallLine::Receive {
-                request,
-                source,
-                tag,
-                communicator,
-            } => {
-                let action = Action::Receive {
-                    blocking: request.is_none(),
-                    pattern: pattern(*source, *tag, *communicator),
-                };
-                self.push_starting(alloc, rank, place, letters(request), action)
-            }
-            CallLine::MatchedProbe {
-                handle,
-                source,
-                tag,
-                communicator,
-            } => {
-                let pattern = pattern(*source, *tag, *communicator);
-                let part = part_of(rank, place, Action::MatchedProbe { pattern });
-                self.push_named(alloc, part, None, Some(handle.letters()))
-            }
-            CallLine::MatchedReceive { request, handle } => {
-                let blocking = request.is_none();
-                let part = part_of(rank, place, Action::MatchedReceive { blocking });
-                self.push_named(alloc, part, letters(request), Some(handle.letters()))
-            }
-            CallLine::Wait { request } => self.push_wait(alloc, rank, place, request.letters()),
             CallLine::WaitAll { requests } => {
                 self.push_waits(alloc, rank, place, requests.as_slice())
             }
@@ -270,6 +292,10 @@ impl Expansion {
                 let message = message(*destination, *send_tag, *communicator);
                 let pattern = pattern(*source, *receive_tag, *communicator);
                 self.push_send_receive(alloc, rank, place, message, pattern)
+            }
+            _ => {
+                let part = part_of(rank, place, action_of(line));
+                self.push_named(alloc, part, request_of(line), handle_of(line))
             }
         }
     }

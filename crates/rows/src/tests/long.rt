@@ -55,14 +55,20 @@ fn long_runs_are_found_checked_and_told(rt: HostRuntime) -> Result<(), Fail> {
         let scene = Scene::of(&program, &evidence);
         let found = run(alloc, "prove program --out out", scene)?;
         assert_eq!(rt; found.status, 1, "{messages}");
-        assert!(rt; found.out.as_slice() == b"deadlock\n", "{messages}");
+        assert!(rt;
+            found.out.as_slice() == b"deadlock\n".as_slice(),
+            "{messages}"
+        );
         assert!(rt;
             found.written.as_slice() == evidence.as_bytes(),
             "{messages}"
         );
         let checked = run(alloc, "check program evidence", scene)?;
         assert_eq!(rt; checked.status, 1, "{messages}");
-        assert!(rt; checked.out.as_slice() == b"deadlock\n", "{messages}");
+        assert!(rt;
+            checked.out.as_slice() == b"deadlock\n".as_slice(),
+            "{messages}"
+        );
         let told = run(alloc, "replay program evidence", scene)?;
         assert_eq!(rt; told.status, 1, "{messages}");
         assert!(rt; told.out.as_slice() == page.as_bytes(), "{messages}");

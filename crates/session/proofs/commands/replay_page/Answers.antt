@@ -1,17 +1,20 @@
 -- The bytes of both files are those that were read, and the text is that of the replay.
-use Rattle.std.proofs.Common.{◌≡◌, ℕ, List, refl, sym, ap, subst, ◌∙◌}
+use Rattle.std.proofs.Common.{◌≡◌, ℕ, List, refl, sym, ap, subst}
 use Rattle.std.specs.Prelude.{Option}
 use Rattle.files.specs.Contents.{AreAll}
 use Rattle.prover.specs.declared.steps.Replayed.TheVariants as replays
 use Rattle.session.proofs.commands.replay_page.Goals as goal
 
+-- what a file held after nothing has changed
+as_before : (old new : List ℕ → Option (List ℕ)) (path bytes : List ℕ) → new ≡ old → AreAll (new path) bytes → AreAll (old path) bytes
+as_before old new path bytes same h = subst (λ (files : List ℕ → Option (List ℕ)). AreAll (files path) bytes) same h
+
 pub returns-in-Stuck-clause-page : goal.returns-in-Stuck-clause-page
 returns-in-Stuck-clause-page g c =
     let held = g.F.FileSet.held c.args.files.now in
     let program = subst (AreAll (held c.args.program.now)) (sym c.deref.ensures.value) c.in_ok-program.ensures.bytes in
-    let evidence = subst (AreAll (held c.args.evidence.now)) (sym c.deref-2.ensures.value) (
-    subst (λ (files : List ℕ → Option (List ℕ)). AreAll (files c.args.evidence.now) _) c.in_ok-program.ensures.same c.in_ok-evidence.ensures.bytes
-    ) in (
+    let read = subst (AreAll _) (sym c.deref-2.ensures.value) c.in_ok-evidence.ensures.bytes in
+    let evidence = as_before held _ c.args.evidence.now c.deref-2.result.now c.in_ok-program.ensures.same read in (
       c.deref.result.now,
       c.deref-2.result.now,
       replays.Stuck c.in-Stuck.text,

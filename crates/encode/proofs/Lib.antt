@@ -1,0 +1,13 @@
+pub mod Adding
+pub mod Adds
+pub mod BitsFor
+pub mod EventSlots
+pub mod FactSlots
+pub mod FamilyBlocks
+pub mod Fetches
+pub mod Literals
+pub mod Marking
+pub mod Positions
+pub mod Rows
+pub mod VariableNumbers
+pub mod FormulaParts

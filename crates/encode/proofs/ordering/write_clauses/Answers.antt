@@ -1,0 +1,20 @@
+use Rattle.std.proofs.Common.{Err, ◌++◌, sym, ap, ◌∙◌, subst}
+use Rattle.std.specs.List.{flat_map}
+use Rattle.std.proofs.lemmas.List.Folds.{flat_map-map}
+use Rattle.encode.specs.Adding.{Adds}
+use Rattle.encode.specs.Ordering.{numbered_signed}
+use Rattle.encode.proofs.Adds.{adds_refused, adds_done}
+use Rattle.encode.proofs.ordering.write_clauses.Goals as goal
+
+pub returns-in-Err : goal.returns-in-Err
+returns-in-Err c =
+    let p = c.args.variables.now in
+    let items = c.args.clauses.now in
+    subst (λ l. Adds c.args.draft.now l (Err c.in-Err.halt) c.write_clause.new.draft) (sym (flat_map-map (numbered_signed p) (λ v. v.items) items))
+    (adds_refused (λ v. numbered_signed p v.items) items c.loop-clause.clause-index _ c.clause-item.result _ c.args.draft.now c.loop-clause.draft c.write_clause.new.draft c.write_clause.new.draft c.in-Err.halt c.loop-clause-test.true c.clause-item.is (ap (numbered_signed p) c.as_slice.ensures.value) c.loop-clause.invariant c.in-Err.ensures)
+
+pub returns : goal.returns
+returns c =
+    let p = c.args.variables.now in
+    let items = c.args.clauses.now in
+    adds_done (λ v. numbered_signed p v.items) items c.loop-clause.clause-index c.args.draft.now c.loop-clause.draft c.loop-clause-test.false c.loop-clause.invariant ∙ ap (λ l. c.args.draft.now ++ l) (sym (flat_map-map (numbered_signed p) (λ v. v.items) items))

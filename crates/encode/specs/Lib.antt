@@ -1,0 +1,9 @@
+pub mod Adding
+pub mod Blocks
+pub mod Encodings
+pub mod Marks
+pub mod Numbers
+pub mod Ordering
+pub mod Places
+pub mod Slots
+pub mod Sources

@@ -1,0 +1,255 @@
+//! The formula of a program.
+
+ghost use Rattle.std.specs.Prelude.{◌≡◌, ◌<◌, ◌≤◌, ◌^◌, ◌++◌, ◌↔◌, [], Err, IfOk, length, map};
+ghost use Rattle.std.specs.List.{filter, flat_map, range_with_len};
+ghost use Rattle.candidates.specs.Pairs.{pairs_of, places};
+ghost use Rattle.nonovertake.specs.Earlier.{earlier_of};
+ghost use Rattle.formulas.specs.Families.{events as events_of, is_standard, last_calls, rank_of, standard_sends};
+ghost use Rattle.formulas.specs.declared.facts.Fact.TheVariants.{Issued as issued, Buffered as buffered, Matched as matched, Unfinished as unfinished};
+ghost use Rattle.formulas.specs.Numbering.{facts as facts_of, formula_of};
+ghost use Rattle.formulas.specs.Orders.{bits_for, clock_size, used_pairs};
+ghost use Rattle.encode.specs.Blocks.{blocks_of, order_families, end_families, policy_families};
+ghost use Rattle.encode.specs.declared.fault.EncodeFault.TheVariants.{TooManyEvents, TooManyClauses};
+
+use crate::draft::{Halt, MOST_CLAUSES};
+use crate::events::{Events, count};
+use crate::families::{Block, Family, blocks_of};
+use crate::fault::EncodeFault;
+use crate::source::Source;
+use crate::used::used_pairs;
+use crate::variables::Variables;
+use crate::{calls, whole};
+use callorder::Program;
+use candidates::Pairs;
+use clauses::{Clause, Formula};
+use formulas::Fact;
+use nonovertake::Earlier;
+use std::alloc::{AllocError, Global};
+
+/// How many events a program may have.
+pub const MOST_EVENTS: usize = 1024;
+
+fn issued(alloc: Global, program: &Program) -> Result<Vec<Fact>, AllocError>
+    ensures { IfOk result (λ facts. facts.items ≡ map issued (places program.now)) }
+{
+    (0..program.calls().len())
+        .map(|call| Fact::Issued(call))
+        .collect(alloc)
+}
+
+fn buffered(alloc: Global, program: &Program) -> Result<Vec<Fact>, AllocError>
+    ensures { IfOk result (λ facts. facts.items ≡ map buffered (standard_sends program.now)) }
+{
+    (0..program.calls().len())
+        .filter(|call| calls::is_standard(program, *call))
+        .map(|call| Fact::Buffered(call))
+        .collect(alloc)
+}
+
+fn matched(alloc: Global, pairs: &Pairs) -> Result<Vec<Fact>, AllocError>
+    ensures { IfOk result (λ facts. facts.items ≡ map (λ pair. matched pair.0 pair.1) pairs.now) }
+{
+    pairs
+        .as_slice()
+        .iter()
+        .map(|pair| Fact::Matched(pair.0, pair.1))
+        .collect(alloc)
+}
+
+fn unfinished(alloc: Global, program: &Program) -> Result<Vec<Fact>, AllocError>
+    ensures { IfOk result (λ facts. facts.items ≡ map (λ c. unfinished (rank_of program.now c)) (last_calls program.now)) }
+{
+    (0..program.calls().len())
+        .filter(|call| calls::is_last(program, *call))
+        .map(|call| Fact::Unfinished(calls::rank_of(program, call)))
+        .collect(alloc)
+}
+
+/// The facts that the formula of a program speaks of. The only error is want of memory.
+pub fn facts_of(alloc: Global, program: &Program, pairs: &Pairs) -> Result<Vec<Fact>, AllocError>
+    requires { pairs.now ≡ pairs_of program.now }
+    ensures { IfOk result (λ facts. facts.items ≡ facts_of program.now) }
+{
+    let mut facts = issued(alloc, program)?;
+    facts.extend_from_slice(buffered(alloc, program)?.as_slice())?;
+    facts.extend_from_slice(matched(alloc, pairs)?.as_slice())?;
+    facts.extend_from_slice(unfinished(alloc, program)?.as_slice())?;
+    Ok(facts)
+}
+
+/// The least number of bits by which so many numbers differ.
+pub fn bits_for(most: usize) -> usize
+    requires { most ≤ 1024 }
+    ensures { result ≡ bits_for most }
+{
+    let mut size = 0;
+    let mut power = 1;
+    while size < most {
+        if power >= most {
+            return size;
+        }
+        size += 1;
+        power *= 2;
+    }
+    size
+}
+
+fn order_blocks(alloc: Global, source: &Source<'_>) -> Result<Vec<Block>, AllocError>
+    ensures { IfOk result (λ blocks. blocks.items ≡ flat_map (blocks_of source.now) order_families) }
+{
+    let families = [
+        Family::IssueOrder,
+        Family::ReturnOrder,
+        Family::MatchOrder,
+        Family::MatchedOnce,
+        Family::SendOrder,
+        Family::TakerOrder,
+    ];
+    let blocks = blocks_of(alloc, source, &families)?;
+    Ok(blocks)
+}
+
+fn end_blocks(alloc: Global, source: &Source<'_>) -> Result<Vec<Block>, AllocError>
+    ensures { IfOk result (λ blocks. blocks.items ≡ flat_map (blocks_of source.now) end_families) }
+{
+    let families = [
+        Family::NoPairWaits,
+        Family::NoIssueWaits,
+        Family::Finished,
+        Family::SomeUnfinished,
+    ];
+    let blocks = blocks_of(alloc, source, &families)?;
+    Ok(blocks)
+}
+
+fn policy_blocks(alloc: Global, source: &Source<'_>) -> Result<Vec<Block>, AllocError>
+    ensures { IfOk result (λ blocks. blocks.items ≡ flat_map (blocks_of source.now) policy_families) }
+{
+    let blocks = blocks_of(alloc, source, &[Family::Buffering])?;
+    Ok(blocks)
+}
+
+/// The used pairs of events.
+fn used_of(
+    alloc: Global,
+    source: &Source<'_>,
+    events: &Events<'_>,
+    order: &[Block],
+) -> Result<Vec<(usize, usize)>, AllocError>
+    requires one { events.now ≡ source.now }
+    requires few { length (events_of events.now) ≤ 1024 }
+    requires order { order.now ≡ flat_map (blocks_of source.now) order_families }
+    ensures { IfOk result (λ used. used.items ≡ used_pairs source.now) }
+{
+    let used = used_pairs(alloc, source, events, order)?;
+    Ok(used)
+}
+
+/// The formula of these clauses.
+fn formula_of_clauses(
+    source: &Source<'_>,
+    variables: &Variables<'_>,
+    clauses: Vec<Clause>,
+) -> Result<Formula, EncodeFault>
+    requires one { variables.now ≡ source.now }
+    requires clauses { clauses.items ≡ (formula_of source.now).clauses }
+    ensures made { IfOk result (λ f. f ≡ formula_of source.now) }
+    ensures few { IfOk result (λ f. length f.clauses ≤ 4000000) }
+    ensures full { result ≡ Err TooManyClauses → 4000000 < length (formula_of source.now).clauses }
+    ensures events { result ≡ Err TooManyEvents → ⊥ }
+{
+    let _calls = source.program().calls();
+    if clauses.len() > MOST_CLAUSES {
+        return Err(EncodeFault::TooManyClauses);
+    }
+    let count = variables.count();
+    match Formula::make(count as u32, clauses) {
+        Ok(formula) => Ok(formula),
+        Err(_clauses) => unreachable!(),
+    }
+}
+
+/// The variables of a program with these used pairs of events.
+fn variables_of<'a>(
+    alloc: Global,
+    events: Events<'a>,
+    pairs: &Pairs,
+    used: &[(usize, usize)],
+    size: usize,
+) -> Result<Variables<'a>, AllocError>
+    requires pairs { pairs.now ≡ pairs_of events }
+    requires used { used.now ≡ used_pairs events }
+    requires few { length (events_of events) ≤ 1024 }
+    requires size { size ≡ clock_size events }
+    ensures { IfOk result (λ variables. variables ≡ events.entry) }
+{
+    let program = events.program();
+    let calls = program.calls().len();
+    let facts = facts_of(alloc, program, pairs)?;
+    if calls > 1024 || facts.len() > 1_051_712 || used.len() > 1_048_576 || size > 10 {
+        return Err(AllocError);
+    }
+    Variables::make(alloc, events, facts.as_slice(), used, size)
+}
+
+fn formula_of_source(
+    alloc: Global,
+    source: &Source<'_>,
+    events: Events<'_>,
+    pairs: &Pairs,
+) -> Result<Formula, EncodeFault>
+    requires one { events ≡ source.now }
+    requires pairs { pairs.now ≡ pairs_of source.now }
+    requires few { length (events_of events) ≤ 1024 }
+    ensures made { IfOk result (λ f. f ≡ formula_of source.now) }
+    ensures few { IfOk result (λ f. length f.clauses ≤ 4000000) }
+    ensures full { result ≡ Err TooManyClauses → 4000000 < length (formula_of source.now).clauses }
+    ensures events { result ≡ Err TooManyEvents → ⊥ }
+{
+    let order = order_blocks(alloc, source)?;
+    let end = end_blocks(alloc, source)?;
+    let policy = policy_blocks(alloc, source)?;
+    let used = used_of(alloc, source, &events, order.as_slice())?;
+    let size = bits_for(events.len());
+    let variables = variables_of(alloc, events, pairs, used.as_slice(), size)?;
+    let order = order.as_slice();
+    let end = end.as_slice();
+    let policy = policy.as_slice();
+    match whole::clauses(
+        alloc,
+        &variables,
+        source,
+        order,
+        end,
+        policy,
+        size,
+        used.as_slice(),
+    ) {
+        Ok(clauses) => formula_of_clauses(source, &variables, clauses),
+        Err(Halt::Full) => Err(EncodeFault::TooManyClauses),
+        Err(Halt::Memory) => Err(EncodeFault::Memory),
+    }
+}
+
+/// The formula of the program. A program with too many events is refused before any memory is asked for.
+pub fn make(
+    alloc: Global,
+    program: &Program,
+    pairs: &Pairs,
+    earlier: &Earlier,
+) -> Result<Formula, EncodeFault>
+    requires pairs { pairs.now ≡ pairs_of program.now }
+    requires earlier { earlier.now ≡ map (earlier_of program.now) (pairs_of program.now) }
+    ensures made { IfOk result (λ f. f ≡ formula_of program.now) }
+    ensures few { IfOk result (λ f. length f.clauses ≤ 4000000) }
+    ensures few_events { IfOk result (λ f. length (events_of program.now) ≤ 1024) }
+    ensures full { result ≡ Err TooManyClauses → (length (events_of program.now) ≤ 1024) × (4000000 < length (formula_of program.now).clauses) }
+    ensures events { result ≡ Err TooManyEvents ↔ 1024 < length (events_of program.now) }
+{
+    if count(program) > MOST_EVENTS {
+        return Err(EncodeFault::TooManyEvents);
+    }
+    let source = Source::make(alloc, program, pairs, earlier)?;
+    let events = Events::make(alloc, program)?;
+    formula_of_source(alloc, &source, events, pairs)
+}

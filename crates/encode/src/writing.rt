@@ -1,0 +1,110 @@
+//! Clauses of statements, with their variables numbered.
+
+ghost use Rattle.std.specs.Prelude.{◌≡◌, ◌∷◌, [], ◌++◌, OnOk};
+ghost use Rattle.std.specs.List.{cons_option, filter_map, flat_map};
+ghost use Rattle.formulas.specs.Numbering.{literal_of, normal_form, numbered};
+ghost use Rattle.encode.specs.Adding.{Adds};
+ghost use Rattle.encode.specs.Blocks.{clauses_of, numbered_block};
+
+use crate::draft::{Draft, Halt};
+use crate::families::{Block, clauses_of};
+use crate::source::Source;
+use crate::symbolic::Symbolic;
+use crate::variables::Variables;
+use clauses::Lit;
+use formulas::Statement;
+use std::alloc::{AllocError, Global};
+
+fn push_literal(literals: &mut Vec<Lit>, literal: Option<Lit>) -> Result<(), AllocError>
+    ensures { OnOk result (literals.new.items ≡ literals.old.items ++ cons_option literal []) }
+{
+    if let Some(literal) = literal {
+        literals.push(literal)?;
+    }
+    Ok(())
+}
+
+/// The literals of the statements, without those that are false by definition.
+fn number(
+    literals: &mut Vec<Lit>,
+    variables: &Variables<'_>,
+    statements: &[Statement],
+) -> Result<(), AllocError>
+    ensures { OnOk result (literals.new.items ≡ filter_map (literal_of variables.now) statements.now) }
+{
+    literals.clear();
+    for statement in statements {
+        push_literal(literals, variables.literal_of(statement))?;
+    }
+    Ok(())
+}
+
+fn write_clause(
+    draft: &mut Draft,
+    literals: &mut Vec<Lit>,
+    alloc: Global,
+    variables: &Variables<'_>,
+    clause: &[Statement],
+) -> Result<(), Halt>
+    ensures { Adds draft.old (normal_form variables.now clause.now) result draft.new }
+{
+    match number(literals, variables, clause) {
+        Ok(()) => draft.add(alloc, literals.as_slice()),
+        Err(AllocError) => Err(Halt::Memory),
+    }
+}
+
+fn write_clauses(
+    draft: &mut Draft,
+    literals: &mut Vec<Lit>,
+    alloc: Global,
+    variables: &Variables<'_>,
+    clauses: &Symbolic,
+) -> Result<(), Halt>
+    ensures { Adds draft.old (numbered variables.now clauses.now) result draft.new }
+{
+    for clause in clauses.clauses() {
+        match write_clause(draft, literals, alloc, variables, clause.as_slice()) {
+            Ok(()) => {}
+            Err(halt) => return Err(halt),
+        }
+    }
+    Ok(())
+}
+
+fn write_block(
+    draft: &mut Draft,
+    literals: &mut Vec<Lit>,
+    alloc: Global,
+    variables: &Variables<'_>,
+    source: &Source<'_>,
+    block: &Block,
+) -> Result<(), Halt>
+    ensures { Adds draft.old (numbered variables.now (clauses_of source.now block.now)) result draft.new }
+{
+    match clauses_of(alloc, source, block) {
+        Ok(clauses) => write_clauses(draft, literals, alloc, variables, &clauses),
+        Err(AllocError) => Err(Halt::Memory),
+    }
+}
+
+/// Adds the clauses of the blocks, in their normal forms. Refused with [`Halt::Full`] only where there are more than
+/// 4,000,000 clauses with them.
+pub fn write_blocks(
+    draft: &mut Draft,
+    alloc: Global,
+    variables: &Variables<'_>,
+    source: &Source<'_>,
+    blocks: &[Block],
+) -> Result<(), Halt>
+    ensures { Adds draft.old (flat_map (numbered_block variables.now source.now) blocks.now) result draft.new }
+{
+    let mut literals = Vec::new(alloc);
+    for block in blocks {
+        match write_block(draft, &mut literals, alloc, variables, source, block) {
+            Ok(()) => {}
+            Err(halt) => return Err(halt),
+        }
+    }
+    Ok(())
+}
