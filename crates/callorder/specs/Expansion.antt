@@ -58,20 +58,41 @@ joined rank place message pattern =
     ∷ wait_for rank place receive_part
     ∷ []
 
+-- what the call of a line does that expands to one call
+abbrev pub action_of : CallLine → Action
+action_of (lines.Send mode request destination tag communicator) = Send mode (is_none request) (message destination tag communicator)
+action_of (lines.Receive request source tag communicator) = Receive (is_none request) (pattern source tag communicator)
+action_of (lines.MatchedProbe handle source tag communicator) = MatchedProbe (pattern source tag communicator)
+action_of (lines.MatchedReceive request handle) = MatchedReceive (is_none request)
+action_of _ = Wait
+
+-- the request that such a call starts or waits for
+abbrev pub request_of : CallLine → Option (List ℕ)
+request_of (lines.Send mode request destination tag communicator) = request
+request_of (lines.Receive request source tag communicator) = request
+request_of (lines.MatchedReceive request handle) = request
+request_of (lines.Wait request) = Some request
+request_of _ = None
+
+-- the handle that such a call makes or receives on
+abbrev pub handle_of : CallLine → Option (List ℕ)
+handle_of (lines.MatchedProbe handle source tag communicator) = Some handle
+handle_of (lines.MatchedReceive request handle) = Some handle
+handle_of _ = None
+
+-- the call of a line that expands to one
+abbrev pub call_of : ℕ → ℕ → CallLine → NamedPart
+call_of rank place line =
+    record { part = record { rank = rank; place = place; action = action_of line }; request = names_in rank (request_of line); handle = names_in rank (handle_of line) }
+
 -- The calls that the line at a place, from 1, of a rank, from 0, expands to. A call with a request is nonblocking. The
 -- waits of `waitall` stand in the order of its list (MPI 4.1, section 3.7.5). A joined send and receive is a nonblocking
 -- send and a nonblocking receive, and the waits for them (section 3.10).
 abbrev pub parts_of : ℕ → ℕ → CallLine → List NamedPart
-parts_of rank place (lines.Send mode request destination tag communicator) = starting rank place request (Send mode (is_none request) (message destination tag communicator)) ∷ []
-parts_of rank place (lines.Receive request source tag communicator) = starting rank place request (Receive (is_none request) (pattern source tag communicator)) ∷ []
-parts_of rank place (lines.MatchedProbe handle source tag communicator) =
-    record { part = record { rank = rank; place = place; action = MatchedProbe (pattern source tag communicator) }; request = None; handle = Some (name_in rank handle) } ∷ []
-parts_of rank place (lines.MatchedReceive request handle) =
-    record { part = record { rank = rank; place = place; action = MatchedReceive (is_none request) }; request = names_in rank request; handle = Some (name_in rank handle) } ∷ []
-parts_of rank place (lines.Wait request) = wait_for rank place request ∷ []
 parts_of rank place (lines.WaitAll requests) = map (wait_for rank place) requests
 parts_of rank place (lines.SendReceive destination send_tag source receive_tag communicator) =
     joined rank place (message destination send_tag communicator) (pattern source receive_tag communicator)
+parts_of rank place line = call_of rank place line ∷ []
 
 -- what a rank's lines from a place on expand to
 abbrev pub parts_of_lines : ℕ → ℕ → List CallLine → List NamedPart

@@ -2,8 +2,8 @@
 
 ghost use Rattle.std.specs.Prelude.{◌≡◌, ◌<◌, ◌∷◌, [], IfOk, OnOk, map};
 ghost use Rattle.std.specs.Option.{option_copied};
-ghost use Rattle.callorder.specs.Expansion.{names_in, message, pattern, parts_of, parts_of_lines, parts_of_text, starting, wait_for, joined};
-ghost use Rattle.callorder.specs.Tables.{Expands, Adds, letters_of, action_of, request_of, handle_of};
+ghost use Rattle.callorder.specs.Expansion.{names_in, message, pattern, action_of, request_of, handle_of, parts_of, parts_of_lines, parts_of_text, starting, wait_for, joined};
+ghost use Rattle.callorder.specs.Tables.{Expands, Adds, letters_of};
 
 use crate::calls::{Message, Pattern};
 use crate::part::{Action, Part};
