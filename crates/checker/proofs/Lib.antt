@@ -1,2 +1,4 @@
+pub mod Headlines
+mod OnRefutations
 pub mod OneVerdicts
 pub mod Reasons

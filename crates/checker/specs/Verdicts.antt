@@ -1,14 +1,22 @@
 -- What a verdict on a program's text and an evidence's text says.
-use Rattle.std.specs.Prelude.{◌≡◌, ◌≢◌, ℕ, Bool, true, false, IsTrue, List}
+use Rattle.std.specs.Prelude.{◌≡◌, ◌≢◌, ◌≤◌, ◌<◌, ℕ, Bool, true, false, IsTrue, List, length}
 use Rattle.calltext.specs.Grammar.{ProgramText, IsText}
 use Rattle.calltext.specs.Fault.{HasFault}
 use Rattle.calltext.specs.declared.fault.ReadFault.TheVariants as reading
 use Rattle.callorder.specs.Programs.{MpiProgram}
 use Rattle.callorder.specs.Resolving.{IsFirstFault, IsTextOf}
 use Rattle.callorder.specs.declared.fault.ResolveFault.TheVariants as resolving
+use Rattle.candidates.specs.Pairs.{pairs_of}
+use Rattle.candidates.specs.declared.fault.PairFault.TheVariants as pairing
+use Rattle.clauses.specs.Clauses.{Conjunction}
+use Rattle.formulas.specs.Families.{events}
+use Rattle.formulas.specs.Numbering.{formula_of}
+use Rattle.encode.specs.declared.fault.EncodeFault.TheVariants as encoding
 use Rattle.semantics.specs.declared.state.Step.{Step}
 use Rattle.semantics.specs.declared.schedule.End.TheVariants as ends
 use Rattle.semantics.specs.Machine.{IsStuckRun, IsFinishedRun, IsLiveRun, StopsAt}
+use Rattle.refutations.specs.Refutations.{Accepts, AreDerived, IsFirstFaulty}
+use Rattle.refutations.specs.Trees.{HasTreeFault}
 use Rattle.prooflog.specs.declared.evidence.Evidence.TheVariants.{Schedule, Refutation}
 use Rattle.prooflog.specs.declared.fault.EvidenceFault.TheVariants as proving
 use Rattle.prooflog.specs.Refutations.{ClaimedRefutation}
@@ -19,6 +27,15 @@ use Rattle.checker.specs.declared.reason.Reason.TheVariants as reasons
 use Rattle.checker.specs.declared.reason.Verdict.{Verdict}
 use Rattle.checker.specs.declared.reason.Verdict.TheVariants as verdicts
 
+-- ---- the headline
+
+-- The program's bytes are the text of a program, and no list of steps is a run of it that ends where a rank is unfinished and no
+-- step is enabled.
+pub record IsNeverStuck (program : List ℕ) : Type 0 where
+  pub p : MpiProgram
+  pub text : IsTextOf program p
+  pub never : (steps : List Step) → IsStuckRun p steps → ⊥
+
 -- The program's bytes are the text of a program, the evidence's bytes are the text of a schedule, and the schedule is
 -- a run of that program that ends where a rank is unfinished and no step is enabled.
 pub record Shows (program evidence : List ℕ) : Type 0 where
@@ -28,6 +45,8 @@ pub record Shows (program evidence : List ℕ) : Type 0 where
   pub schedule : IsEvidenceText evidence (Schedule steps)
   pub stuck : IsStuckRun p steps
 
+-- ---- texts
+
 -- the program's text has a value, the evidence's text is a schedule's, and this holds of the program and the steps
 pub record OfSchedule (program evidence : List ℕ) (Holds : MpiProgram → List Step → Type 0) : Type 0 where
   pub p : MpiProgram
@@ -36,36 +55,114 @@ pub record OfSchedule (program evidence : List ℕ) (Holds : MpiProgram → List
   pub schedule : IsEvidenceText evidence (Schedule steps)
   pub holds : Holds p steps
 
--- the program's text has a value, and the evidence's text is a refutation's
-pub record OfRefutation (program evidence : List ℕ) : Type 0 where
+-- the program's text has a value, the evidence's text is a refutation's, and this holds of the program and the refutation
+pub record OfRefutation (program evidence : List ℕ) (Holds : MpiProgram → ClaimedRefutation → Type 0) : Type 0 where
   pub p : MpiProgram
   pub claim : ClaimedRefutation
   pub text : IsTextOf program p
   pub refutation : IsEvidenceText evidence (Refutation claim)
+  pub holds : Holds p claim
+
+-- the evidence's text is a refutation's
+abbrev pub IsARefutation : List ℕ → List ℕ → Type 0
+IsARefutation program evidence = OfRefutation program evidence (λ p claim. Unit {0})
+
+-- ---- refutations of a program
+
+-- The formula of the program is within the limits: at most 8,192 fitting pairs, 1,024 events and 4,000,000 clauses. An event is the
+-- issue of a call or the match of a taker.
+pub record HasFormula (p : MpiProgram) : Type 0 where
+  pub few_pairs : length (pairs_of p) ≤ 8192
+  pub few_events : length (events p) ≤ 1024
+  pub few_clauses : length (formula_of p).clauses ≤ 4000000
+
+-- the first of the limits that the formula of the program passes is the one of this reason
+abbrev pub HasNoFormula : Reason → MpiProgram → Type 0
+HasNoFormula (reasons.Pairs pairing.TooMany) p = 8192 < length (pairs_of p)
+HasNoFormula (reasons.Encode encoding.TooManyEvents) p = (length (pairs_of p) ≤ 8192) × (1024 < length (events p))
+HasNoFormula (reasons.Encode encoding.TooManyClauses) p =
+    (length (pairs_of p) ≤ 8192) × (length (events p) ≤ 1024) × (4000000 < length (formula_of p).clauses)
+HasNoFormula _ p = ⊥
+
+-- the counts of variables and clauses are those of the program's formula
+pub record HasCounts (p : MpiProgram) (claim : ClaimedRefutation) : Type 0 where
+  pub formula : HasFormula p
+  pub variables : claim.variables ≡ (formula_of p).variables
+  pub clauses : claim.clauses ≡ length (formula_of p).clauses
+
+-- the refutation has the counts of the program's formula, and its lines and its tree are accepted for that formula
+pub record IsRefutedBy (p : MpiProgram) (claim : ClaimedRefutation) : Type 0 where
+  pub counts : HasCounts p claim
+  pub accepted : Accepts (formula_of p) claim.lines claim.nodes
+
+-- the program's text has a value, the evidence's text is a refutation's, and it refutes the program
+abbrev pub Refutes : List ℕ → List ℕ → Type 0
+Refutes program evidence = OfRefutation program evidence IsRefutedBy
+
+-- why a refutation isn't accepted for a formula: its first line that isn't derived, else the first node that isn't accepted
+abbrev pub IsUnaccepted : Reason → Conjunction → ClaimedRefutation → Type 0
+IsUnaccepted (reasons.Line found) f claim = IsFirstFaulty f claim.lines 0 found
+IsUnaccepted (reasons.Tree fault) f claim = AreDerived f claim.lines × HasTreeFault f claim.lines claim.nodes fault
+IsUnaccepted _ f claim = ⊥
+
+-- Why a refutation is refused for a program, in this order: the program's formula is beyond a limit; the counts are not the
+-- formula's; a line isn't derived; a node of the tree isn't accepted.
+abbrev pub IsUnrefuted : Reason → MpiProgram → ClaimedRefutation → Type 0
+IsUnrefuted (reasons.Pairs fault) p claim = HasNoFormula (reasons.Pairs fault) p
+IsUnrefuted (reasons.Encode fault) p claim = HasNoFormula (reasons.Encode fault) p
+IsUnrefuted reasons.Counts p claim = HasFormula p × (HasCounts p claim → ⊥)
+IsUnrefuted (reasons.Line found) p claim = HasCounts p claim × IsUnaccepted (reasons.Line found) (formula_of p) claim
+IsUnrefuted (reasons.Tree fault) p claim = HasCounts p claim × IsUnaccepted (reasons.Tree fault) (formula_of p) claim
+IsUnrefuted _ p claim = ⊥
+
+-- ---- schedules of a program
+
+-- why a schedule shows no deadlock of a program: a step isn't enabled; the run ends finished, or live
+abbrev pub IsUnshown : Reason → MpiProgram → List Step → Type 0
+IsUnshown (reasons.Replay at) p steps = StopsAt p steps at
+IsUnshown (reasons.NotStuck ends.Finished) p steps = IsFinishedRun p steps
+IsUnshown (reasons.NotStuck ends.Live) p steps = IsLiveRun p steps
+IsUnshown _ p steps = ⊥
+
+-- ---- verdicts
 
 -- Each reason is the first that there is, in this order: the program's text has a fault; its call lines have one; the
--- evidence's text has one; the evidence is a refutation, whose counts no program's formula meets yet; a step of the
--- schedule is not enabled; the schedule's run does not end stuck. Want of memory may come at any time.
+-- evidence's text has one; the evidence is a refutation that is refused for the program; a step of the schedule is not
+-- enabled; the schedule's run does not end stuck. Want of memory may come at any time.
 abbrev pub IsReason : List ℕ → List ℕ → Reason → Type 0
 IsReason program evidence reasons.Memory = Unit {0}
 IsReason program evidence (reasons.Read fault) = HasFault program fault × (fault ≢ reading.Memory)
 IsReason program evidence (reasons.Resolve fault) = (text : ProgramText) × IsText program text × IsFirstFault text fault × (fault ≢ resolving.Memory)
 IsReason program evidence (reasons.Evidence fault) = (p : MpiProgram) × IsTextOf program p × HasEvidenceFault evidence fault × (fault ≢ proving.Memory)
-IsReason program evidence reasons.Counts = OfRefutation program evidence
-IsReason program evidence (reasons.Replay at) = OfSchedule program evidence (λ p steps. StopsAt p steps at)
-IsReason program evidence (reasons.NotStuck ends.Finished) = OfSchedule program evidence IsFinishedRun
-IsReason program evidence (reasons.NotStuck ends.Live) = OfSchedule program evidence IsLiveRun
-IsReason program evidence (reasons.NotStuck ends.Stuck) = ⊥
+IsReason program evidence (reasons.Pairs fault) = OfRefutation program evidence (IsUnrefuted (reasons.Pairs fault))
+IsReason program evidence (reasons.Encode fault) = OfRefutation program evidence (IsUnrefuted (reasons.Encode fault))
+IsReason program evidence reasons.Counts = OfRefutation program evidence (IsUnrefuted reasons.Counts)
+IsReason program evidence (reasons.Line found) = OfRefutation program evidence (IsUnrefuted (reasons.Line found))
+IsReason program evidence (reasons.Tree fault) = OfRefutation program evidence (IsUnrefuted (reasons.Tree fault))
+IsReason program evidence (reasons.Replay at) = OfSchedule program evidence (IsUnshown (reasons.Replay at))
+IsReason program evidence (reasons.NotStuck end) = OfSchedule program evidence (IsUnshown (reasons.NotStuck end))
 
 -- what each verdict says of the program's text and the evidence's text
 abbrev pub Judges : List ℕ → List ℕ → Verdict → Type 0
-Judges program evidence verdicts.NoDeadlock = ⊥
+Judges program evidence verdicts.NoDeadlock = Refutes program evidence
 Judges program evidence verdicts.Deadlock = Shows program evidence
 Judges program evidence (verdicts.Refused reason) = IsReason program evidence reason
+
+-- ---- laws
+
+-- A program that is refuted has no run that ends stuck.
+abbrev pub RefutedAreNeverStuck : Type 0
+RefutedAreNeverStuck = (program evidence : List ℕ) → Refutes program evidence → IsNeverStuck program
 
 -- Only one verdict but want of memory is right. So a verdict is decided by the two texts alone.
 abbrev pub OneVerdict : Type 0
 OneVerdict = (program evidence : List ℕ) (a b : Verdict) → Judges program evidence a → Judges program evidence b → a ≢ verdicts.Refused reasons.Memory → b ≢ verdicts.Refused reasons.Memory → a ≡ b
+
+-- No program's text is refuted by one evidence and shown to get stuck by another.
+abbrev pub NeverBoth : Type 0
+NeverBoth = (program evidence other : List ℕ) → Refutes program evidence → Shows program other → ⊥
+
+-- ---- reasons by what they rest on
 
 -- a program's text alone may be refused for this reason
 abbrev pub is_of_program : Reason → Bool
@@ -77,3 +174,12 @@ is_of_program reason = false
 -- The program's text is refused for this reason, whatever the evidence is.
 abbrev pub IsProgramReason : List ℕ → Reason → Type 0
 IsProgramReason program reason = IsTrue (is_of_program reason) × ((evidence : List ℕ) → IsReason program evidence reason)
+
+-- a refutation may be refused for this reason, and no schedule
+abbrev pub is_of_refutation : Reason → Bool
+is_of_refutation (reasons.Pairs fault) = true
+is_of_refutation (reasons.Encode fault) = true
+is_of_refutation reasons.Counts = true
+is_of_refutation (reasons.Line found) = true
+is_of_refutation (reasons.Tree fault) = true
+is_of_refutation reason = false

@@ -1,79 +1,197 @@
 //! The verdict.
 
-ghost use Rattle.std.specs.Prelude.{◌≡◌, ◌≢◌, ◌⊎◌, IfOk, IfErr};
-ghost use Rattle.checker.specs.Parts.{AreShown, IsNoRun};
-ghost use Rattle.checker.specs.Verdicts.{Shows, Judges, IsProgramReason};
-ghost use Rattle.callorder.specs.Resolving.{IsTextOf};
+ghost use Rattle.std.specs.Prelude.{◌≡◌, ◌⊎◌, ◌<◌, ◌≤◌, ℕ, List, IfOk, IfErr};
+ghost use Rattle.pieces.specs.Pieces.{Answers};
+ghost use Rattle.refutations.specs.Refutations.{Accepts};
+ghost use Rattle.checker.specs.Parts.{IsClaim, IsClaimOf, has_counts};
+ghost use Rattle.checker.specs.Verdicts.{IsNeverStuck, Shows, Refutes, Judges, IsUnaccepted, IsUnrefuted};
 
-use crate::reason::{NoRun, Reason, Verdict};
+use crate::formula::formula_of;
+use crate::reason::{Reason, Verdict};
+use crate::texts::{Texts, check_stuck, texts_of};
 use callorder::Program;
-use calltext::read;
-use prooflog::{Evidence, Schedule, read_evidence};
-use semantics::{End, ReplayFault, replay};
+use clauses::Formula;
+use pieces::{LinesFault, PieceGate, check_all, check_pieces};
+use prooflog::{Evidence, Refutation};
+use refutations::check_tree;
 use std::alloc::Global;
+use std::thread::Threads;
 
-/// A program, and a schedule that is a run of it that ends stuck.
-#[derive(Debug, Drop)]
-pub struct StuckRun {
-    /// The program.
-    pub program: Program,
-    /// The steps of the run, from the opening state on.
-    pub schedule: Schedule,
+/// A refutation with the counts of a program's formula, and that formula.
+#[derive(Drop)]
+struct Claim {
+    formula: Formula,
+    refutation: Refutation,
 }
 
-/// The program that the bytes are the text of, or the first reason why there is none: want of memory, a fault of the
-/// text, or a fault of its call lines.
-pub fn program_of(alloc: Global, program: &[u8]) -> Result<Program, Reason>
-    ensures program { IfOk result (λ p. IsTextOf program.now p) }
-    ensures reason { IfErr result (λ reason. IsProgramReason program.now reason) }
+/// Whether the counts of the refutation are those of the formula.
+fn has_counts(refutation: &Refutation, formula: &Formula) -> bool
+    ensures { result ≡ has_counts refutation.now formula.now }
 {
-    let source = read(alloc, program)?;
-    Ok(Program::resolve(alloc, &source)?)
+    refutation.variables() == formula.variables() && refutation.clauses() as usize == formula.len()
 }
 
-/// The program and the schedule that the two texts are of, where the schedule is a run of the program that ends
-/// stuck; else the first reason why not.
-pub fn stuck_run_of(alloc: Global, program: &[u8], evidence: &[u8]) -> Result<StuckRun, NoRun>
-    ensures shown { IfOk result (λ run. AreShown program.now evidence.now run.program run.schedule) }
-    ensures why { IfErr result (λ why. IsNoRun program.now evidence.now why) }
+/// The claim that a refutation makes of a program, or the first reason why it makes none: the program has no formula
+/// within the limits, or the counts are not its formula's.
+fn claim_on(
+    rt: &(impl Threads + Sync),
+    alloc: Global,
+    program: Program,
+    refutation: Refutation,
+) -> Result<Claim, Reason>
+    ensures claim { IfOk result (λ claim. (claim.refutation ≡ refutation) × IsClaim program claim.formula claim.refutation) }
+    ensures reason { IfErr result (λ reason. (reason ≡ Reason.Memory) ⊎ IsUnrefuted reason program refutation) }
 {
-    let program = match program_of(alloc, program) {
-        Ok(program) => program,
-        Err(reason) => return Err(NoRun::Refused(reason)),
+    let encoded = match formula_of(rt, alloc, program) {
+        Ok(encoded) => encoded,
+        Err(reason) => return Err(reason),
     };
-    let schedule = match read_evidence(alloc, evidence)? {
-        Evidence::Schedule(schedule) => schedule,
-        Evidence::Refutation(_refutation) => return Err(NoRun::NotASchedule),
-    };
-    match replay(alloc, &program, schedule.steps()) {
-        Ok(End::Stuck) => Ok(StuckRun { program, schedule }),
-        Ok(End::Finished) => Err(NoRun::Refused(Reason::NotStuck(End::Finished))),
-        Ok(End::Live) => Err(NoRun::Refused(Reason::NotStuck(End::Live))),
-        Err(ReplayFault::NotEnabled { at }) => Err(NoRun::Refused(Reason::Replay { at })),
-        Err(ReplayFault::Memory) => Err(NoRun::Refused(Reason::Memory)),
+    let (_program, _pairs, formula) = encoded.into_parts();
+    if has_counts(&refutation, &formula) {
+        Ok(Claim {
+            formula,
+            refutation,
+        })
+    } else {
+        Err(Reason::Counts)
     }
 }
 
-fn judged(alloc: Global, program: &[u8], evidence: &[u8]) -> Verdict
+/// The claim that the evidence makes of the program, or the verdict where it makes none that has to be checked.
+fn claim_of(
+    rt: &(impl Threads + Sync),
+    alloc: Global,
+    program: &[u8],
+    evidence: &[u8],
+) -> Result<Claim, Verdict>
+    ensures claim { IfOk result (λ claim. IsClaimOf program.now evidence.now claim.formula claim.refutation) }
+    ensures judges { IfErr result (λ verdict. Judges program.now evidence.now verdict) }
+{
+    let Texts { program, evidence } = match texts_of(alloc, program, evidence) {
+        Ok(texts) => texts,
+        Err(reason) => return Err(Verdict::Refused(reason)),
+    };
+    match evidence {
+        Evidence::Schedule(schedule) => match check_stuck(alloc, &program, &schedule) {
+            Ok(()) => Err(Verdict::Deadlock),
+            Err(reason) => Err(Verdict::Refused(reason)),
+        },
+        Evidence::Refutation(refutation) => match claim_on(rt, alloc, program, refutation) {
+            Ok(claim) => Ok(claim),
+            Err(reason) => Err(Verdict::Refused(reason)),
+        },
+    }
+}
+
+/// Whether a claim is accepted whose lines were checked with this answer.
+fn check_claim(alloc: Global, claim: &Claim, lines: Result<(), LinesFault>) -> Result<(), Reason>
+    requires { Answers claim.now.formula claim.now.refutation.lines lines }
+    ensures accepted { IfOk result (λ done. Accepts claim.now.formula claim.now.refutation.lines claim.now.refutation.nodes) }
+    ensures reason { IfErr result (λ reason. (reason ≡ Reason.Memory) ⊎ IsUnaccepted reason claim.now.formula claim.now.refutation) }
+{
+    match lines {
+        Ok(()) => {}
+        Err(LinesFault::Memory) => return Err(Reason::Memory),
+        Err(LinesFault::Line(found)) => return Err(Reason::Line(found)),
+    }
+    let refutation = &claim.refutation;
+    match check_tree(alloc, &claim.formula, refutation.lines(), refutation.tree()) {
+        Ok(()) => Ok(()),
+        Err(fault) => Err(Reason::from(fault)),
+    }
+}
+
+/// The verdict by a claim whose lines were checked with this answer.
+fn judged(alloc: Global, claim: &Claim, lines: Result<(), LinesFault>) -> Verdict
+    requires { Answers claim.now.formula claim.now.refutation.lines lines }
+    ensures { (program evidence : List ℕ) → IsClaimOf program evidence claim.now.formula claim.now.refutation → Judges program evidence result }
+{
+    match check_claim(alloc, claim, lines) {
+        Ok(()) => Verdict::NoDeadlock,
+        Err(reason) => Verdict::Refused(reason),
+    }
+}
+
+fn judged_at_once(
+    rt: &(impl Threads + Sync),
+    alloc: Global,
+    program: &[u8],
+    evidence: &[u8],
+) -> Verdict
     ensures { Judges program.now evidence.now result }
 {
-    match stuck_run_of(alloc, program, evidence) {
-        Ok(_run) => Verdict::Deadlock,
-        Err(NoRun::Refused(reason)) => Verdict::Refused(reason),
-        Err(NoRun::NotASchedule) => Verdict::Refused(Reason::Counts),
+    match claim_of(rt, alloc, program, evidence) {
+        Ok(claim) => {
+            let lines = check_all(alloc, &claim.formula, claim.refutation.lines());
+            judged(alloc, &claim, lines)
+        }
+        Err(verdict) => verdict,
+    }
+}
+
+fn judged_in<R: Threads + Sync, G: PieceGate + Sync>(
+    rt: &R,
+    alloc: Global,
+    program: &[u8],
+    evidence: &[u8],
+    pieces: usize,
+    gate: &G,
+) -> Verdict
+    requires some { 0 < pieces }
+    requires few { pieces ≤ 64 }
+    ensures { Judges program.now evidence.now result }
+{
+    match claim_of(rt, alloc, program, evidence) {
+        Ok(claim) => {
+            let lines = claim.refutation.lines();
+            let lines = check_pieces(rt, alloc, &claim.formula, lines, pieces, gate);
+            judged(alloc, &claim, lines)
+        }
+        Err(verdict) => verdict,
     }
 }
 
 /// The verdict on a program's text by an evidence's text, whoever wrote them.
 ///
-/// `Deadlock` is answered exactly where the program's text is one of a program, the evidence's text is one of a
-/// schedule, and the schedule is a run of that program, by the policy's rules of buffering, that ends where some rank
-/// is unfinished and no step is enabled. Else the first reason is told. Want of memory alone may come at any time.
-pub fn verdict(alloc: Global, program: &[u8], evidence: &[u8]) -> Verdict
+/// `NoDeadlock` is answered only where the program's text is one of a program, no run of which, by the policy's rules of
+/// buffering, ends where some rank is unfinished and no step is enabled; and exactly where the evidence's text is one of a
+/// refutation of that program's formula. `Deadlock` is answered exactly where the evidence's text is one of a schedule,
+/// and the schedule is a run of the program that ends so. Else the first reason is told. Want of memory alone may come
+/// at any time.
+///
+/// The lines of a refutation are checked one after another. Threads are used for the program's formula alone.
+pub fn verdict(
+    rt: &(impl Threads + Sync),
+    alloc: Global,
+    program: &[u8],
+    evidence: &[u8],
+) -> Verdict
+    ensures no_deadlock { result ≡ Verdict.NoDeadlock → IsNeverStuck program.now }
     ensures deadlock { result ≡ Verdict.Deadlock → Shows program.now evidence.now }
+    ensures no_deadlock_only { Refutes program.now evidence.now → (result ≡ Verdict.NoDeadlock) ⊎ (result ≡ Verdict.Refused Reason.Memory) }
     ensures deadlock_only { Shows program.now evidence.now → (result ≡ Verdict.Deadlock) ⊎ (result ≡ Verdict.Refused Reason.Memory) }
-    ensures never_no_deadlock { result ≢ Verdict.NoDeadlock }
     ensures judges { Judges program.now evidence.now result }
 {
-    judged(alloc, program, evidence)
+    judged_at_once(rt, alloc, program, evidence)
+}
+
+/// The same verdict, with the lines of a refutation checked in so many pieces, 1 to 64, each in a thread of its own where
+/// one can be started, else by the calling thread. It waits for all of them.
+pub fn verdict_in<R: Threads + Sync, G: PieceGate + Sync>(
+    rt: &R,
+    alloc: Global,
+    program: &[u8],
+    evidence: &[u8],
+    pieces: usize,
+    gate: &G,
+) -> Verdict
+    requires some { 0 < pieces }
+    requires few { pieces ≤ 64 }
+    ensures no_deadlock { result ≡ Verdict.NoDeadlock → IsNeverStuck program.now }
+    ensures deadlock { result ≡ Verdict.Deadlock → Shows program.now evidence.now }
+    ensures no_deadlock_only { Refutes program.now evidence.now → (result ≡ Verdict.NoDeadlock) ⊎ (result ≡ Verdict.Refused Reason.Memory) }
+    ensures deadlock_only { Shows program.now evidence.now → (result ≡ Verdict.Deadlock) ⊎ (result ≡ Verdict.Refused Reason.Memory) }
+    ensures judges { Judges program.now evidence.now result }
+{
+    judged_in(rt, alloc, program, evidence, pieces, gate)
 }

@@ -1,13 +1,18 @@
-//! The checker: judges a program's text by an evidence's text, whoever wrote them.
+//! The checker: judges a program's text by an evidence's text, whoever wrote them. It makes the program's formula itself.
 //!
-//! The checks of proof lines and trees, which verdicts on refutations will stand on, are passed on here.
+//! The checks of proof lines and trees are passed on here.
 #![tactic(auto)]
 
+mod formula;
 mod judge;
 mod laws;
 mod reason;
+mod texts;
 
-pub use judge::{StuckRun, program_of, stuck_run_of, verdict};
-pub use laws::one_verdict;
+pub use formula::formula_of;
+pub use judge::{verdict, verdict_in};
+pub use laws::{never_both, one_verdict, refuted_are_never_stuck};
+pub use pieces::PieceGate;
 pub use reason::{NoRun, Reason, Verdict};
 pub use refutations::{LineFault, TreeFault, check_line, check_tree};
+pub use texts::{StuckRun, program_of, stuck_run_of};

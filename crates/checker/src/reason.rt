@@ -1,20 +1,22 @@
 //! Verdicts, and why an evidence is refused.
 
 ghost use Rattle.std.specs.Prelude.{◌≡◌};
-ghost use Rattle.checker.specs.Parts.{read_reason, resolve_reason, evidence_reason};
+ghost use Rattle.checker.specs.Parts.{read_reason, resolve_reason, evidence_reason, pair_reason, encode_reason, tree_reason};
 ghost use Rattle.checker.specs.declared.reason.NoRun.TheVariants as runs;
 
 use callorder::ResolveFault;
 use calltext::ReadFault;
+use candidates::PairFault;
+use encode::EncodeFault;
 use prooflog::EvidenceFault;
+use refutations::{FaultyLine, TreeFault};
 use semantics::End;
 use thiserror::Error;
 
 /// What the checker says of a program's text and an evidence's text.
 #[derive(Clone, Copy, Debug, PartialEq, Eq)]
 pub enum Verdict {
-    /// No run of the program ends stuck. This is not answered yet: a refutation is read, but no program has a formula
-    /// yet that it could refute.
+    /// No run of the program ends stuck: the evidence refutes the program's formula.
     NoDeadlock,
     /// The evidence's schedule is a run of the program that ends stuck.
     Deadlock,
@@ -37,10 +39,22 @@ pub enum Reason {
     /// The evidence's text can't be read.
     #[error("{0}")]
     Evidence(EvidenceFault),
+    /// The evidence is a refutation, and the program has more than 8,192 fitting pairs.
+    #[error("{0}")]
+    Pairs(PairFault),
+    /// The evidence is a refutation, and the program has more than 1,024 events, or its formula more than 4,000,000
+    /// clauses.
+    #[error("{0}")]
+    Encode(EncodeFault),
     /// The evidence is a refutation, and its counts of variables and clauses are not those of the program's formula.
-    /// No program has a formula yet, so each refutation is refused so.
     #[error("counts")]
     Counts,
+    /// The first line of the refutation that isn't derived.
+    #[error("{0}")]
+    Line(FaultyLine),
+    /// The first node of the refutation's tree that isn't accepted.
+    #[error("{0}")]
+    Tree(TreeFault),
     /// The first step of the schedule, counted from 1, that isn't enabled.
     #[error("step {at} not enabled")]
     Replay { at: usize },
@@ -52,7 +66,7 @@ pub enum Reason {
 /// Why there is no stuck run.
 #[derive(Clone, Copy, Debug, PartialEq, Eq, Error)]
 pub enum NoRun {
-    /// The evidence is refused, for another reason than `Counts`.
+    /// The program or the evidence is refused, for a reason that no refutation is refused for.
     #[error("{0}")]
     Refused(Reason),
     /// The evidence is a refutation.
@@ -93,18 +107,43 @@ impl From<EvidenceFault> for Reason {
     }
 }
 
+impl From<PairFault> for Reason {
+    ghost from_gives = { λ fault reason. reason ≡ pair_reason fault };
+
+    fn from(fault: PairFault) -> Reason {
+        match fault {
+            PairFault::Memory => Reason::Memory,
+            fault => Reason::Pairs(fault),
+        }
+    }
+}
+
+impl From<EncodeFault> for Reason {
+    ghost from_gives = { λ fault reason. reason ≡ encode_reason fault };
+
+    fn from(fault: EncodeFault) -> Reason {
+        match fault {
+            EncodeFault::Memory => Reason::Memory,
+            fault => Reason::Encode(fault),
+        }
+    }
+}
+
+impl From<TreeFault> for Reason {
+    ghost from_gives = { λ fault reason. reason ≡ tree_reason fault };
+
+    fn from(fault: TreeFault) -> Reason {
+        match fault {
+            TreeFault::Memory => Reason::Memory,
+            fault => Reason::Tree(fault),
+        }
+    }
+}
+
 impl From<Reason> for NoRun {
     ghost from_gives = { λ reason why. why ≡ runs.Refused reason };
 
     fn from(reason: Reason) -> NoRun {
         NoRun::Refused(reason)
-    }
-}
-
-impl From<EvidenceFault> for NoRun {
-    ghost from_gives = { λ fault why. why ≡ runs.Refused (evidence_reason fault) };
-
-    fn from(fault: EvidenceFault) -> NoRun {
-        NoRun::Refused(Reason::from(fault))
     }
 }

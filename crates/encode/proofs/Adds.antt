@@ -76,16 +76,3 @@ agree_from size e f i old mid new first second not_first not_second differ insid
     agree_more size e f i old mid new inside
     (x ∙ (ap (λ z. old ++ ((z ∷ second ∷ differ ∷ []) ∷ [])) c ∙ (ap (λ z. old ++ ((not_so (clock_bit e i) ∷ z ∷ differ ∷ []) ∷ [])) b ∙ ap (λ z. old ++ ((not_so (clock_bit e i) ∷ so (clock_bit f i) ∷ z ∷ []) ∷ [])) g)))
     (y ∙ (ap (λ z. mid ++ ((z ∷ not_second ∷ differ ∷ []) ∷ [])) a ∙ (ap (λ z. mid ++ ((so (clock_bit e i) ∷ z ∷ differ ∷ []) ∷ [])) d ∙ ap (λ z. mid ++ ((so (clock_bit e i) ∷ not_so (clock_bit f i) ∷ z ∷ []) ∷ [])) g)))
-
--- ---- one part after the other
-
-pub adds_both : (old mid new a b : List (List Literal)) (r : Result (Unit {0}) Halt) → mid ≡ old ++ a → Adds mid b r new → Adds old (a ++ b) r new
-adds_both old mid new a b (Ok done) e h = h ∙ (ap (λ l. l ++ b) e ∙ append_assoc old a b)
-adds_both old mid new a b (Err Memory) e h = tt
-adds_both old mid new a b (Err Full) e h =
-    subst (λ (l : List (List Literal)). 4000000 < length l) (ap (λ l. l ++ b) e ∙ append_assoc old a b) h
-
-pub adds_first : (old last new a b : List (List Literal)) (h : Halt) → Adds old a (Err h) last → Adds old (a ++ b) (Err h) new
-adds_first old last new a b Memory adds = tt
-adds_first old last new a b Full adds =
-    omega (arith, adds, length-append old a, length-append old (a ++ b), length-append a b)

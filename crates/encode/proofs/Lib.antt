@@ -5,8 +5,10 @@ pub mod EventSlots
 pub mod FactSlots
 pub mod FamilyBlocks
 pub mod Fetches
+pub mod Limits
 pub mod Literals
 pub mod Marking
+pub mod MeaningPlaces
 pub mod Positions
 pub mod Rows
 pub mod VariableNumbers

@@ -57,7 +57,7 @@ each_none test (x ∷ xs) h = none_parts test x xs (test x) refl h (each_none te
     none_parts test x xs false e h rest = (e, rest h)
 
 -- blocks of one length
-blocks_length : {X Y : Type 0} (f : X → List Y) (w : ℕ) (xs : List X) → Each (λ x. length (f x) ≡ w) xs → length (flat_map f xs) ≡ length xs * w
+pub blocks_length : {X Y : Type 0} (f : X → List Y) (w : ℕ) (xs : List X) → Each (λ x. length (f x) ≡ w) xs → length (flat_map f xs) ≡ length xs * w
 blocks_length f w [] h = let e : 0 * w ≡ 0 = omega arith in sym e
 blocks_length f w (x ∷ xs) h =
     let rest = blocks_length f w xs h.1 in

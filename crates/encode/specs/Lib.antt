@@ -1,7 +1,9 @@
 pub mod Adding
 pub mod Blocks
 pub mod Encodings
+pub mod Literals
 pub mod Marks
+pub mod Meanings
 pub mod Numbers
 pub mod Ordering
 pub mod Places

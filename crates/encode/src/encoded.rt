@@ -5,13 +5,16 @@ ghost use Rattle.candidates.specs.Pairs.{pairs_of};
 ghost use Rattle.nonovertake.specs.Earlier.{earlier_of};
 ghost use Rattle.formulas.specs.Families.{events as events_of};
 ghost use Rattle.formulas.specs.Numbering.{formula_of};
+ghost use Rattle.encode.specs.Meanings.{meaning_of};
 ghost use Rattle.encode.specs.declared.fault.EncodeFault.TheVariants.{TooManyEvents, TooManyClauses};
 
 use crate::fault::EncodeFault;
-use crate::making::make;
+use crate::making::{Made, make};
+use crate::meanings::Meanings;
 use callorder::Program;
 use candidates::Pairs;
 use clauses::Formula;
+use formulas::Meaning;
 use nonovertake::Earlier;
 use std::alloc::Global;
 use std::marker::Model;
@@ -22,16 +25,19 @@ pub struct Encoded {
     program: Program,
     pairs: Pairs,
     formula: Formula,
+    meanings: Meanings,
 }
 
 impl Model for Encoded {
+    ghost use Rattle.std.specs.Prelude.{◌≡◌};
+    ghost use Rattle.formulas.specs.Numbering.{meanings as meanings_of};
     ghost use Rattle.encode.specs.Encodings.{EncodedProgram, IsEncoded};
 
     ghost Value = { EncodedProgram };
 
     ghost view = { λ e. record { program = e.program; pairs = e.pairs; formula = e.formula } };
 
-    ghost invariant = { λ e. IsEncoded (record { program = e.program; pairs = e.pairs; formula = e.formula }) };
+    ghost invariant = { λ e. IsEncoded (record { program = e.program; pairs = e.pairs; formula = e.formula }) × (e.meanings ≡ meanings_of e.program) };
 }
 
 /// A refusal, with what was handed in.
@@ -68,6 +74,17 @@ impl Encoded {
         &self.formula
     }
 
+    /// What the variable of this number stands for, in constant time. Variables are numbered from 1: there is none for 0 and
+    /// for a number above that of the formula's variables.
+    pub fn meaning(&self, variable: u32) -> Option<Meaning>
+        ensures { result ≡ meaning_of self.now.program variable }
+    {
+        if variable == 0 {
+            return None;
+        }
+        self.meanings.at(variable as usize - 1)
+    }
+
     /// The program, its pairs and its formula.
     pub fn into_parts(self) -> (Program, Pairs, Formula)
         ensures program { result.0 ≡ self.program }
@@ -97,10 +114,11 @@ pub fn encode(
     ensures too_many_clauses { IfErr result (λ refused. refused.fault ≡ TooManyClauses → (length (events_of program) ≤ 1024) × (4000000 < length (formula_of program).clauses)) }
 {
     match make(alloc, &program, &pairs, earlier) {
-        Ok(formula) => Ok(Encoded {
+        Ok(Made { formula, meanings }) => Ok(Encoded {
             program,
             pairs,
             formula,
+            meanings,
         }),
         Err(fault) => Err(NotEncoded {
             fault,

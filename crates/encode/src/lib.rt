@@ -12,6 +12,7 @@ mod fault;
 mod lists;
 mod making;
 mod matches;
+mod meanings;
 mod ordering;
 mod places;
 mod returns;

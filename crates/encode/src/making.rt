@@ -6,15 +6,16 @@ ghost use Rattle.candidates.specs.Pairs.{pairs_of, places};
 ghost use Rattle.nonovertake.specs.Earlier.{earlier_of};
 ghost use Rattle.formulas.specs.Families.{events as events_of, is_standard, last_calls, rank_of, standard_sends};
 ghost use Rattle.formulas.specs.declared.facts.Fact.TheVariants.{Issued as issued, Buffered as buffered, Matched as matched, Unfinished as unfinished};
-ghost use Rattle.formulas.specs.Numbering.{facts as facts_of, formula_of};
+ghost use Rattle.formulas.specs.Numbering.{facts as facts_of, formula_of, meanings as meanings_of};
 ghost use Rattle.formulas.specs.Orders.{bits_for, clock_size, used_pairs};
 ghost use Rattle.encode.specs.Blocks.{blocks_of, order_families, end_families, policy_families};
 ghost use Rattle.encode.specs.declared.fault.EncodeFault.TheVariants.{TooManyEvents, TooManyClauses};
 
-use crate::draft::{Halt, MOST_CLAUSES};
+use crate::draft::Halt;
 use crate::events::{Events, count};
 use crate::families::{Block, Family, blocks_of};
 use crate::fault::EncodeFault;
+use crate::meanings::Meanings;
 use crate::source::Source;
 use crate::used::used_pairs;
 use crate::variables::Variables;
@@ -28,6 +29,13 @@ use std::alloc::{AllocError, Global};
 
 /// How many events a program may have.
 pub const MOST_EVENTS: usize = 1024;
+
+/// A formula, and what its variables stand for.
+#[derive(Drop)]
+pub struct Made {
+    pub formula: Formula,
+    pub meanings: Meanings,
+}
 
 fn issued(alloc: Global, program: &Program) -> Result<Vec<Fact>, AllocError>
     ensures { IfOk result (λ facts. facts.items ≡ map issued (places program.now)) }
@@ -150,59 +158,31 @@ fn formula_of_clauses(
     source: &Source<'_>,
     variables: &Variables<'_>,
     clauses: Vec<Clause>,
-) -> Result<Formula, EncodeFault>
+) -> Formula
     requires one { variables.now ≡ source.now }
     requires clauses { clauses.items ≡ (formula_of source.now).clauses }
-    ensures made { IfOk result (λ f. f ≡ formula_of source.now) }
-    ensures few { IfOk result (λ f. length f.clauses ≤ 4000000) }
-    ensures full { result ≡ Err TooManyClauses → 4000000 < length (formula_of source.now).clauses }
-    ensures events { result ≡ Err TooManyEvents → ⊥ }
+    ensures { result ≡ formula_of source.now }
 {
     let _calls = source.program().calls();
-    if clauses.len() > MOST_CLAUSES {
-        return Err(EncodeFault::TooManyClauses);
-    }
     let count = variables.count();
     match Formula::make(count as u32, clauses) {
-        Ok(formula) => Ok(formula),
+        Ok(formula) => formula,
         Err(_clauses) => unreachable!(),
     }
 }
 
-/// The variables of a program with these used pairs of events.
-fn variables_of<'a>(
-    alloc: Global,
-    events: Events<'a>,
-    pairs: &Pairs,
-    used: &[(usize, usize)],
-    size: usize,
-) -> Result<Variables<'a>, AllocError>
-    requires pairs { pairs.now ≡ pairs_of events }
-    requires used { used.now ≡ used_pairs events }
-    requires few { length (events_of events) ≤ 1024 }
-    requires size { size ≡ clock_size events }
-    ensures { IfOk result (λ variables. variables ≡ events.entry) }
-{
-    let program = events.program();
-    let calls = program.calls().len();
-    let facts = facts_of(alloc, program, pairs)?;
-    if calls > 1024 || facts.len() > 1_051_712 || used.len() > 1_048_576 || size > 10 {
-        return Err(AllocError);
-    }
-    Variables::make(alloc, events, facts.as_slice(), used, size)
-}
-
-fn formula_of_source(
+fn make_of_source(
     alloc: Global,
     source: &Source<'_>,
     events: Events<'_>,
     pairs: &Pairs,
-) -> Result<Formula, EncodeFault>
+) -> Result<Made, EncodeFault>
     requires one { events ≡ source.now }
     requires pairs { pairs.now ≡ pairs_of source.now }
     requires few { length (events_of events) ≤ 1024 }
-    ensures made { IfOk result (λ f. f ≡ formula_of source.now) }
-    ensures few { IfOk result (λ f. length f.clauses ≤ 4000000) }
+    ensures formula { IfOk result (λ made. made.formula ≡ formula_of source.now) }
+    ensures meanings { IfOk result (λ made. made.meanings ≡ meanings_of source.now) }
+    ensures few { IfOk result (λ made. length made.formula.clauses ≤ 4000000) }
     ensures full { result ≡ Err TooManyClauses → 4000000 < length (formula_of source.now).clauses }
     ensures events { result ≡ Err TooManyEvents → ⊥ }
 {
@@ -210,8 +190,9 @@ fn formula_of_source(
     let end = end_blocks(alloc, source)?;
     let policy = policy_blocks(alloc, source)?;
     let used = used_of(alloc, source, &events, order.as_slice())?;
+    let facts = facts_of(alloc, source.program(), pairs)?;
     let size = bits_for(events.len());
-    let variables = variables_of(alloc, events, pairs, used.as_slice(), size)?;
+    let variables = Variables::make(alloc, events, facts.as_slice(), used.as_slice(), size)?;
     let order = order.as_slice();
     let end = end.as_slice();
     let policy = policy.as_slice();
@@ -225,24 +206,30 @@ fn formula_of_source(
         size,
         used.as_slice(),
     ) {
-        Ok(clauses) => formula_of_clauses(source, &variables, clauses),
+        Ok(clauses) => {
+            let formula = formula_of_clauses(source, &variables, clauses);
+            let meanings = Meanings::make(facts, variables.event_count(), size, used);
+            Ok(Made { formula, meanings })
+        }
         Err(Halt::Full) => Err(EncodeFault::TooManyClauses),
         Err(Halt::Memory) => Err(EncodeFault::Memory),
     }
 }
 
-/// The formula of the program. A program with too many events is refused before any memory is asked for.
+/// The formula of the program, with what its variables stand for. A program with too many events is refused before any
+/// memory is asked for.
 pub fn make(
     alloc: Global,
     program: &Program,
     pairs: &Pairs,
     earlier: &Earlier,
-) -> Result<Formula, EncodeFault>
+) -> Result<Made, EncodeFault>
     requires pairs { pairs.now ≡ pairs_of program.now }
     requires earlier { earlier.now ≡ map (earlier_of program.now) (pairs_of program.now) }
-    ensures made { IfOk result (λ f. f ≡ formula_of program.now) }
-    ensures few { IfOk result (λ f. length f.clauses ≤ 4000000) }
-    ensures few_events { IfOk result (λ f. length (events_of program.now) ≤ 1024) }
+    ensures formula { IfOk result (λ made. made.formula ≡ formula_of program.now) }
+    ensures meanings { IfOk result (λ made. made.meanings ≡ meanings_of program.now) }
+    ensures few { IfOk result (λ made. length made.formula.clauses ≤ 4000000) }
+    ensures few_events { IfOk result (λ _. length (events_of program.now) ≤ 1024) }
     ensures full { result ≡ Err TooManyClauses → (length (events_of program.now) ≤ 1024) × (4000000 < length (formula_of program.now).clauses) }
     ensures events { result ≡ Err TooManyEvents ↔ 1024 < length (events_of program.now) }
 {
@@ -251,5 +238,5 @@ pub fn make(
     }
     let source = Source::make(alloc, program, pairs, earlier)?;
     let events = Events::make(alloc, program)?;
-    formula_of_source(alloc, &source, events, pairs)
+    make_of_source(alloc, &source, events, pairs)
 }

@@ -164,10 +164,8 @@ fn write_clause(
 ) -> Result<(), Halt>
     ensures { Adds draft.old (numbered_signed variables.now clause.now) result draft.new }
 {
-    match number(literals, variables, clause) {
-        Ok(()) => draft.add(alloc, literals.as_slice()),
-        Err(AllocError) => Err(Halt::Memory),
-    }
+    number(literals, variables, clause)?;
+    draft.add(alloc, literals.as_slice())
 }
 
 fn write_clauses(
@@ -180,10 +178,7 @@ fn write_clauses(
     ensures { Adds draft.old (flat_map (numbered_signed variables.now) (map (λ v. v.items) clauses.now)) result draft.new }
 {
     for clause in clauses {
-        match write_clause(draft, literals, alloc, variables, clause.as_slice()) {
-            Ok(()) => {}
-            Err(halt) => return Err(halt),
-        }
+        write_clause(draft, literals, alloc, variables, clause.as_slice())?;
     }
     Ok(())
 }
@@ -198,10 +193,8 @@ fn write_pair(
 ) -> Result<(), Halt>
     ensures { Adds draft.old (numbered_pair variables.now size pair) result draft.new }
 {
-    match pair_clauses(alloc, size, pair) {
-        Ok(clauses) => write_clauses(draft, literals, alloc, variables, clauses.as_slice()),
-        Err(AllocError) => Err(Halt::Memory),
-    }
+    let clauses = pair_clauses(alloc, size, pair)?;
+    write_clauses(draft, literals, alloc, variables, clauses.as_slice())
 }
 
 /// Adds the clauses on the order of these pairs of events, whose clocks have so many bits. Refused with [`Halt::Full`] only
@@ -217,10 +210,7 @@ pub fn write_order(
 {
     let mut literals = Vec::new(alloc);
     for pair in pairs {
-        match write_pair(draft, &mut literals, alloc, variables, size, *pair) {
-            Ok(()) => {}
-            Err(halt) => return Err(halt),
-        }
+        write_pair(draft, &mut literals, alloc, variables, size, *pair)?;
     }
     Ok(())
 }

@@ -128,7 +128,8 @@ impl<'a> Variables<'a> {
         self.facts.len()
     }
 
-    fn event_count(&self) -> usize
+    /// How many events there are.
+    pub fn event_count(&self) -> usize
         ensures same { result ≡ length (events_of self.now) }
         ensures few { result ≤ 1024 }
     {

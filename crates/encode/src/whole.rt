@@ -1,6 +1,6 @@
 //! The clauses of a whole formula.
 
-ghost use Rattle.std.specs.Prelude.{◌≡◌, ◌<◌, ◌++◌, length, IfOk, Err};
+ghost use Rattle.std.specs.Prelude.{◌≡◌, ◌<◌, ◌≤◌, ◌++◌, length, IfOk, Err};
 ghost use Rattle.std.specs.List.{flat_map};
 ghost use Rattle.formulas.specs.Orders.{clock_size, used_pairs};
 ghost use Rattle.formulas.specs.Numbering.{formula_of};
@@ -18,43 +18,8 @@ use crate::writing::write_blocks;
 use clauses::Clause;
 use std::alloc::Global;
 
-fn write_two(
-    draft: &mut Draft,
-    alloc: Global,
-    variables: &Variables<'_>,
-    source: &Source<'_>,
-    order: &[Block],
-    end: &[Block],
-) -> Result<(), Halt>
-    ensures { Adds draft.old (flat_map (numbered_block variables.now source.now) order.now ++ flat_map (numbered_block variables.now source.now) end.now) result draft.new }
-{
-    match write_blocks(draft, alloc, variables, source, order) {
-        Ok(()) => {}
-        Err(halt) => return Err(halt),
-    }
-    write_blocks(draft, alloc, variables, source, end)
-}
-
-fn write_three(
-    draft: &mut Draft,
-    alloc: Global,
-    variables: &Variables<'_>,
-    source: &Source<'_>,
-    order: &[Block],
-    end: &[Block],
-    size: usize,
-    used: &[(usize, usize)],
-) -> Result<(), Halt>
-    ensures { Adds draft.old (flat_map (numbered_block variables.now source.now) order.now ++ flat_map (numbered_block variables.now source.now) end.now ++ flat_map (numbered_pair variables.now size) used.now) result draft.new }
-{
-    match write_two(draft, alloc, variables, source, order, end) {
-        Ok(()) => {}
-        Err(halt) => return Err(halt),
-    }
-    write_order(draft, alloc, variables, size, used)
-}
-
-fn write_four(
+/// Adds the clauses of the blocks, with those on the order of events before those of the policy.
+fn write_all(
     draft: &mut Draft,
     alloc: Global,
     variables: &Variables<'_>,
@@ -67,10 +32,9 @@ fn write_four(
 ) -> Result<(), Halt>
     ensures { Adds draft.old (flat_map (numbered_block variables.now source.now) order.now ++ flat_map (numbered_block variables.now source.now) end.now ++ flat_map (numbered_pair variables.now size) used.now ++ flat_map (numbered_block variables.now source.now) policy.now) result draft.new }
 {
-    match write_three(draft, alloc, variables, source, order, end, size, used) {
-        Ok(()) => {}
-        Err(halt) => return Err(halt),
-    }
+    write_blocks(draft, alloc, variables, source, order)?;
+    write_blocks(draft, alloc, variables, source, end)?;
+    write_order(draft, alloc, variables, size, used)?;
     write_blocks(draft, alloc, variables, source, policy)
 }
 
@@ -92,10 +56,11 @@ pub fn clauses(
     requires size { size ≡ clock_size source.now }
     requires used { used.now ≡ used_pairs source.now }
     ensures made { IfOk result (λ clauses. clauses.items ≡ (formula_of source.now).clauses) }
+    ensures few { IfOk result (λ clauses. length clauses.items ≤ 4000000) }
     ensures full { result ≡ Err Full → 4000000 < length (formula_of source.now).clauses }
 {
     let mut draft = Draft::new(alloc);
-    match write_four(
+    match write_all(
         &mut draft, alloc, variables, source, order, end, policy, size, used,
     ) {
         Ok(()) => Ok(draft.into_clauses()),

@@ -48,10 +48,8 @@ fn write_clause(
 ) -> Result<(), Halt>
     ensures { Adds draft.old (normal_form variables.now clause.now) result draft.new }
 {
-    match number(literals, variables, clause) {
-        Ok(()) => draft.add(alloc, literals.as_slice()),
-        Err(AllocError) => Err(Halt::Memory),
-    }
+    number(literals, variables, clause)?;
+    draft.add(alloc, literals.as_slice())
 }
 
 fn write_clauses(
@@ -64,10 +62,7 @@ fn write_clauses(
     ensures { Adds draft.old (numbered variables.now clauses.now) result draft.new }
 {
     for clause in clauses.clauses() {
-        match write_clause(draft, literals, alloc, variables, clause.as_slice()) {
-            Ok(()) => {}
-            Err(halt) => return Err(halt),
-        }
+        write_clause(draft, literals, alloc, variables, clause.as_slice())?;
     }
     Ok(())
 }
@@ -82,10 +77,8 @@ fn write_block(
 ) -> Result<(), Halt>
     ensures { Adds draft.old (numbered variables.now (clauses_of source.now block.now)) result draft.new }
 {
-    match clauses_of(alloc, source, block) {
-        Ok(clauses) => write_clauses(draft, literals, alloc, variables, &clauses),
-        Err(AllocError) => Err(Halt::Memory),
-    }
+    let clauses = clauses_of(alloc, source, block)?;
+    write_clauses(draft, literals, alloc, variables, &clauses)
 }
 
 /// Adds the clauses of the blocks, in their normal forms. Refused with [`Halt::Full`] only where there are more than
@@ -101,10 +94,7 @@ pub fn write_blocks(
 {
     let mut literals = Vec::new(alloc);
     for block in blocks {
-        match write_block(draft, &mut literals, alloc, variables, source, block) {
-            Ok(()) => {}
-            Err(halt) => return Err(halt),
-        }
+        write_block(draft, &mut literals, alloc, variables, source, block)?;
     }
     Ok(())
 }

@@ -13,3 +13,4 @@ pub mod Nodes
 pub mod Headings
 pub mod TreeDepths
 pub mod Writings
+mod FormulaTexts

@@ -4,3 +4,4 @@ pub mod Grammar
 pub mod Fault
 pub mod Reading
 pub mod Depths
+pub mod FormulaText

@@ -1,14 +1,15 @@
-//! The text of an evidence: read, written, and what is wrong with a text that is none.
+//! The text of an evidence: read, written, and what is wrong with a text that is none. The text of a formula: written.
 //!
 //! An evidence is a schedule, the steps of a run, or a refutation, proof lines and a tree over a
 //! formula. Its text is the line `evidence 1`, a line for the kind of evidence, and then a line for
 //! each step, or for each proof line and node. Ranks count from 0, the numbers of calls, variables
 //! and clauses in a text from 1. `specs/Grammar.antt` defines the text, `specs/Fault.antt` what is
-//! wrong with bytes that are none.
+//! wrong with bytes that are none, `specs/FormulaText.antt` the text of a formula.
 #![tactic(auto)]
 
 mod evidence;
 mod fault;
+mod formula_text;
 mod laws;
 mod node;
 mod proof_line;
@@ -22,6 +23,7 @@ mod writer;
 
 pub use evidence::Evidence;
 pub use fault::EvidenceFault;
+pub use formula_text::write_formula;
 pub use laws::{depths_are_of_the_tree, one_fault, one_value, text_has_no_fault};
 pub use reader::read_evidence;
 pub use refutation::{MOST_DEPTH, MOST_LINES, MOST_NODES, MakeRefutationFault, Refutation};

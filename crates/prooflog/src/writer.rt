@@ -51,7 +51,8 @@ fn put_literal(out: &mut Vec<u8>, literal: &Lit) -> Result<(), AllocError>
     put_number(out, literal.variable())
 }
 
-fn put_literals(out: &mut Vec<u8>, literals: &[Lit]) -> Result<(), AllocError>
+/// Writes the literals at the end, with a space before each.
+pub(crate) fn put_literals(out: &mut Vec<u8>, literals: &[Lit]) -> Result<(), AllocError>
     ensures { OnOk result (out.new.items ≡ out.old.items ++ spaced (map literal_word literals.now)) }
 {
     for literal in literals {

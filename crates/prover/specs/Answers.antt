@@ -1,12 +1,15 @@
 -- What the prover's answers say of a program's text.
-use Rattle.std.specs.Prelude.{◌≡◌, ◌≢◌, ◌⊎◌, ℕ, List}
+use Rattle.std.specs.Prelude.{◌≡◌, ◌≢◌, ◌⊎◌, ℕ, false, List}
 use Rattle.callorder.specs.Programs.{MpiProgram}
 use Rattle.callorder.specs.Resolving.{IsTextOf}
 use Rattle.pool.specs.declared.why.Why.TheVariants as whys
 use Rattle.semantics.specs.declared.state.Step.{Step}
 use Rattle.semantics.specs.Machine.{IsFinishedRun}
+use Rattle.formulas.specs.Numbering.{formula_of}
+use Rattle.prooflog.specs.FormulaText.{formula_text}
+use Rattle.checker.specs.declared.reason.Reason.{Reason}
 use Rattle.checker.specs.declared.reason.Reason.TheVariants as reasons
-use Rattle.checker.specs.Verdicts.{Shows, OfRefutation, IsReason, IsProgramReason}
+use Rattle.checker.specs.Verdicts.{Shows, HasFormula, HasNoFormula, IsARefutation, IsReason, IsProgramReason, is_of_refutation}
 use Rattle.prover.specs.declared.answer.Answer.{Answer}
 use Rattle.prover.specs.declared.answer.Answer.TheVariants as answers
 use Rattle.prover.specs.Telling.{told_run}
@@ -27,5 +30,16 @@ Answers program (answers.Refused reason) = IsProgramReason program reason × (re
 -- evidence is no schedule, or the first reason why it shows none.
 abbrev pub Replays : List ℕ → List ℕ → Replayed → Type 0
 Replays program evidence (replays.Stuck text) = (shown : Shows program evidence) × (text.items ≡ told_run shown.p shown.steps)
-Replays program evidence (replays.Refused reason) = IsReason program evidence reason × (reason ≢ reasons.Counts)
-Replays program evidence replays.NotASchedule = OfRefutation program evidence
+Replays program evidence (replays.Refused reason) = IsReason program evidence reason × (is_of_refutation reason ≡ false)
+Replays program evidence replays.NotASchedule = IsARefutation program evidence
+
+-- the text has a program, whose formula is within the limits, and this is that formula's text
+pub record HasFormulaText (program text : List ℕ) : Type 0 where
+  pub p : MpiProgram
+  pub is_text : IsTextOf program p
+  pub within : HasFormula p
+  pub text_is : text ≡ formula_text (formula_of p)
+
+-- why a program's text has no formula's text: it is refused, or its program has no formula within the limits
+abbrev pub HasNoFormulaText : List ℕ → Reason → Type 0
+HasNoFormulaText program reason = IsProgramReason program reason ⊎ ((p : MpiProgram) × IsTextOf program p × HasNoFormula reason p)

@@ -8,3 +8,7 @@ AreInRange workers depth budget = (1 ≤ workers) × (workers ≤ 64) × (depth 
 -- the numbers of a search for which none are given
 abbrev pub AreUsual : ℕ → ℕ → ℕ → Type 0
 AreUsual workers depth budget = (workers ≡ 4) × (depth ≡ 4) × (budget ≡ 1000000)
+
+-- the number of pieces in which lines are checked
+abbrev pub IsPieces : ℕ → Type 0
+IsPieces pieces = (1 ≤ pieces) × (pieces ≤ 64)

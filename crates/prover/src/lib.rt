@@ -3,14 +3,16 @@
 
 mod answer;
 mod explore;
+mod formula;
 mod manner;
 mod options;
 mod steps;
 mod walk;
 
 pub use answer::{Answer, Gate};
-pub use checker::{Reason, Verdict, verdict};
+pub use checker::{PieceGate, Reason, Verdict, verdict, verdict_in};
 pub use explore::prove;
-pub use options::Options;
+pub use formula::formula_text;
+pub use options::{Options, Pieces};
 pub use pool::Why;
 pub use steps::{Replayed, replay};

@@ -1,6 +1,6 @@
 //! How much work the prover may do.
 ghost use Rattle.std.specs.Prelude.{◌≡◌, ◌≤◌, ◌↔◌, IfSome, IsSome};
-ghost use Rattle.prover.specs.Ranges.{AreInRange, AreUsual};
+ghost use Rattle.prover.specs.Ranges.{AreInRange, AreUsual, IsPieces};
 
 /// The number of workers, 1 to 64, the depth of the first tree, 0 to 15, and the conflicts that
 /// each worker may meet, 0 to 1,000,000,000.
@@ -64,5 +64,33 @@ impl Default for Options {
             depth: 4,
             budget: 1_000_000,
         }
+    }
+}
+
+/// In how many pieces the lines of a refutation are checked, 1 to 64.
+#[derive(Clone, Copy, Debug, PartialEq, Eq)]
+pub struct Pieces {
+    number: u32,
+    ghost in_range: { IsPieces number },
+}
+
+impl Pieces {
+    /// So many pieces, where the number is in its range.
+    pub fn make(number: u32) -> Option<Pieces>
+        ensures given { IfSome result (λ pieces. pieces.number ≡ number) }
+        ensures when { IsSome result ↔ IsPieces number }
+    {
+        if number < 1 || number > 64 {
+            return None;
+        }
+        Some(Pieces { number })
+    }
+
+    /// How many there are.
+    pub fn number(&self) -> u32
+        ensures same { result ≡ self.now.number }
+        ensures in_range { IsPieces result }
+    {
+        self.number
     }
 }

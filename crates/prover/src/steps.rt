@@ -18,7 +18,7 @@ use std::alloc::{AllocError, Global};
 pub enum Replayed {
     /// The schedule is a run of the program that ends stuck. This is the text that tells its steps.
     Stuck(Vec<u8>),
-    /// There is no such schedule, for this reason, which is never `Counts`.
+    /// There is no such schedule, for this reason, which is none that only refutations have.
     Refused(Reason),
     /// The evidence is a refutation.
     NotASchedule,

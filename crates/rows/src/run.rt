@@ -3,6 +3,7 @@ use disk::{Disk, DiskFiles, Stream, Trouble};
 use session::session;
 use std::alloc::{AllocError, Global};
 use std::cell::{Cell, RefCell};
+use std::thread::Threads;
 
 /// What a run left.
 #[derive(Debug, Drop)]
@@ -45,7 +46,12 @@ impl<'a> Scene<'a> {
 const ROOM: usize = 4096;
 
 /// Runs the words, parted by spaces, after the program's own name.
-pub fn run(alloc: Global, words: &str, scene: Scene<'_>) -> Result<Ended, AllocError> {
+pub fn run(
+    rt: &(impl Threads + Sync),
+    alloc: Global,
+    words: &str,
+    scene: Scene<'_>,
+) -> Result<Ended, AllocError> {
     let words = word_list(alloc, words)?;
     let disk = Disk {
         program: scene.program,
@@ -62,6 +68,7 @@ pub fn run(alloc: Global, words: &str, scene: Scene<'_>) -> Result<Ended, AllocE
     };
     let mut err = Vec::with_capacity(alloc, ROOM)?;
     let status = session(
+        rt,
         alloc,
         &words,
         &mut DiskFiles { disk: &disk },

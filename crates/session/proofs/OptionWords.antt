@@ -1,35 +1,15 @@
 -- Words in other orders, with every option.
-use Rattle.std.proofs.Common.{◌≡◌, ◌∙◌, sym, ap, refl, subst, Bool, true, false, List, [], ◌∷◌, Some, codes}
+use Rattle.std.proofs.Common.{◌≡◌, ◌∙◌, ap, refl, subst, true, false, List, [], ◌∷◌, Some, codes}
 use Rattle.std.specs.Prelude.{fold, unwrap_or, Option}
 use Rattle.clap.specs.Lexer.{without_minus}
-use Rattle.clap.specs.Words.{Row, Text, first_of, one_of}
+use Rattle.clap.specs.Words.{Text}
 use Rattle.clap.specs.Walk.{Walk, finished, walked}
 use Rattle.clap.proofs.OnLiterals.{clap_on_literals}
 use Rattle.session.specs.declared.request.Request.{Request}
-use Rattle.session.specs.declared.request.Request.TheVariants as ask
-use Rattle.session.specs.CommandLine.{HasNumbers, IsCheckOf, IsProveOf, Makes, NamesRequest, OptionWordsAreRead, begins_with_hyphen}
-use Rattle.session.proofs.PlainWords.{after_free, check_rules, not_check, not_replay, number_is, prove_rules, some_same, start, unstripped, walked_free}
-use Rattle.session.proofs.Requests.{check_replay, prove_check}
-use Rattle.session.proofs.SecondWords.{at}
-
-abbrev flag_text : Bool → Text
-flag_text true = codes "true"
-flag_text false = codes "false"
+use Rattle.session.specs.CommandLine.{HasNumbers, HasPieces, IsCheckOf, IsProveOf, Makes, OptionWordsAreRead, begins_with_hyphen}
+use Rattle.session.proofs.PlainWords.{after_free, check_by, check_rules, check_walk, made_check, made_prove, pieces_by, prove_by, prove_rules, start, two_words, unstripped, walked_free}
 
 -- ---- check
-
-made_check : (name : Text) (words : List Text) (request : Request) → NamesRequest (name ∷ codes "check" ∷ words) request
-    → Makes (codes "check") (finished check_rules (fold (walked check_rules []) start words).held) request
-unfolding clap_on_literals
-made_check name words request asks = at name (codes "check") words request refl asks
-
-check_by : (rows : List Row) (program evidence : Text) (request : Request) → first_of (codes "PROGRAM") rows ≡ Some program
-    → first_of (codes "EVIDENCE") rows ≡ Some evidence → one_of (codes "json") rows ≡ Some (codes "true") → Makes (codes "check") rows request
-    → IsCheckOf program evidence true request
-check_by rows program evidence (ask.Check p e json) is_p is_e is_json makes =
-    (some_same (sym is_p ∙ makes.values.0), some_same (sym is_e ∙ makes.values.1), makes.values.2.set is_json)
-check_by rows program evidence (ask.Prove p out options json) is_p is_e is_json makes = absurd (prove_check (sym makes.command))
-check_by rows program evidence (ask.Replay p e) is_p is_e is_json makes = absurd (check_replay makes.command)
 
 -- `--json` before both files
 abbrev json_first : Text → Text → Walk
@@ -44,7 +24,7 @@ json_first_walk p e fp fe =
 
 json_first_read : (p e : Text) (request : Request) → Makes (codes "check") (finished check_rules (json_first p e).held) request → IsCheckOf p e true request
 unfolding clap_on_literals
-json_first_read p e request makes = check_by (finished check_rules (json_first p e).held) p e request refl refl refl makes
+json_first_read p e request makes = check_by (finished check_rules (json_first p e).held) p e true request refl refl refl makes
 
 -- `--json` between them
 abbrev json_between : Text → Text → Walk
@@ -59,33 +39,32 @@ json_between_walk p e fp fe =
 
 json_between_read : (p e : Text) (request : Request) → Makes (codes "check") (finished check_rules (json_between p e).held) request → IsCheckOf p e true request
 unfolding clap_on_literals
-json_between_read p e request makes = check_by (finished check_rules (json_between p e).held) p e request refl refl refl makes
-
--- ---- prove
-
-made_prove : (name : Text) (words : List Text) (request : Request) → NamesRequest (name ∷ codes "prove" ∷ words) request
-    → Makes (codes "prove") (finished prove_rules (fold (walked prove_rules []) start words).held) request
-unfolding clap_on_literals
-made_prove name words request asks = at name (codes "prove") words request refl asks
+json_between_read p e request makes = check_by (finished check_rules (json_between p e).held) p e true request refl refl refl makes
 
 -- a free text has no minus
 no_minus : (text : Text) → begins_with_hyphen text ≡ false → Some (without_minus text) ≡ Some text
 no_minus text free = ap (λ (o : Option Text). Some (unwrap_or o text)) (unstripped text free)
 
-prove_by : (rows : List Row) (program file workers depth budget : Text) (request : Request) → first_of (codes "PROGRAM") rows ≡ Some program
-    → first_of (codes "out") rows ≡ Some file → one_of (codes "json") rows ≡ Some (codes "true") → one_of (codes "workers") rows ≡ Some workers
-    → one_of (codes "depth") rows ≡ Some depth → one_of (codes "budget") rows ≡ Some budget → Makes (codes "prove") rows request
-    → IsProveOf program (Some file) true request × HasNumbers workers depth budget request
-prove_by rows program file workers depth budget (ask.Prove p out options json) is_p is_out is_json w d b makes = (
-  (some_same (sym is_p ∙ makes.values.0), sym makes.values.1 ∙ is_out, makes.values.2.set is_json),
-  (
-    number_is rows (codes "workers") workers options.workers makes.values.3.workers w,
-    number_is rows (codes "depth") depth options.depth makes.values.3.depth d,
-    number_is rows (codes "budget") budget options.budget makes.values.3.budget b,
-  ),
+-- `--pieces` and its value after both files
+abbrev pieces_last : Text → Text → Text → Walk
+pieces_last p e pieces = after_free check_rules (walked check_rules [] (two_words check_rules p e) (codes "--pieces")) pieces
+
+pieces_walk : (p e pieces : Text) → begins_with_hyphen p ≡ false → begins_with_hyphen e ≡ false → begins_with_hyphen pieces ≡ false
+    → fold (walked check_rules []) start (p ∷ e ∷ codes "--pieces" ∷ pieces ∷ []) ≡ pieces_last p e pieces
+unfolding clap_on_literals
+pieces_walk p e pieces fp fe fn =
+    ap (λ (w : Walk). walked check_rules [] (walked check_rules [] w (codes "--pieces")) pieces) (check_walk p e fp fe)
+    ∙ walked_free check_rules (walked check_rules [] (two_words check_rules p e) (codes "--pieces")) pieces refl refl fn
+
+pieces_read : (p e pieces : Text) (request : Request) → begins_with_hyphen pieces ≡ false
+    → Makes (codes "check") (finished check_rules (pieces_last p e pieces).held) request → IsCheckOf p e false request × HasPieces pieces request
+unfolding clap_on_literals
+pieces_read p e pieces request fn makes = (
+  check_by (finished check_rules (pieces_last p e pieces).held) p e false request refl refl refl makes,
+  pieces_by (finished check_rules (pieces_last p e pieces).held) pieces request (no_minus pieces fn) makes,
 )
-prove_by rows program file workers depth budget (ask.Check p e json) is_p is_out is_json w d b makes = absurd (not_check makes.command)
-prove_by rows program file workers depth budget (ask.Replay p e) is_p is_out is_json w d b makes = absurd (not_replay makes.command)
+
+-- ---- prove
 
 -- an option and its value
 abbrev valued : Walk → Text → Text → Walk
@@ -157,7 +136,7 @@ first_read : (p file workers depth budget : Text) (request : Request) → begins
     → IsProveOf p (Some file) true request × HasNumbers workers depth budget request
 unfolding clap_on_literals
 first_read p file workers depth budget request fw fd fb makes =
-    prove_by (finished prove_rules (options_first p file workers depth budget).held) p file workers depth budget request refl refl refl
+    prove_by (finished prove_rules (options_first p file workers depth budget).held) p (Some file) true workers depth budget request refl refl refl
     (no_minus workers fw) (no_minus depth fd) (no_minus budget fb) makes
 
 last_read : (p file workers depth budget : Text) (request : Request) → begins_with_hyphen workers ≡ false → begins_with_hyphen depth ≡ false
@@ -165,7 +144,7 @@ last_read : (p file workers depth budget : Text) (request : Request) → begins_
     → IsProveOf p (Some file) true request × HasNumbers workers depth budget request
 unfolding clap_on_literals
 last_read p file workers depth budget request fw fd fb makes =
-    prove_by (finished prove_rules (options_last p file workers depth budget).held) p file workers depth budget request refl refl refl
+    prove_by (finished prove_rules (options_last p file workers depth budget).held) p (Some file) true workers depth budget request refl refl refl
     (no_minus workers fw) (no_minus depth fd) (no_minus budget fb) makes
 
 pub option_words_are_read : OptionWordsAreRead
@@ -176,6 +155,9 @@ option_words_are_read = record {
   check_json_between = λ name p e request fp fe asks.
       json_between_read p e request (subst (λ (w : Walk). Makes (codes "check") (finished check_rules w.held) request) (json_between_walk p e fp fe)
       (made_check name (p ∷ codes "--json" ∷ e ∷ []) request asks.named));
+  check_pieces = λ name p e pieces request fp fe fn asks.
+      pieces_read p e pieces request fn (subst (λ (w : Walk). Makes (codes "check") (finished check_rules w.held) request) (pieces_walk p e pieces fp fe fn)
+      (made_check name (p ∷ e ∷ codes "--pieces" ∷ pieces ∷ []) request asks.named));
   prove_options_first = λ name p file workers depth budget request fp ff fw fd fb asks.
       first_read p file workers depth budget request fw fd fb
       (subst (λ (w : Walk). Makes (codes "prove") (finished prove_rules w.held) request) (first_walk p file workers depth budget fp ff fw fd fb)

@@ -1,19 +1,18 @@
 -- Words in their usual order.
-use Rattle.std.proofs.Common.{◌≡◌, ◌∙◌, sym, ap, refl, subst, ℕ, Bool, true, false, List, [], ◌∷◌, Option, Some, None, codes, arith, get_or}
+use Rattle.std.proofs.Common.{◌≡◌, ◌∙◌, sym, ap, refl, subst, ℕ, Bool, true, false, List, [], ◌∷◌, Option, Some, None, codes}
 use Rattle.std.specs.Prelude.{find, fold, if◌then◌else◌, option_and_then}
 use Rattle.std.specs.Str.{bytes_eq}
 use Rattle.std.proofs.lemmas.Slice.Eq.{bytes_eq-Decides}
 use Rattle.std.specs.Str.Parse.{digits_value, without_leading_plus}
-use Rattle.clap.specs.Words.{Row, Rule, Shape, Text, built, one_of}
-use Rattle.prover.specs.Ranges.{AreUsual}
-use Rattle.prover.specs.declared.options.Options.{Options}
+use Rattle.clap.specs.Words.{Row, Rule, Shape, Text, built, first_of, one_of}
 use Rattle.clap.specs.Lexer.{long_of, long_of_rest, short_of, short_of_rest, strip_byte}
 use Rattle.clap.specs.Walk.{Held, Step, Walk, after_step, answers_to, finished, idle, long_or_other, nothing_held, short_or_plain, trailing, walk_from, walked, walked_from, word_met, Waiting, option, positional, plain_word, subcommand_met, subcommand_or_other}
 use Rattle.clap.specs.Simple.{label_of}
 use Rattle.clap.proofs.OnLiterals.{clap_on_literals}
 use Rattle.session.specs.declared.request.Request.{Request}
 use Rattle.session.specs.declared.request.Request.TheVariants as ask
-use Rattle.session.specs.CommandLine.{NamesRequest, IsCheckOf, IsReplayOf, IsUsualProveOf, Makes, PlainWordsAreRead, Reads, ReadsOptions, begins_with_hyphen, command_line}
+use Rattle.session.specs.CommandLine.{Flags, HasNumbers, HasPieces, HasUsualOptions, IsCheckOf, IsEncodeOf, IsProveOf, IsReplayOf, IsUsualProveOf, Makes, NamesRequest, PlainWordsAreRead, Reads, begins_with_hyphen, command_line}
+use Rattle.session.proofs.Requests.{check_replay, encode_check, encode_prove, encode_replay, prove_check, prove_replay}
 use Rattle.session.proofs.SecondWords.{at}
 
 pub no_dashes : (word : Text) → begins_with_hyphen word ≡ false → bytes_eq word (45 ∷ 45 ∷ []) ≡ false
@@ -75,6 +74,9 @@ check_rules = rules_in (find (λ s. answers_to (codes "check") (label_of s)) (bu
 abbrev pub replay_rules : List Rule
 replay_rules = rules_in (find (λ s. answers_to (codes "replay") (label_of s)) (built command_line).subs)
 
+abbrev pub encode_rules : List Rule
+encode_rules = rules_in (find (λ s. answers_to (codes "encode") (label_of s)) (built command_line).subs)
+
 abbrev pub prove_rules : List Rule
 prove_rules = rules_in (find (λ s. answers_to (codes "prove") (label_of s)) (built command_line).subs)
 
@@ -111,131 +113,167 @@ out_walk program file p f =
     ap (λ (w : Walk). walked prove_rules [] (walked prove_rules [] w (codes "--out")) file) (prove_walk program p)
     ∙ walked_free prove_rules (walked prove_rules [] (prove_word program) (codes "--out")) file refl refl f
 
-pub some_same : {X : Type 0} {a b : X} → Some a ≡ Some b → b ≡ a
+some_same : {X : Type 0} {a b : X} → Some a ≡ Some b → b ≡ a
 some_same e = cc
+
+-- ---- requests whose values are known
+
+abbrev pub flag_text : Bool → Text
+flag_text true = codes "true"
+flag_text false = codes "false"
+
+flag_is : (rows : List Row) (id : Text) (spelled value : Bool) → Flags rows id value → one_of id rows ≡ Some (flag_text spelled) → value ≡ spelled
+flag_is rows id true value flags is = flags.set is
+flag_is rows id false value flags is = flags.unset is
+
+-- a number whose text is known
+number_is : (rows : List Row) (id text : Text) (n : ℕ) → Reads rows id n → one_of id rows ≡ Some text → n ≡ digits_value 10 (without_leading_plus text)
+number_is rows id text n reads spelled =
+    reads.3 ∙ ap (λ (t : Text). digits_value 10 (without_leading_plus t)) (some_same (sym spelled ∙ reads.1))
+
+pub check_by : (rows : List Row) (program evidence : Text) (as_json : Bool) (request : Request) → first_of (codes "PROGRAM") rows ≡ Some program
+    → first_of (codes "EVIDENCE") rows ≡ Some evidence → one_of (codes "json") rows ≡ Some (flag_text as_json) → Makes (codes "check") rows request
+    → IsCheckOf program evidence as_json request
+check_by rows program evidence as_json (ask.Check p e pieces json) is_p is_e is_json makes =
+    (some_same (sym is_p ∙ makes.values.0), some_same (sym is_e ∙ makes.values.1), flag_is rows (codes "json") as_json json makes.values.2 is_json)
+check_by rows program evidence as_json (ask.Prove p out options json) is_p is_e is_json makes = absurd (prove_check (sym makes.command))
+check_by rows program evidence as_json (ask.Replay p e) is_p is_e is_json makes = absurd (check_replay makes.command)
+check_by rows program evidence as_json (ask.Encode p) is_p is_e is_json makes = absurd (encode_check (sym makes.command))
+
+-- the number of pieces that is read
+pub pieces_by : (rows : List Row) (number : Text) (request : Request) → one_of (codes "pieces") rows ≡ Some number → Makes (codes "check") rows request
+    → HasPieces number request
+pieces_by rows number (ask.Check p e pieces json) is makes = number_is rows (codes "pieces") number pieces.number makes.values.3 is
+pieces_by rows number (ask.Prove p out options json) is makes = absurd (prove_check (sym makes.command))
+pieces_by rows number (ask.Replay p e) is makes = absurd (check_replay makes.command)
+pieces_by rows number (ask.Encode p) is makes = absurd (encode_check (sym makes.command))
+
+pub prove_by : (rows : List Row) (program : Text) (out : Option Text) (as_json : Bool) (workers depth budget : Text) (request : Request)
+    → first_of (codes "PROGRAM") rows ≡ Some program → first_of (codes "out") rows ≡ out → one_of (codes "json") rows ≡ Some (flag_text as_json)
+    → one_of (codes "workers") rows ≡ Some workers → one_of (codes "depth") rows ≡ Some depth → one_of (codes "budget") rows ≡ Some budget
+    → Makes (codes "prove") rows request → IsProveOf program out as_json request × HasNumbers workers depth budget request
+prove_by rows program out as_json workers depth budget (ask.Prove p o options json) is_p is_out is_json w d b makes = (
+  (some_same (sym is_p ∙ makes.values.0), sym makes.values.1 ∙ is_out, flag_is rows (codes "json") as_json json makes.values.2 is_json),
+  (
+    number_is rows (codes "workers") workers options.workers makes.values.3.workers w,
+    number_is rows (codes "depth") depth options.depth makes.values.3.depth d,
+    number_is rows (codes "budget") budget options.budget makes.values.3.budget b,
+  ),
+)
+prove_by rows program out as_json workers depth budget (ask.Check p e pieces json) is_p is_out is_json w d b makes = absurd (prove_check makes.command)
+prove_by rows program out as_json workers depth budget (ask.Replay p e) is_p is_out is_json w d b makes = absurd (prove_replay makes.command)
+prove_by rows program out as_json workers depth budget (ask.Encode p) is_p is_out is_json w d b makes = absurd (encode_prove (sym makes.command))
+
+usual : (request : Request) → HasNumbers (codes "4") (codes "4") (codes "1000000") request → HasUsualOptions request
+usual (ask.Prove p out options json) numbers = numbers
+usual (ask.Check p e pieces json) numbers = numbers
+usual (ask.Replay p e) numbers = numbers
+usual (ask.Encode p) numbers = numbers
+
+usual_by : (rows : List Row) (program : Text) (out : Option Text) (as_json : Bool) (request : Request) → first_of (codes "PROGRAM") rows ≡ Some program
+    → first_of (codes "out") rows ≡ out → one_of (codes "json") rows ≡ Some (flag_text as_json) → one_of (codes "workers") rows ≡ Some (codes "4")
+    → one_of (codes "depth") rows ≡ Some (codes "4") → one_of (codes "budget") rows ≡ Some (codes "1000000") → Makes (codes "prove") rows request
+    → IsUsualProveOf program out as_json request
+usual_by rows program out as_json request is_p is_out is_json w d b makes =
+    let read = prove_by rows program out as_json (codes "4") (codes "4") (codes "1000000") request is_p is_out is_json w d b makes in
+    (read.0, usual request read.1)
+
+-- ---- the words in their usual order
 
 of_check : (program evidence : Text) (request : Request) → Makes (codes "check") (finished check_rules (two_words check_rules program evidence).held) request
     → IsCheckOf program evidence false request
 unfolding clap_on_literals
-of_check program evidence (ask.Check p e json) makes = (some_same makes.values.0, some_same makes.values.1, makes.values.2.unset refl)
-of_check program evidence (ask.Prove p out options json) makes = absurd (not_prove makes.command)
-  where
-    not_prove : codes "check" ≡ codes "prove" → ⊥
-    not_prove e = omega (arith, ap (λ (l : List ℕ). get_or l 0 0) e)
-of_check program evidence (ask.Replay p e) makes = absurd (not_replay makes.command)
-  where
-    not_replay : codes "check" ≡ codes "replay" → ⊥
-    not_replay e = omega (arith, ap (λ (l : List ℕ). get_or l 0 0) e)
+of_check program evidence request makes =
+    check_by (finished check_rules (two_words check_rules program evidence).held) program evidence false request refl refl refl makes
 
 of_check_json : (program evidence : Text) (request : Request)
     → Makes (codes "check") (finished check_rules (walked check_rules [] (two_words check_rules program evidence) (codes "--json")).held) request
     → IsCheckOf program evidence true request
 unfolding clap_on_literals
-of_check_json program evidence (ask.Check p e json) makes = (some_same makes.values.0, some_same makes.values.1, makes.values.2.set refl)
-of_check_json program evidence (ask.Prove p out options json) makes = absurd (not_prove makes.command)
-  where
-    not_prove : codes "check" ≡ codes "prove" → ⊥
-    not_prove e = omega (arith, ap (λ (l : List ℕ). get_or l 0 0) e)
-of_check_json program evidence (ask.Replay p e) makes = absurd (not_replay makes.command)
-  where
-    not_replay : codes "check" ≡ codes "replay" → ⊥
-    not_replay e = omega (arith, ap (λ (l : List ℕ). get_or l 0 0) e)
+of_check_json program evidence request makes =
+    check_by (finished check_rules (walked check_rules [] (two_words check_rules program evidence) (codes "--json")).held) program evidence true request
+    refl refl refl makes
 
 of_replay : (program evidence : Text) (request : Request) → Makes (codes "replay") (finished replay_rules (two_words replay_rules program evidence).held) request
     → IsReplayOf program evidence request
 unfolding clap_on_literals
 of_replay program evidence (ask.Replay p e) makes = (some_same makes.values.0, some_same makes.values.1)
-of_replay program evidence (ask.Prove p out options json) makes = absurd (not_prove makes.command)
-  where
-    not_prove : codes "replay" ≡ codes "prove" → ⊥
-    not_prove e = omega (arith, ap (λ (l : List ℕ). get_or l 0 0) e)
-of_replay program evidence (ask.Check p e json) makes = absurd (not_check makes.command)
-  where
-    not_check : codes "replay" ≡ codes "check" → ⊥
-    not_check e = omega (arith, ap (λ (l : List ℕ). get_or l 0 0) e)
+of_replay program evidence (ask.Prove p out options json) makes = absurd (prove_replay (sym makes.command))
+of_replay program evidence (ask.Check p e pieces json) makes = absurd (check_replay (sym makes.command))
+of_replay program evidence (ask.Encode p) makes = absurd (encode_replay (sym makes.command))
 
-pub not_check : codes "prove" ≡ codes "check" → ⊥
-not_check e = omega (arith, ap (λ (l : List ℕ). get_or l 0 0) e)
-
-pub not_replay : codes "prove" ≡ codes "replay" → ⊥
-not_replay e = omega (arith, ap (λ (l : List ℕ). get_or l 0 0) e)
-
--- a number whose text is known
-pub number_is : (rows : List Row) (id text : Text) (n : ℕ) → Reads rows id n → one_of id rows ≡ Some text → n ≡ digits_value 10 (without_leading_plus text)
-number_is rows id text n reads spelled =
-    reads.3 ∙ ap (λ (t : Text). digits_value 10 (without_leading_plus t)) (some_same (sym spelled ∙ reads.1))
-
-usual : (rows : List Row) (options : Options) → ReadsOptions rows options → one_of (codes "workers") rows ≡ Some (codes "4")
-    → one_of (codes "depth") rows ≡ Some (codes "4") → one_of (codes "budget") rows ≡ Some (codes "1000000")
-    → AreUsual options.workers options.depth options.budget
-usual rows options reads w d b = (
-  number_is rows (codes "workers") (codes "4") options.workers reads.workers w,
-  number_is rows (codes "depth") (codes "4") options.depth reads.depth d,
-  number_is rows (codes "budget") (codes "1000000") options.budget reads.budget b,
-)
+of_encode : (program : Text) (request : Request) → Makes (codes "encode") (finished encode_rules (after_free encode_rules start program).held) request
+    → IsEncodeOf program request
+unfolding clap_on_literals
+of_encode program (ask.Encode p) makes = some_same makes.values
+of_encode program (ask.Prove p out options json) makes = absurd (encode_prove makes.command)
+of_encode program (ask.Check p e pieces json) makes = absurd (encode_check makes.command)
+of_encode program (ask.Replay p e) makes = absurd (encode_replay makes.command)
 
 of_prove : (program : Text) (request : Request) → Makes (codes "prove") (finished prove_rules (prove_word program).held) request
     → IsUsualProveOf program None false request
 unfolding clap_on_literals
-of_prove program (ask.Prove p out options json) makes =
-    ((some_same makes.values.0, sym makes.values.1, makes.values.2.unset refl), usual (finished prove_rules (prove_word program).held) options makes.values.3 refl refl refl)
-of_prove program (ask.Check p e json) makes = absurd (not_check makes.command)
-of_prove program (ask.Replay p e) makes = absurd (not_replay makes.command)
+of_prove program request makes =
+    usual_by (finished prove_rules (prove_word program).held) program None false request refl refl refl refl refl refl makes
 
 of_prove_json : (program : Text) (request : Request)
     → Makes (codes "prove") (finished prove_rules (walked prove_rules [] (prove_word program) (codes "--json")).held) request
     → IsUsualProveOf program None true request
 unfolding clap_on_literals
-of_prove_json program (ask.Prove p out options json) makes = (
-  (some_same makes.values.0, sym makes.values.1, makes.values.2.set refl),
-  usual (finished prove_rules (walked prove_rules [] (prove_word program) (codes "--json")).held) options makes.values.3 refl refl refl,
-)
-of_prove_json program (ask.Check p e json) makes = absurd (not_check makes.command)
-of_prove_json program (ask.Replay p e) makes = absurd (not_replay makes.command)
+of_prove_json program request makes =
+    usual_by (finished prove_rules (walked prove_rules [] (prove_word program) (codes "--json")).held) program None true request
+    refl refl refl refl refl refl makes
 
 of_prove_out : (program file : Text) (request : Request) → Makes (codes "prove") (finished prove_rules (prove_out program file).held) request
     → IsUsualProveOf program (Some file) false request
 unfolding clap_on_literals
-of_prove_out program file (ask.Prove p out options json) makes =
-    ((some_same makes.values.0, sym makes.values.1, makes.values.2.unset refl), usual (finished prove_rules (prove_out program file).held) options makes.values.3 refl refl refl)
-of_prove_out program file (ask.Check p e json) makes = absurd (not_check makes.command)
-of_prove_out program file (ask.Replay p e) makes = absurd (not_replay makes.command)
+of_prove_out program file request makes =
+    usual_by (finished prove_rules (prove_out program file).held) program (Some file) false request refl refl refl refl refl refl makes
 
-made_check : (name program evidence : Text) (rest : List Text) (request : Request) → NamesRequest (name ∷ codes "check" ∷ program ∷ evidence ∷ rest) request
-    → Makes (codes "check") (finished check_rules (fold (walked check_rules []) start (program ∷ evidence ∷ rest)).held) request
+pub made_check : (name : Text) (words : List Text) (request : Request) → NamesRequest (name ∷ codes "check" ∷ words) request
+    → Makes (codes "check") (finished check_rules (fold (walked check_rules []) start words).held) request
 unfolding clap_on_literals
-made_check name program evidence rest request asks = at name (codes "check") (program ∷ evidence ∷ rest) request refl asks
+made_check name words request asks = at name (codes "check") words request refl asks
 
-made_replay : (name program evidence : Text) (request : Request) → NamesRequest (name ∷ codes "replay" ∷ program ∷ evidence ∷ []) request
-    → Makes (codes "replay") (finished replay_rules (fold (walked replay_rules []) start (program ∷ evidence ∷ [])).held) request
+made_replay : (name : Text) (words : List Text) (request : Request) → NamesRequest (name ∷ codes "replay" ∷ words) request
+    → Makes (codes "replay") (finished replay_rules (fold (walked replay_rules []) start words).held) request
 unfolding clap_on_literals
-made_replay name program evidence request asks = at name (codes "replay") (program ∷ evidence ∷ []) request refl asks
+made_replay name words request asks = at name (codes "replay") words request refl asks
 
-made_prove : (name program : Text) (rest : List Text) (request : Request) → NamesRequest (name ∷ codes "prove" ∷ program ∷ rest) request
-    → Makes (codes "prove") (finished prove_rules (fold (walked prove_rules []) start (program ∷ rest)).held) request
+made_encode : (name : Text) (words : List Text) (request : Request) → NamesRequest (name ∷ codes "encode" ∷ words) request
+    → Makes (codes "encode") (finished encode_rules (fold (walked encode_rules []) start words).held) request
 unfolding clap_on_literals
-made_prove name program rest request asks = at name (codes "prove") (program ∷ rest) request refl asks
+made_encode name words request asks = at name (codes "encode") words request refl asks
+
+pub made_prove : (name : Text) (words : List Text) (request : Request) → NamesRequest (name ∷ codes "prove" ∷ words) request
+    → Makes (codes "prove") (finished prove_rules (fold (walked prove_rules []) start words).held) request
+unfolding clap_on_literals
+made_prove name words request asks = at name (codes "prove") words request refl asks
 
 pub plain_words_are_read : PlainWordsAreRead
 plain_words_are_read = record {
   check = λ name program evidence request p e asks.
       of_check program evidence request (subst (λ (w : Walk). Makes (codes "check") (finished check_rules w.held) request) (check_walk program evidence p e)
-      (made_check name program evidence [] request asks.named));
+      (made_check name (program ∷ evidence ∷ []) request asks.named));
   check_as_json = λ name program evidence request p e asks.
       of_check_json program evidence request
       (subst (λ (w : Walk). Makes (codes "check") (finished check_rules (walked check_rules [] w (codes "--json")).held) request) (check_walk program evidence p e)
-      (made_check name program evidence (codes "--json" ∷ []) request asks.named));
+      (made_check name (program ∷ evidence ∷ codes "--json" ∷ []) request asks.named));
   replay = λ name program evidence request p e asks.
       of_replay program evidence request (subst (λ (w : Walk). Makes (codes "replay") (finished replay_rules w.held) request) (replay_walk program evidence p e)
-      (made_replay name program evidence request asks.named));
+      (made_replay name (program ∷ evidence ∷ []) request asks.named));
+  encode = λ name program request p asks.
+      of_encode program request
+      (subst (λ (w : Walk). Makes (codes "encode") (finished encode_rules w.held) request) (walked_free encode_rules start program refl refl p)
+      (made_encode name (program ∷ []) request asks.named));
   prove = λ name program request p asks.
       of_prove program request (subst (λ (w : Walk). Makes (codes "prove") (finished prove_rules w.held) request) (prove_walk program p)
-      (made_prove name program [] request asks.named));
+      (made_prove name (program ∷ []) request asks.named));
   prove_as_json = λ name program request p asks.
       of_prove_json program request
       (subst (λ (w : Walk). Makes (codes "prove") (finished prove_rules (walked prove_rules [] w (codes "--json")).held) request) (prove_walk program p)
-      (made_prove name program (codes "--json" ∷ []) request asks.named));
+      (made_prove name (program ∷ codes "--json" ∷ []) request asks.named));
   prove_out = λ name program file request p f asks.
       of_prove_out program file request (subst (λ (w : Walk). Makes (codes "prove") (finished prove_rules w.held) request) (out_walk program file p f)
-      (made_prove name program (codes "--out" ∷ file ∷ []) request asks.named));
+      (made_prove name (program ∷ codes "--out" ∷ file ∷ []) request asks.named));
 }

@@ -4,8 +4,8 @@ use Rattle.std.proofs.lemmas.Option.{same_Some}
 use Rattle.clap.specs.Words.{IsAmong, Kinds, Row, Text, fault_of, subcommand_of}
 use Rattle.session.specs.CommandLine.{IsCheckOf, IsProveOf, IsReplayOf, MakesSome, command_line}
 use Rattle.session.specs.Deadlocks.{AskToCheck, AskToProve, AskToReplay}
-use Rattle.session.specs.Endings.{Ends, EndsUnasked, RequestEnds, SessionEnds}
-use Rattle.session.specs.Pages.{IsChecked, IsProved, IsReplayed}
+use Rattle.session.specs.Endings.{Ends, EndsUnasked, FailsEarly, RequestEnds, SessionEnds}
+use Rattle.session.specs.Pages.{IsChecked, IsEither, IsProveFile, IsProved, IsReplayed}
 use Rattle.session.specs.declared.page.Want.TheVariants as want
 use Rattle.session.specs.declared.request.Request.{Request}
 use Rattle.session.specs.declared.request.Request.TheVariants as ask
@@ -15,11 +15,20 @@ use Rattle.session.specs.declared.request.Request.TheVariants as ask
 pub prove_check : codes "prove" ≡ codes "check" → ⊥
 prove_check e = omega (arith, ap (λ (l : List ℕ). get_or l 0 0) e)
 
-prove_replay : codes "prove" ≡ codes "replay" → ⊥
+pub prove_replay : codes "prove" ≡ codes "replay" → ⊥
 prove_replay e = omega (arith, ap (λ (l : List ℕ). get_or l 0 0) e)
 
 pub check_replay : codes "check" ≡ codes "replay" → ⊥
 check_replay e = omega (arith, ap (λ (l : List ℕ). get_or l 0 0) e)
+
+pub encode_check : codes "encode" ≡ codes "check" → ⊥
+encode_check e = omega (arith, ap (λ (l : List ℕ). get_or l 0 0) e)
+
+pub encode_prove : codes "encode" ≡ codes "prove" → ⊥
+encode_prove e = omega (arith, ap (λ (l : List ℕ). get_or l 0 0) e)
+
+pub encode_replay : codes "encode" ≡ codes "replay" → ⊥
+encode_replay e = omega (arith, ap (λ (l : List ℕ). get_or l 0 0) e)
 
 -- ---- two requests that the same words name are alike
 
@@ -31,27 +40,33 @@ check_again : (found : Option (Text × List Row)) (a b : Request) (p e : Text) (
 check_again None a b p e json one two is = absurd one
 check_again (Some f) (ask.Prove p1 o1 s1 j1) b p e json one two is = absurd is
 check_again (Some f) (ask.Replay p1 e1) b p e json one two is = absurd is
-check_again (Some f) (ask.Check p1 e1 j1) (ask.Prove p2 o2 s2 j2) p e json one two is = absurd (prove_check (sym two.command ∙ one.command))
-check_again (Some f) (ask.Check p1 e1 j1) (ask.Replay p2 e2) p e json one two is = absurd (check_replay (sym one.command ∙ two.command))
-check_again (Some f) (ask.Check p1 e1 j1) (ask.Check p2 e2 j2) p e json one two is =
+check_again (Some f) (ask.Encode p1) b p e json one two is = absurd is
+check_again (Some f) (ask.Check p1 e1 n1 j1) (ask.Encode p2) p e json one two is = absurd (encode_check (sym two.command ∙ one.command))
+check_again (Some f) (ask.Check p1 e1 n1 j1) (ask.Prove p2 o2 s2 j2) p e json one two is = absurd (prove_check (sym two.command ∙ one.command))
+check_again (Some f) (ask.Check p1 e1 n1 j1) (ask.Replay p2 e2) p e json one two is = absurd (check_replay (sym one.command ∙ two.command))
+check_again (Some f) (ask.Check p1 e1 n1 j1) (ask.Check p2 e2 n2 j2) p e json one two is =
     (j2, (same_value one.values.0 two.values.0 is.0, same_value one.values.1 two.values.1 is.1, refl))
 
 replay_again : (found : Option (Text × List Row)) (a b : Request) (p e : Text) → MakesSome found a → MakesSome found b
     → IsReplayOf p e a → IsReplayOf p e b
 replay_again None a b p e one two is = absurd one
 replay_again (Some f) (ask.Prove p1 o1 s1 j1) b p e one two is = absurd is
-replay_again (Some f) (ask.Check p1 e1 j1) b p e one two is = absurd is
+replay_again (Some f) (ask.Check p1 e1 n1 j1) b p e one two is = absurd is
+replay_again (Some f) (ask.Encode p1) b p e one two is = absurd is
+replay_again (Some f) (ask.Replay p1 e1) (ask.Encode p2) p e one two is = absurd (encode_replay (sym two.command ∙ one.command))
 replay_again (Some f) (ask.Replay p1 e1) (ask.Prove p2 o2 s2 j2) p e one two is = absurd (prove_replay (sym two.command ∙ one.command))
-replay_again (Some f) (ask.Replay p1 e1) (ask.Check p2 e2 j2) p e one two is = absurd (check_replay (sym two.command ∙ one.command))
+replay_again (Some f) (ask.Replay p1 e1) (ask.Check p2 e2 n2 j2) p e one two is = absurd (check_replay (sym two.command ∙ one.command))
 replay_again (Some f) (ask.Replay p1 e1) (ask.Replay p2 e2) p e one two is =
     (same_value one.values.0 two.values.0 is.0, same_value one.values.1 two.values.1 is.1)
 
 prove_again : (found : Option (Text × List Row)) (a b : Request) (p : Text) (out : Option Text) (json : Bool) → MakesSome found a → MakesSome found b
     → IsProveOf p out json a → (as_json : Bool) × IsProveOf p out as_json b
 prove_again None a b p out json one two is = absurd one
-prove_again (Some f) (ask.Check p1 e1 j1) b p out json one two is = absurd is
+prove_again (Some f) (ask.Check p1 e1 n1 j1) b p out json one two is = absurd is
 prove_again (Some f) (ask.Replay p1 e1) b p out json one two is = absurd is
-prove_again (Some f) (ask.Prove p1 o1 s1 j1) (ask.Check p2 e2 j2) p out json one two is = absurd (prove_check (sym one.command ∙ two.command))
+prove_again (Some f) (ask.Encode p1) b p out json one two is = absurd is
+prove_again (Some f) (ask.Prove p1 o1 s1 j1) (ask.Encode p2) p out json one two is = absurd (encode_prove (sym two.command ∙ one.command))
+prove_again (Some f) (ask.Prove p1 o1 s1 j1) (ask.Check p2 e2 n2 j2) p out json one two is = absurd (prove_check (sym one.command ∙ two.command))
 prove_again (Some f) (ask.Prove p1 o1 s1 j1) (ask.Replay p2 e2) p out json one two is = absurd (prove_replay (sym one.command ∙ two.command))
 prove_again (Some f) (ask.Prove p1 o1 s1 j1) (ask.Prove p2 o2 s2 j2) p out json one two is =
     (j2, (same_value one.values.0 two.values.0 is.0, sym two.values.1 ∙ one.values.1 ∙ is.1, refl))
@@ -59,60 +74,68 @@ prove_again (Some f) (ask.Prove p1 o1 s1 j1) (ask.Prove p2 o2 s2 j2) p out json 
 -- ---- how such runs end: as the command ends, or by want of memory before it is known
 
 module _ (words : List Text) (tells : Bool) (before after : List ℕ → Option (List ℕ)) (old new told_old told_new : Option (List ℕ)) (status : ℕ) where
-  -- the run fails before the command is known
-  abbrev pub Fails : Type 0
-  Fails = (status ≡ 4) × (new ≡ old)
-
-  pub faulted : fault_of command_line words ≡ [] → EndsUnasked words before after old new told_old told_new status → Fails
+  pub faulted : fault_of command_line words ≡ [] → EndsUnasked words before after old new told_old told_new status
+      → FailsEarly old new told_old told_new status
   faulted none ends = elim ends.1 [
     | inl memory ↦ memory
     | inr explained ↦ absurd (subst (λ (k : Kinds). IsAmong explained.0 k) none explained.1)
   ]
 
+  -- how a command on a program and an evidence ends
+  abbrev pub EvidenceEnds : (Option (List ℕ) → Option (List ℕ) → Bool → List ℕ → ℕ → Type 0) → Text → Text → Bool → Type 0
+  EvidenceEnds IsPage p e json = Ends (IsPage (before p) (before e) json) (IsEither p e) want.Refused json before after old new told_old told_new status
+
+  at_paths : (IsPage : Option (List ℕ) → Option (List ℕ) → Bool → List ℕ → ℕ → Type 0) (p q e d : Text) (json : Bool) → p ≡ q → e ≡ d
+      → EvidenceEnds IsPage p e json → EvidenceEnds IsPage q d json
+  at_paths IsPage p q e d json is_p is_e ends =
+      subst (λ (x : Text). EvidenceEnds IsPage x d json) is_p (subst (λ (x : Text). EvidenceEnds IsPage p x json) is_e ends)
+
   -- how a check ends
   abbrev pub CheckEnds : Text → Text → Bool → Type 0
-  CheckEnds p e json = Ends (IsChecked (before p) (before e) json) want.Refused json before after old new told_old told_new status
+  CheckEnds = EvidenceEnds IsChecked
 
   check_of : (request : Request) (p e : Text) (json : Bool) → IsCheckOf p e json request
       → RequestEnds tells before after request old new told_old told_new status → CheckEnds p e json
   check_of (ask.Prove p1 o1 s1 j1) p e json is ends = absurd is
+  check_of (ask.Encode p1) p e json is ends = absurd is
   check_of (ask.Replay p1 e1) p e json is ends = absurd is
-  check_of (ask.Check p1 e1 j1) p e json is ends =
-      subst (λ (x : Text). CheckEnds x e json) is.0
-      (subst (λ (x : Text). CheckEnds p1.now x json) is.1
-      (subst (λ (x : Bool). CheckEnds p1.now e1.now x) is.2 ends.1))
+  check_of (ask.Check p1 e1 n1 j1) p e json is ends =
+      at_paths IsChecked p1.now p e1.now e json is.0 is.1 (subst (λ (x : Bool). CheckEnds p1.now e1.now x) is.2 ends.1)
 
   pub check_ends : (p e : Text) → AskToCheck words p e → SessionEnds words tells before after old new told_old told_new status
-      → ((json : Bool) × CheckEnds p e json) ⊎ Fails
+      → ((json : Bool) × CheckEnds p e json) ⊎ FailsEarly old new told_old told_new status
   check_ends p e asks (inl asked) =
       let again = check_again (subcommand_of command_line words) asks.0 asked.0 p e asks.1 asks.2.named asked.1.named asks.3 in
       inl (again.0, check_of asked.0 p e again.0 again.1 asked.2)
   check_ends p e asks (inr unasked) = inr (faulted asks.2.faultless unasked)
 
   -- how a replay ends
-  abbrev pub ReplayEnds : Text → Text → Type 0
-  ReplayEnds p e = Ends (IsReplayed (before p) (before e)) want.Refused false before after old new told_old told_new status
+  abbrev pub ReplayEnds : Text → Text → Bool → Type 0
+  ReplayEnds = EvidenceEnds (λ program evidence json. IsReplayed program evidence)
 
   replay_of : (request : Request) (p e : Text) → IsReplayOf p e request
-      → RequestEnds tells before after request old new told_old told_new status → ReplayEnds p e
+      → RequestEnds tells before after request old new told_old told_new status → ReplayEnds p e false
   replay_of (ask.Prove p1 o1 s1 j1) p e is ends = absurd is
-  replay_of (ask.Check p1 e1 j1) p e is ends = absurd is
+  replay_of (ask.Encode p1) p e is ends = absurd is
+  replay_of (ask.Check p1 e1 n1 j1) p e is ends = absurd is
   replay_of (ask.Replay p1 e1) p e is ends =
-      subst (λ (x : Text). ReplayEnds x e) is.0 (subst (λ (x : Text). ReplayEnds p1.now x) is.1 ends.1)
+      at_paths (λ program evidence json. IsReplayed program evidence) p1.now p e1.now e false is.0 is.1 ends.1
 
   pub replay_ends : (p e : Text) → AskToReplay words p e → SessionEnds words tells before after old new told_old told_new status
-      → ReplayEnds p e ⊎ Fails
+      → ((json : Bool) × ReplayEnds p e json) ⊎ FailsEarly old new told_old told_new status
   replay_ends p e asks (inl asked) =
-      inl (replay_of asked.0 p e (replay_again (subcommand_of command_line words) asks.0 asked.0 p e asks.1.named asked.1.named asks.2) asked.2)
+      inl (false, replay_of asked.0 p e (replay_again (subcommand_of command_line words) asks.0 asked.0 p e asks.1.named asked.1.named asks.2) asked.2)
   replay_ends p e asks (inr unasked) = inr (faulted asks.1.faultless unasked)
 
   -- how a search ends
   abbrev pub ProveEnds : Text → Option Text → Bool → Type 0
-  ProveEnds p out json = Ends (IsProved tells before after p out json) want.Unknown json before after old new told_old told_new status
+  ProveEnds p out json =
+      Ends (IsProved tells before after p out json) (IsProveFile p out before after) want.Unknown json before after old new told_old told_new status
 
   prove_of : (request : Request) (p : Text) (out : Option Text) (json : Bool) → IsProveOf p out json request
       → RequestEnds tells before after request old new told_old told_new status → ProveEnds p out json
-  prove_of (ask.Check p1 e1 j1) p out json is ends = absurd is
+  prove_of (ask.Check p1 e1 n1 j1) p out json is ends = absurd is
+  prove_of (ask.Encode p1) p out json is ends = absurd is
   prove_of (ask.Replay p1 e1) p out json is ends = absurd is
   prove_of (ask.Prove p1 o1 s1 j1) p out json is ends =
       subst (λ (x : Text). ProveEnds x out json) is.0
@@ -120,7 +143,7 @@ module _ (words : List Text) (tells : Bool) (before after : List ℕ → Option 
       (subst (λ (x : Bool). ProveEnds p1.now (option_map (λ s. s.now) o1) x) is.2 ends.1))
 
   pub prove_ends : (p : Text) (out : Option Text) → AskToProve words p out → SessionEnds words tells before after old new told_old told_new status
-      → ((json : Bool) × ProveEnds p out json) ⊎ Fails
+      → ((json : Bool) × ProveEnds p out json) ⊎ FailsEarly old new told_old told_new status
   prove_ends p out asks (inl asked) =
       let again = prove_again (subcommand_of command_line words) asks.0 asked.0 p out asks.1 asks.2.named asked.1.named asks.3 in
       inl (again.0, prove_of asked.0 p out again.0 again.1 asked.2)

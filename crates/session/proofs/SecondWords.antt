@@ -145,6 +145,10 @@ at_replay : (w : Text) (rest : List Text) (request : Request) → NamesRequest (
 unfolding clap_on_literals
 at_replay w rest request asks = (at w (codes "replay") rest request refl asks).command
 
+at_encode : (w : Text) (rest : List Text) (request : Request) → NamesRequest (w ∷ codes "encode" ∷ rest) request → codes "encode" ≡ command_of request
+unfolding clap_on_literals
+at_encode w rest request asks = (at w (codes "encode") rest request refl asks).command
+
 at_help : (w : Text) (rest : List Text) (request : Request) → NamesRequest (w ∷ codes "help" ∷ rest) request → codes "help" ≡ command_of request
 unfolding clap_on_literals
 at_help w rest request asks = (at w (codes "help") rest request refl asks).command
@@ -161,8 +165,8 @@ at_dashes w (word ∷ rest) request asks sound =
     clash (ap is_none f)
 
 unmet_by : (word : Text) → bytes_eq (codes "prove") word ≡ false → bytes_eq (codes "check") word ≡ false → bytes_eq (codes "replay") word ≡ false
-    → bytes_eq (codes "help") word ≡ false → subcommand_met names idle word ≡ None
-unmet_by word a b c d = rw (a, b, c, d) refl
+    → bytes_eq (codes "encode") word ≡ false → bytes_eq (codes "help") word ≡ false → subcommand_met names idle word ≡ None
+unmet_by word a b c d e = rw (a, b, c, d, e) refl
 
 turn_none : (w word : Text) (rest : List Text) → fault_of command_line (w ∷ word ∷ rest) ≡ [] → turn_fault top names (walk_from nothing_held) word ≡ []
 unfolding walk_fault
@@ -189,13 +193,18 @@ command_is_second (w ∷ word ∷ rest) request asks sound = ap Some (by_name (b
     by_dashes false e unmet = absurd (first_word word unmet e (turn_none w word rest sound))
 
     by_help : (b : Bool) → bytes_eq (codes "help") word ≡ b → bytes_eq (codes "prove") word ≡ false → bytes_eq (codes "check") word ≡ false
+        → bytes_eq (codes "replay") word ≡ false → bytes_eq (codes "encode") word ≡ false → word ≡ command_of request
+    by_help true e p c r n = sym (is _ e) ∙ at_help w rest request (asked _ (is _ e))
+    by_help false e p c r n = by_dashes (bytes_eq word dashes) refl (unmet_by word p c r n e)
+
+    by_encode : (b : Bool) → bytes_eq (codes "encode") word ≡ b → bytes_eq (codes "prove") word ≡ false → bytes_eq (codes "check") word ≡ false
         → bytes_eq (codes "replay") word ≡ false → word ≡ command_of request
-    by_help true e p c r = sym (is _ e) ∙ at_help w rest request (asked _ (is _ e))
-    by_help false e p c r = by_dashes (bytes_eq word dashes) refl (unmet_by word p c r e)
+    by_encode true e p c r = sym (is _ e) ∙ at_encode w rest request (asked _ (is _ e))
+    by_encode false e p c r = by_help (bytes_eq (codes "help") word) refl p c r e
 
     by_replay : (b : Bool) → bytes_eq (codes "replay") word ≡ b → bytes_eq (codes "prove") word ≡ false → bytes_eq (codes "check") word ≡ false → word ≡ command_of request
     by_replay true e p c = sym (is _ e) ∙ at_replay w rest request (asked _ (is _ e))
-    by_replay false e p c = by_help (bytes_eq (codes "help") word) refl p c e
+    by_replay false e p c = by_encode (bytes_eq (codes "encode") word) refl p c e
 
     by_check : (b : Bool) → bytes_eq (codes "check") word ≡ b → bytes_eq (codes "prove") word ≡ false → word ≡ command_of request
     by_check true e p = sym (is _ e) ∙ at_check w rest request (asked _ (is _ e))

@@ -51,7 +51,13 @@ replay_app = with_rule (with_rule (new_app (codes "replay")) program_rule) evide
 
 -- the command `check`
 abbrev pub check_app : App
-check_app = with_rule (with_rule (with_rule (new_app (codes "check")) program_rule) evidence_rule) json_rule
+check_app =
+    with_rule (with_rule (with_rule (with_rule (new_app (codes "check")) program_rule) evidence_rule) (number_with (codes "pieces") 1 64 (codes "4")))
+    json_rule
+
+-- the command `encode`
+abbrev pub encode_app : App
+encode_app = with_rule (new_app (codes "encode")) program_rule
 
 -- the command `prove`
 abbrev pub prove_app : App
@@ -72,14 +78,16 @@ prove_app =
 abbrev pub wants_subcommand : App → App
 wants_subcommand a = record a { top = record a.top { subcommand_required = true } }
 
--- the whole command line: one of the three commands
+-- the whole command line: one of the four commands
 abbrev pub command_line : App
 command_line =
     with_subcommand
     (with_subcommand
+    (with_subcommand
     (with_subcommand (wants_subcommand (new_app (codes "mpiprove"))) prove_app.top)
     check_app.top)
-    replay_app.top
+    replay_app.top)
+    encode_app.top
 
 -- the argument has this rule, and is of its own command alone
 pub record IsRuled (a : Arg) (rule : Rule) : Type 0 where
@@ -115,18 +123,21 @@ pub record ReadsOptions (rows : List Row) (options : Options) : Type 0 where
 -- the word of a request's command
 abbrev pub command_of : Request → Text
 command_of (ask.Prove program out options json) = codes "prove"
-command_of (ask.Check program evidence json) = codes "check"
+command_of (ask.Check program evidence pieces json) = codes "check"
 command_of (ask.Replay program evidence) = codes "replay"
+command_of (ask.Encode program) = codes "encode"
 
 -- the values of a request are those of its command's arguments
 abbrev pub HasValues : List Row → Request → Type 0
 HasValues rows (ask.Prove program out options json) =
     Gives rows (codes "PROGRAM") program.now × (first_of (codes "out") rows ≡ option_map (λ s. s.now) out) × Flags rows (codes "json") json
     × ReadsOptions rows options
-HasValues rows (ask.Check program evidence json) =
+HasValues rows (ask.Check program evidence pieces json) =
     Gives rows (codes "PROGRAM") program.now × Gives rows (codes "EVIDENCE") evidence.now × Flags rows (codes "json") json
+    × Reads rows (codes "pieces") pieces.number
 HasValues rows (ask.Replay program evidence) =
     Gives rows (codes "PROGRAM") program.now × Gives rows (codes "EVIDENCE") evidence.now
+HasValues rows (ask.Encode program) = Gives rows (codes "PROGRAM") program.now
 
 -- a command's name and its matches make this request
 pub record Makes (name : Text) (rows : List Row) (request : Request) : Type 0 where
@@ -154,21 +165,24 @@ begins_with_hyphen (byte ∷ rest) = byte == 45
 
 -- a request to check the program at a path by the evidence at another
 abbrev pub IsCheckOf : Text → Text → Bool → Request → Type 0
-IsCheckOf program evidence as_json (ask.Check p e json) = (p.now ≡ program) × (e.now ≡ evidence) × (json ≡ as_json)
+IsCheckOf program evidence as_json (ask.Check p e pieces json) = (p.now ≡ program) × (e.now ≡ evidence) × (json ≡ as_json)
 IsCheckOf program evidence as_json (ask.Prove p out options json) = ⊥
 IsCheckOf program evidence as_json (ask.Replay p e) = ⊥
+IsCheckOf program evidence as_json (ask.Encode p) = ⊥
 
 -- a request to prove the program at a path, with the evidence written at another, where one is named
 abbrev pub IsProveOf : Text → Option Text → Bool → Request → Type 0
 IsProveOf program file as_json (ask.Prove p out options json) = (p.now ≡ program) × (option_map (λ s. s.now) out ≡ file) × (json ≡ as_json)
-IsProveOf program file as_json (ask.Check p e json) = ⊥
+IsProveOf program file as_json (ask.Check p e pieces json) = ⊥
 IsProveOf program file as_json (ask.Replay p e) = ⊥
+IsProveOf program file as_json (ask.Encode p) = ⊥
 
 -- the numbers are the usual ones
 abbrev pub HasUsualOptions : Request → Type 0
 HasUsualOptions (ask.Prove p out options json) = AreUsual options.workers options.depth options.budget
-HasUsualOptions (ask.Check p e json) = ⊥
+HasUsualOptions (ask.Check p e pieces json) = ⊥
 HasUsualOptions (ask.Replay p e) = ⊥
+HasUsualOptions (ask.Encode p) = ⊥
 
 -- the same, where no number is given
 abbrev pub IsUsualProveOf : Text → Option Text → Bool → Request → Type 0
@@ -178,7 +192,22 @@ IsUsualProveOf program file as_json request = IsProveOf program file as_json req
 abbrev pub IsReplayOf : Text → Text → Request → Type 0
 IsReplayOf program evidence (ask.Replay p e) = (p.now ≡ program) × (e.now ≡ evidence)
 IsReplayOf program evidence (ask.Prove p out options json) = ⊥
-IsReplayOf program evidence (ask.Check p e json) = ⊥
+IsReplayOf program evidence (ask.Check p e pieces json) = ⊥
+IsReplayOf program evidence (ask.Encode p) = ⊥
+
+-- a request to encode the program at a path
+abbrev pub IsEncodeOf : Text → Request → Type 0
+IsEncodeOf program (ask.Encode p) = p.now ≡ program
+IsEncodeOf program (ask.Prove p out options json) = ⊥
+IsEncodeOf program (ask.Check p e pieces json) = ⊥
+IsEncodeOf program (ask.Replay p e) = ⊥
+
+-- the lines are checked in as many pieces as this text spells
+abbrev pub HasPieces : Text → Request → Type 0
+HasPieces number (ask.Check p e pieces json) = pieces.number ≡ digits_value 10 (without_leading_plus number)
+HasPieces number (ask.Prove p out options json) = ⊥
+HasPieces number (ask.Replay p e) = ⊥
+HasPieces number (ask.Encode p) = ⊥
 
 -- the words in their usual order, where no file's name begins with a hyphen
 pub record PlainWordsAreRead : Type 0 where
@@ -188,6 +217,8 @@ pub record PlainWordsAreRead : Type 0 where
       → AskFor (name ∷ codes "check" ∷ program ∷ evidence ∷ codes "--json" ∷ []) request → IsCheckOf program evidence true request
   pub replay : (name program evidence : Text) (request : Request) → begins_with_hyphen program ≡ false → begins_with_hyphen evidence ≡ false
       → AskFor (name ∷ codes "replay" ∷ program ∷ evidence ∷ []) request → IsReplayOf program evidence request
+  pub encode : (name program : Text) (request : Request) → begins_with_hyphen program ≡ false
+      → AskFor (name ∷ codes "encode" ∷ program ∷ []) request → IsEncodeOf program request
   pub prove : (name program : Text) (request : Request) → begins_with_hyphen program ≡ false
       → AskFor (name ∷ codes "prove" ∷ program ∷ []) request → IsUsualProveOf program None false request
   pub prove_as_json : (name program : Text) (request : Request) → begins_with_hyphen program ≡ false
@@ -200,8 +231,9 @@ abbrev pub HasNumbers : Text → Text → Text → Request → Type 0
 HasNumbers workers depth budget (ask.Prove p out options json) =
     (options.workers ≡ digits_value 10 (without_leading_plus workers)) × (options.depth ≡ digits_value 10 (without_leading_plus depth))
     × (options.budget ≡ digits_value 10 (without_leading_plus budget))
-HasNumbers workers depth budget (ask.Check p e json) = ⊥
+HasNumbers workers depth budget (ask.Check p e pieces json) = ⊥
 HasNumbers workers depth budget (ask.Replay p e) = ⊥
+HasNumbers workers depth budget (ask.Encode p) = ⊥
 
 -- words in other orders, with all options, where no value begins with a hyphen
 pub record OptionWordsAreRead : Type 0 where
@@ -209,6 +241,10 @@ pub record OptionWordsAreRead : Type 0 where
       → AskFor (name ∷ codes "check" ∷ codes "--json" ∷ program ∷ evidence ∷ []) request → IsCheckOf program evidence true request
   pub check_json_between : (name program evidence : Text) (request : Request) → begins_with_hyphen program ≡ false → begins_with_hyphen evidence ≡ false
       → AskFor (name ∷ codes "check" ∷ program ∷ codes "--json" ∷ evidence ∷ []) request → IsCheckOf program evidence true request
+  pub check_pieces : (name program evidence pieces : Text) (request : Request)
+      → begins_with_hyphen program ≡ false → begins_with_hyphen evidence ≡ false → begins_with_hyphen pieces ≡ false
+      → AskFor (name ∷ codes "check" ∷ program ∷ evidence ∷ codes "--pieces" ∷ pieces ∷ []) request
+      → IsCheckOf program evidence false request × HasPieces pieces request
   pub prove_options_first : (name program file workers depth budget : Text) (request : Request)
       → begins_with_hyphen program ≡ false → begins_with_hyphen file ≡ false → begins_with_hyphen workers ≡ false → begins_with_hyphen depth ≡ false
       → begins_with_hyphen budget ≡ false

@@ -3,8 +3,10 @@ ghost use Rattle.session.specs.CommandLine.{OptionWordsAreRead, PlainWordsAreRea
 ghost use Rattle.session.specs.Deadlocks.{
   CheckedDeadlockIsShown,
   CheckedSafetyIsPrinted,
+  CheckedSafetyIsTrue,
   PlainWordsAreAnswered,
   ProvedDeadlockIsShown,
+  RefutedIsChecked,
   ReplayedDeadlockIsShown,
   ShownDeadlockIsChecked,
   ShownDeadlockIsReplayed,
@@ -22,6 +24,18 @@ pub fn checked_deadlock_is_shown()
 /// with the status 1, or with that of want of memory or of a file or an output that fails.
 pub fn shown_deadlock_is_checked()
     ensures { ShownDeadlockIsChecked }
+{}
+
+/// Where words ask for a check, and the run printed the line that tells that there is no deadlock or
+/// ended with the status 0, no run of the program ends stuck.
+pub fn checked_safety_is_true()
+    ensures { CheckedSafetyIsTrue }
+{}
+
+/// Where the evidence of the one file refutes the program of the other, a check ends with the status
+/// 0, or with that of want of memory or of a file or an output that fails.
+pub fn refuted_is_checked()
+    ensures { RefutedIsChecked }
 {}
 
 /// A check that ended with the status 0 printed the line that tells that there is no deadlock.
@@ -63,7 +77,7 @@ pub fn plain_words_are_read()
     ensures { PlainWordsAreRead }
 {}
 
-/// A run of such words answers their command, or ends with the status 4 for want of memory before it
+/// A run of such words answers their command, or tells want of memory, with the status 4, before it
 /// is known.
 pub fn plain_words_are_answered()
     ensures { PlainWordsAreAnswered }

@@ -11,9 +11,10 @@ mod status;
 mod told;
 
 pub use laws::{
-    checked_deadlock_is_shown, checked_safety_is_printed, option_words_are_read,
-    plain_words_are_answered, plain_words_are_read, proved_deadlock_is_shown,
-    replayed_deadlock_is_shown, shown_deadlock_is_checked, shown_deadlock_is_replayed,
-    told_deadlock_is_shown, written_deadlock_is_shown,
+    checked_deadlock_is_shown, checked_safety_is_printed, checked_safety_is_true,
+    option_words_are_read, plain_words_are_answered, plain_words_are_read,
+    proved_deadlock_is_shown, refuted_is_checked, replayed_deadlock_is_shown,
+    shown_deadlock_is_checked, shown_deadlock_is_replayed, told_deadlock_is_shown,
+    written_deadlock_is_shown,
 };
 pub use run::session;

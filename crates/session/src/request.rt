@@ -2,14 +2,14 @@
 
 ghost use Rattle.std.specs.Prelude.{◌≡◌, ◌⊎◌, IfErr, IfOk, IfSome, codes, map, string_bytes};
 ghost use Rattle.clap.specs.Words.{IsAmong, fault_of, found_of, kind_of, rows_of, subcommand_rows_of};
-ghost use Rattle.session.specs.CommandLine.{AskFor, IsRuled, IsShaped, Makes, MakesSome, check_app, command_line};
+ghost use Rattle.session.specs.CommandLine.{AskFor, IsRuled, IsShaped, Makes, MakesSome, check_app, command_line, encode_app};
 ghost use Rattle.session.specs.CommandLine.{evidence_rule, json_rule, number_rule, number_with, option_rule, out_rule, program_rule};
 ghost use Rattle.session.specs.CommandLine.{prove_app, replay_app};
 
 use clap::builder::{Command, ValueParser};
 use clap::error::ErrorKind;
 use clap::{Arg, ArgAction, ArgMatches, Error, value_parser};
-use prover::Options;
+use prover::{Options, Pieces};
 use std::alloc::{AllocError, Global};
 
 /// What a command line asks for, with the paths of its files.
@@ -26,12 +26,17 @@ pub enum Request<'a> {
     Check {
         program: &'a str,
         evidence: &'a str,
+        pieces: Pieces,
         json: bool,
     },
     /// Print the steps of a schedule.
     Replay {
         program: &'a str,
         evidence: &'a str,
+    },
+    /// Print the formula of a program.
+    Encode {
+        program: &'a str,
     },
 }
 
@@ -83,15 +88,21 @@ fn requested<'a>(subcommand: (&'a str, &ArgMatches<'a>)) -> Option<Request<'a>>
                 json: matches.get_flag(JSON),
             })
         }
-        "check" => Some(Request::Check {
-            program,
-            evidence: matches.get_str(EVIDENCE)?,
-            json: matches.get_flag(JSON),
-        }),
+        "check" => {
+            let evidence = matches.get_str(EVIDENCE)?;
+            let pieces = matches.get_one::<u32>(PIECES)?;
+            Some(Request::Check {
+                program,
+                evidence,
+                pieces: Pieces::make(pieces)?,
+                json: matches.get_flag(JSON),
+            })
+        }
         "replay" => Some(Request::Replay {
             program,
             evidence: matches.get_str(EVIDENCE)?,
         }),
+        "encode" => Some(Request::Encode { program }),
         _ => None,
     }
 }
@@ -108,6 +119,8 @@ const DEPTH: &str = "depth";
 
 const BUDGET: &str = "budget";
 
+const PIECES: &str = "pieces";
+
 const JSON: &str = "json";
 
 /// The whole command line.
@@ -118,7 +131,8 @@ fn command<'a>(alloc: Global) -> Result<Command<'a>, AllocError>
         .subcommand_required(true)
         .subcommand(prove_command(alloc)?)?
         .subcommand(check_command(alloc)?)?
-        .subcommand(replay_command(alloc)?)
+        .subcommand(replay_command(alloc)?)?
+        .subcommand(encode_command(alloc)?)
 }
 
 fn prove_command<'a>(alloc: Global) -> Result<Command<'a>, AllocError>
@@ -141,6 +155,7 @@ fn check_command<'a>(alloc: Global) -> Result<Command<'a>, AllocError>
         .about("Judges a program by an evidence")
         .arg(program(alloc))?
         .arg(evidence(alloc))?
+        .arg(pieces(alloc))?
         .arg(json(alloc))
 }
 
@@ -151,6 +166,14 @@ fn replay_command<'a>(alloc: Global) -> Result<Command<'a>, AllocError>
         .about("Prints the steps of a schedule")
         .arg(program(alloc))?
         .arg(evidence(alloc))
+}
+
+fn encode_command<'a>(alloc: Global) -> Result<Command<'a>, AllocError>
+    ensures { IfOk result (λ c. IsShaped c encode_app) }
+{
+    Command::new(alloc, "encode")
+        .about("Prints the formula of a program")
+        .arg(program(alloc))
 }
 
 fn program<'a>(alloc: Global) -> Arg<'a>
@@ -209,6 +232,14 @@ fn budget<'a>(alloc: Global) -> Arg<'a>
     number(alloc, BUDGET, value_parser!(u32).range(0..=1_000_000_000))
         .default_value("1000000")
         .help("Conflicts for each worker, 0 to 1000000000")
+}
+
+fn pieces<'a>(alloc: Global) -> Arg<'a>
+    ensures { IsRuled result (number_with (codes "pieces") 1 64 (codes "4")) }
+{
+    number(alloc, PIECES, value_parser!(u32).range(1..=64))
+        .default_value("4")
+        .help("Pieces in which a refutation's lines are checked, 1 to 64")
 }
 
 fn number<'a>(alloc: Global, name: &'a str, parser: ValueParser<'a>) -> Arg<'a>

@@ -4,6 +4,7 @@ use crate::run::Scene;
 use std::alloc::{AllocError, Global};
 use std::process::Abort;
 use std::test::Fail;
+use std::thread::Threads;
 
 /// Calls of one rank that are refused.
 const REFUSED: &str = "\
@@ -41,7 +42,7 @@ issue 0 buffered/ | 3 | refused step 1 not enabled";
 
 /// Asserts what the words answer to the program and each schedule.
 fn assert_rows(
-    rt: &impl Abort,
+    rt: &(impl Abort + Threads + Sync),
     alloc: Global,
     words: &str,
     program: &str,

@@ -4,6 +4,7 @@ use crate::run::Scene;
 use std::alloc::Global;
 use std::process::Abort;
 use std::test::Fail;
+use std::thread::Threads;
 
 /// Program texts that are refused.
 const PROGRAMS: &str = "\
@@ -54,7 +55,11 @@ const COLLECTIVES: &str = "barrier bcast gather gatherv scatter scatterv allgath
     alltoall alltoallv alltoallw reduce allreduce reduce_scatter reduce_scatter_block scan exscan";
 
 /// Asserts that a word is refused by its name, whatever follows it.
-fn assert_word_is_refused(rt: &impl Abort, alloc: Global, word: &str) -> Result<(), Fail> {
+fn assert_word_is_refused(
+    rt: &(impl Abort + Threads + Sync),
+    alloc: Global,
+    word: &str,
+) -> Result<(), Fail> {
     let line = format!(in alloc; "refused line 4 out of profile {word}")?;
     for rest in ["", " 0 1", " *  0x"] {
         let program = format!(in alloc; "ranks 1/policy any/rank 0/{word}{rest}/")?;
@@ -124,8 +129,8 @@ fn tells_the_programs_fault_before_the_schedules(rt: HostRuntime) -> Result<(), 
     assert_answer(&rt, alloc, "check program evidence", scene, "3", line)
 }
 
-/// Each reason for which texts are refused, once, with its line: program, evidence, line. The three
-/// limits of sizes are told where the limits are tried.
+/// Each reason for which texts are refused, once, with its line: program, evidence, line. The limits of sizes are told
+/// where the limits are tried, faults of proof lines and trees where refutations are judged.
 const REASONS: &str = "\
 ranks 1/policy any/rank 0/recv 0 \u{e9}/ |  | refused line 4 not ascii
 ranks 1/policy any/rank 0/receive 0 1/ |  | refused line 4 syntax

@@ -53,7 +53,7 @@ fn long_runs_are_found_checked_and_told(rt: HostRuntime) -> Result<(), Fail> {
         let evidence = evidence_of(alloc, messages)?;
         let page = page_of(alloc, messages)?;
         let scene = Scene::of(&program, &evidence);
-        let found = run(alloc, "prove program --out out", scene)?;
+        let found = run(&rt, alloc, "prove program --out out", scene)?;
         assert_eq!(rt; found.status, 1, "{messages}");
         assert!(rt;
             found.out.as_slice() == b"deadlock\n".as_slice(),
@@ -63,13 +63,13 @@ fn long_runs_are_found_checked_and_told(rt: HostRuntime) -> Result<(), Fail> {
             found.written.as_slice() == evidence.as_bytes(),
             "{messages}"
         );
-        let checked = run(alloc, "check program evidence", scene)?;
+        let checked = run(&rt, alloc, "check program evidence", scene)?;
         assert_eq!(rt; checked.status, 1, "{messages}");
         assert!(rt;
             checked.out.as_slice() == b"deadlock\n".as_slice(),
             "{messages}"
         );
-        let told = run(alloc, "replay program evidence", scene)?;
+        let told = run(&rt, alloc, "replay program evidence", scene)?;
         assert_eq!(rt; told.status, 1, "{messages}");
         assert!(rt; told.out.as_slice() == page.as_bytes(), "{messages}");
     }

@@ -5,6 +5,7 @@ use std::alloc::{AllocError, Global};
 use std::process::Abort;
 use std::str;
 use std::test::Fail;
+use std::thread::Threads;
 
 /// Two ranks that each send before they receive.
 const EXCHANGE: &str = "ranks 2/policy any/rank 0/send 1 1/recv 1 1/rank 1/send 0 1/recv 0 1/";
@@ -86,7 +87,12 @@ any receive | issue 01/ | 3 | refused evidence line 3 syntax
 some receive | issue 0/ | 3 | refused line 2 syntax";
 
 /// Asserts what a command answers to each row.
-fn assert_rows(rt: &impl Abort, alloc: Global, words: &str, rows: &str) -> Result<(), Fail> {
+fn assert_rows(
+    rt: &(impl Abort + Threads + Sync),
+    alloc: Global,
+    words: &str,
+    rows: &str,
+) -> Result<(), Fail> {
     for row in rows.lines() {
         let (name, row) = column(row)?;
         let program = program(alloc, name)?;
@@ -120,13 +126,13 @@ none waiting | issue 0/issue 0/issue 1/match 1 4/issue 1/";
 /// Asserts that these words find this schedule and write it to the file `out`, and that the checker
 /// accepts it.
 fn assert_found(
-    rt: &impl Abort,
+    rt: &(impl Abort + Threads + Sync),
     alloc: Global,
     words: &str,
     program: &str,
     evidence: &str,
 ) -> Result<(), Fail> {
-    let ended = run(alloc, words, Scene::of(program, ""))?;
+    let ended = run(rt, alloc, words, Scene::of(program, ""))?;
     assert_eq!(rt; ended.status, 1, "{program}");
     assert_eq!(rt; str::from_utf8(&ended.out)?, "deadlock\n", "{program}");
     assert_eq!(rt; str::from_utf8(&ended.written)?, evidence, "{program}");

@@ -4,6 +4,7 @@ use crate::run::Scene;
 use std::alloc::{AllocError, Global};
 use std::process::Abort;
 use std::test::Fail;
+use std::thread::Threads;
 
 /// A program of one rank with these call lines.
 fn of_one_rank(alloc: Global, calls: &str) -> Result<String, AllocError> {
@@ -11,7 +12,11 @@ fn of_one_rank(alloc: Global, calls: &str) -> Result<String, AllocError> {
 }
 
 /// Asserts that each command refuses each program of one rank with the row's line.
-fn assert_calls_are_refused(rt: &impl Abort, alloc: Global, rows: &str) -> Result<(), Fail> {
+fn assert_calls_are_refused(
+    rt: &(impl Abort + Threads + Sync),
+    alloc: Global,
+    rows: &str,
+) -> Result<(), Fail> {
     for row in rows.lines() {
         let (calls, line) = column(row)?;
         let program = of_one_rank(alloc, calls)?;

@@ -1,29 +1,12 @@
-//! Refutations, which are read, and refused until a program has a formula.
+//! Refutations as texts: whether they can be read, and that `replay` takes none.
+use super::refuted::{ONE_SEND, READ};
 use super::{Scene, assert_answer, column, lines};
 use std::alloc::Global;
 use std::process::Abort;
 use std::test::Fail;
+use std::thread::Threads;
 
-/// A program of one buffered send to itself, whose formula has two variables and three clauses.
-const PROGRAM: &str = "ranks 1/policy any/rank 0/bsend 0 1/";
-
-/// What follows the heading of texts that are read.
-const READ: &str = "\
-line : 1 3 2/tree/leaf 4/
-line : 1 3 4/tree/leaf 4/
-line : 1 1 3 2/tree/leaf 4/
-line : 1 3/tree/leaf 4/
-line : 1 3 2 1/tree/leaf 4/
-line 3 : 1 3 2/tree/leaf 4/
-line -2 : 1 2/tree/split 2/leaf 4/leaf 3/
-line -2 : 1 2/tree/split 2/leaf 3/leaf 4/
-line -2 : 1 2/tree/split 2/leaf 4/leaf 5/
-line : 5/line : 4/tree/leaf 4/
-line -2 : 1 2/tree/split 2/split 2/leaf 4/leaf 3/leaf 3/
-line :/line 1 -2 2147483647 :/tree/leaf 2147483647/
-tree/leaf 1/";
-
-/// What follows the heading of texts that are not.
+/// What follows the heading of texts that can't be read, with the line that tells it.
 const UNREAD: &str = "\
 line -2 : 1 2/tree/split 2/leaf 4/ | refused evidence line 7 syntax
 line : 1 3 2/tree/leaf 4 | refused evidence line 5 syntax
@@ -36,32 +19,52 @@ line : 2147483648/tree/leaf 4/ | refused evidence line 3 range
 issue 0/ | refused evidence line 3 syntax";
 
 fn assert_both(
-    rt: &impl Abort,
+    rt: &(impl Abort + Threads + Sync),
     alloc: Global,
     evidence: &str,
     checked: &str,
     replayed: &str,
 ) -> Result<(), Fail> {
-    let program = lines(alloc, PROGRAM)?;
+    let program = lines(alloc, ONE_SEND)?;
     let evidence = lines(alloc, evidence)?;
     let scene = Scene::of(&program, &evidence);
     assert_answer(rt, alloc, "check program evidence", scene, "3", checked)?;
     assert_answer(rt, alloc, "replay program evidence", scene, "3", replayed)
 }
 
+/// Headings whose counts are not those of the formula.
+const COUNTS: &str = "\
+2 4
+3 3
+3 2
+0 0
+2147483647 2147483647";
+
 #[test]
 fn reads_refutations(rt: HostRuntime) -> Result<(), Fail> {
-    for rest in READ.lines() {
-        for heading in ["2 3", "2 4", "0 0", "2147483647 2147483647"] {
-            let evidence = format!(in rt.alloc(); "evidence 1/refutation {heading}/{rest}")?;
-            assert_both(
-                &rt,
-                rt.alloc(),
-                &evidence,
-                "refused counts",
-                "refused not a schedule",
-            )?;
+    let alloc = rt.alloc();
+    for row in READ.lines() {
+        let (rest, _) = column(row)?;
+        for counts in COUNTS.lines() {
+            let evidence = format!(in alloc; "evidence 1/refutation {counts}/{rest}")?;
+            let replayed = "refused not a schedule";
+            assert_both(&rt, alloc, &evidence, "refused counts", replayed)?;
         }
+    }
+    Ok(())
+}
+
+#[test]
+fn replays_no_refutation(rt: HostRuntime) -> Result<(), Fail> {
+    let alloc = rt.alloc();
+    let program = lines(alloc, ONE_SEND)?;
+    for row in READ.lines() {
+        let (rest, _) = column(row)?;
+        let text = format!(in alloc; "evidence 1/refutation 2 3/{rest}")?;
+        let evidence = lines(alloc, &text)?;
+        let scene = Scene::of(&program, &evidence);
+        let line = "refused not a schedule";
+        assert_answer(&rt, alloc, "replay program evidence", scene, "3", line)?;
     }
     Ok(())
 }

@@ -6,6 +6,7 @@ use std::alloc::Global;
 use std::process::Abort;
 use std::str;
 use std::test::Fail;
+use std::thread::Threads;
 
 const PROGRAM: &str = "ranks 1/policy any/rank 0/recv 0 1/";
 
@@ -17,6 +18,7 @@ check program nothing | file nothing
 check program nothing --json | file nothing
 replay nowhere nothing | file nowhere
 replay program nothing | file nothing
+encode nowhere | file nowhere
 prove program --out nowhere | file nowhere
 prove program --json --out nowhere | file nowhere";
 
@@ -26,7 +28,7 @@ fn names_the_file_that_fails(rt: HostRuntime) -> Result<(), Fail> {
     let program = lines(alloc, PROGRAM)?;
     for row in MISSING.lines() {
         let (words, line) = column(row)?;
-        let ended = run(alloc, words, Scene::of(&program, ""))?;
+        let ended = run(&rt, alloc, words, Scene::of(&program, ""))?;
         assert_eq!(rt; ended.status, 5, "{words}");
         assert_eq!(rt;
             str::from_utf8(&ended.err)?.strip_suffix("\n"),
@@ -46,7 +48,8 @@ prove program --out memory | unknown memory
 check memory nowhere | refused memory
 check program memory | refused memory
 check program memory --json | {\"answer\":\"refused memory\",\"status\":4}
-replay program memory | refused memory";
+replay program memory | refused memory
+encode memory | refused memory";
 
 #[test]
 fn tells_want_of_memory(rt: HostRuntime) -> Result<(), Fail> {
@@ -54,7 +57,7 @@ fn tells_want_of_memory(rt: HostRuntime) -> Result<(), Fail> {
     let program = lines(alloc, PROGRAM)?;
     for row in WANTS.lines() {
         let (words, line) = column(row)?;
-        let ended = run(alloc, words, Scene::of(&program, ""))?;
+        let ended = run(&rt, alloc, words, Scene::of(&program, ""))?;
         assert_eq!(rt; ended.status, 4, "{words}");
         assert_eq!(rt;
             str::from_utf8(&ended.out)?.strip_suffix("\n"),
@@ -90,14 +93,14 @@ fn is_same(ended: &Ended, good: &Ended) -> bool {
 
 /// Asserts that a run which meets this trouble ends as it must.
 fn assert_trouble_is_told(
-    rt: &impl Abort,
+    rt: &(impl Abort + Threads + Sync),
     alloc: Global,
     words: &str,
     memory: &str,
     scene: Scene<'_>,
     good: &Ended,
 ) -> Result<(), Fail> {
-    let ended = run(alloc, words, scene)?;
+    let ended = run(rt, alloc, words, scene)?;
     let holds = match scene.trouble {
         Trouble::Device | Trouble::NoByte => is_fault(&ended, &good.out),
         Trouble::Memory => is_want(&ended, memory.as_bytes(), &good.out),
@@ -114,13 +117,13 @@ fn assert_trouble_is_told(
 
 /// Runs the words with each trouble at each open, read and write in turn.
 fn assert_troubles_are_told(
-    rt: &impl Abort,
+    rt: &(impl Abort + Threads + Sync),
     alloc: Global,
     words: &str,
     memory: &str,
     scene: Scene<'_>,
 ) -> Result<(), Fail> {
-    let good = run(alloc, words, scene)?;
+    let good = run(rt, alloc, words, scene)?;
     for trouble_at in 1..good.steps.saturating_add(1) {
         for trouble in [
             Trouble::Device,
@@ -145,6 +148,7 @@ prove program | unknown memory
 prove program --out out --json | {\"answer\":\"unknown memory\",\"status\":4}
 check program evidence | refused memory
 replay program evidence | refused memory
+encode program | refused memory
 check --help | memory";
 
 #[test]

@@ -7,10 +7,12 @@ use std::test::Fail;
 /// Words, with the whole text on standard error.
 const MISUSED: &str = "\
 prove | error: the following required arguments were not provided:/  <PROGRAM>//Usage: mpiprove prove <PROGRAM>//For more information, try '--help'./
- | error: 'mpiprove' requires a subcommand but one was not provided/  [subcommands: prove, check, replay, help]//Usage: mpiprove <COMMAND>//For more information, try '--help'./
+ | error: 'mpiprove' requires a subcommand but one was not provided/  [subcommands: prove, check, replay, encode, help]//Usage: mpiprove <COMMAND>//For more information, try '--help'./
 check program | error: the following required arguments were not provided:/  <EVIDENCE>//Usage: mpiprove check <PROGRAM> <EVIDENCE>//For more information, try '--help'./
 replay | error: the following required arguments were not provided:/  <PROGRAM>/  <EVIDENCE>//Usage: mpiprove replay <PROGRAM> <EVIDENCE>//For more information, try '--help'./
-encode program | error: unrecognized subcommand 'encode'//Usage: mpiprove <COMMAND>//For more information, try '--help'./
+encode | error: the following required arguments were not provided:/  <PROGRAM>//Usage: mpiprove encode <PROGRAM>//For more information, try '--help'./
+encode program evidence | error: unexpected argument 'evidence' found//Usage: mpiprove encode <PROGRAM>//For more information, try '--help'./
+judge program | error: unrecognized subcommand 'judge'//Usage: mpiprove <COMMAND>//For more information, try '--help'./
 prove program evidence | error: unexpected argument 'evidence' found//Usage: mpiprove prove [OPTIONS] <PROGRAM>//For more information, try '--help'./
 prove program --fast | error: unexpected argument '--fast' found//  tip: to pass '--fast' as a value, use '-- --fast'//Usage: mpiprove prove <PROGRAM>//For more information, try '--help'./
 prove program --out | error: a value is required for '--out <FILE>' but none was supplied//For more information, try '--help'./
@@ -19,14 +21,16 @@ prove program --out a --out b | error: the argument '--out <FILE>' cannot be use
 prove program --workers 0 | error: invalid value '0' for '--workers <N>': 0 is not in 1..=64//For more information, try '--help'./
 prove program --workers 65 | error: invalid value '65' for '--workers <N>': 65 is not in 1..=64//For more information, try '--help'./
 prove program --depth 16 | error: invalid value '16' for '--depth <N>': 16 is not in 0..=15//For more information, try '--help'./
-prove program --budget 1000000001 | error: invalid value '1000000001' for '--budget <N>': 1000000001 is not in 0..=1000000000//For more information, try '--help'./";
+prove program --budget 1000000001 | error: invalid value '1000000001' for '--budget <N>': 1000000001 is not in 0..=1000000000//For more information, try '--help'./
+check program evidence --pieces 0 | error: invalid value '0' for '--pieces <N>': 0 is not in 1..=64//For more information, try '--help'./
+check program evidence --pieces 65 | error: invalid value '65' for '--pieces <N>': 65 is not in 1..=64//For more information, try '--help'./";
 
 #[test]
 fn tells_faults_of_usage(rt: HostRuntime) -> Result<(), Fail> {
     let alloc = rt.alloc();
     for row in MISUSED.lines() {
         let (words, text) = column(row)?;
-        let ended = run(alloc, words, Scene::of("", ""))?;
+        let ended = run(&rt, alloc, words, Scene::of("", ""))?;
         let told = lines(alloc, text)?;
         assert_eq!(rt; str::from_utf8(&ended.err)?, told.as_str(), "{words}");
         assert_eq!(rt; ended.status, 6, "{words}");
@@ -42,6 +46,12 @@ prove program --workers=-1 | error: invalid value '-1' for '--workers <N>'
 prove program --depth -1 | error: unexpected argument '-1' found
 prove program --budget 99999999999999999999 | error: invalid value '99999999999999999999' for '--budget <N>'
 check program evidence --out out | error: unexpected argument '--out' found
+check program evidence --pieces two | error: invalid value 'two' for '--pieces <N>'
+check program evidence --pieces | error: a value is required for '--pieces <N>' but none was supplied
+prove program --pieces 4 | error: unexpected argument '--pieces' found
+replay program evidence --pieces 4 | error: unexpected argument '--pieces' found
+encode program --pieces 4 | error: unexpected argument '--pieces' found
+encode program --json | error: unexpected argument '--json' found
 replay program evidence --json | error: unexpected argument '--json' found
 replay program evidence more | error: unexpected argument 'more' found
 -x | error: unexpected argument '-x' found
@@ -51,7 +61,7 @@ replay program evidence more | error: unexpected argument 'more' found
 fn refuses_other_words(rt: HostRuntime) -> Result<(), Fail> {
     for row in MISUSED_TOO.lines() {
         let (words, text) = column(row)?;
-        let ended = run(rt.alloc(), words, Scene::of("", ""))?;
+        let ended = run(&rt, rt.alloc(), words, Scene::of("", ""))?;
         assert_eq!(rt; ended.status, 6, "{words}");
         let told = str::from_utf8(&ended.err)?;
         assert!(rt; told.starts_with(text), "{words}: {told}");
@@ -77,6 +87,9 @@ prove --json --budget=7 -- program | {\"answer\":\"deadlock\",\"status\":1}
 check --json program evidence | {\"answer\":\"deadlock\",\"status\":1}
 check program --json evidence | {\"answer\":\"deadlock\",\"status\":1}
 check program -- evidence | deadlock
+check program evidence --pieces 1 | deadlock
+check --pieces 64 program evidence | deadlock
+check program --pieces=7 --json evidence | {\"answer\":\"deadlock\",\"status\":1}
 replay -- program evidence | issue 0 call 1 recv/stuck";
 
 #[test]
@@ -105,7 +118,7 @@ fn writes_the_evidence_that_is_asked_for(rt: HostRuntime) -> Result<(), Fail> {
     let program = lines(alloc, PROGRAM)?;
     let evidence = lines(alloc, EVIDENCE)?;
     for words in WRITTEN.lines() {
-        let ended = run(alloc, words, Scene::of(&program, ""))?;
+        let ended = run(&rt, alloc, words, Scene::of(&program, ""))?;
         assert_eq!(rt; ended.status, 1, "{words}");
         assert_eq!(rt; ended.writers, 1, "{words}");
         assert_eq!(rt;
@@ -133,14 +146,16 @@ help prove | Decides whether some run of a program gets stuck//Usage: mpiprove p
 check -h | Judges a program by an evidence//Usage: mpiprove check [OPTIONS] <PROGRAM> <EVIDENCE>
 check program evidence --help | Judges a program by an evidence//Usage: mpiprove check [OPTIONS] <PROGRAM> <EVIDENCE>
 replay --help | Prints the steps of a schedule//Usage: mpiprove replay <PROGRAM> <EVIDENCE>
-help replay | Prints the steps of a schedule//Usage: mpiprove replay <PROGRAM> <EVIDENCE>";
+help replay | Prints the steps of a schedule//Usage: mpiprove replay <PROGRAM> <EVIDENCE>
+encode --help | Prints the formula of a program//Usage: mpiprove encode <PROGRAM>
+help encode | Prints the formula of a program//Usage: mpiprove encode <PROGRAM>";
 
 #[test]
 fn shows_help(rt: HostRuntime) -> Result<(), Fail> {
     let alloc = rt.alloc();
     for row in HELPED.lines() {
         let (words, text) = column(row)?;
-        let ended = run(alloc, words, Scene::of("", ""))?;
+        let ended = run(&rt, alloc, words, Scene::of("", ""))?;
         assert_eq!(rt; ended.status, 0, "{words}");
         let text = lines(alloc, text)?;
         let rest = str::from_utf8(&ended.out)?
@@ -156,12 +171,13 @@ fn shows_help(rt: HostRuntime) -> Result<(), Fail> {
 const CHECK_HELP: &str = "Judges a program by an evidence\n\n\
     Usage: mpiprove check [OPTIONS] <PROGRAM> <EVIDENCE>\n\n\
     Arguments:\n  <PROGRAM>   The program text\n  <EVIDENCE>  The evidence text\n\n\
-    Options:\n      --json  Print the answer as a JSON object\n  -h, --help  Print help\n";
+    Options:\n      --pieces <N>  Pieces in which a refutation's lines are checked, 1 to 64 \
+    [default: 4]\n      --json        Print the answer as a JSON object\n  -h, --help        Print help\n";
 
 #[test]
 fn shows_the_whole_help(rt: HostRuntime) -> Result<(), Fail> {
     for words in ["check --help", "help check"] {
-        let ended = run(rt.alloc(), words, Scene::of("", ""))?;
+        let ended = run(&rt, rt.alloc(), words, Scene::of("", ""))?;
         let text = str::from_utf8(&ended.out)?;
         assert_eq!(rt; text.strip_prefix(FRONT), Some(CHECK_HELP), "{words}");
     }
@@ -170,9 +186,9 @@ fn shows_the_whole_help(rt: HostRuntime) -> Result<(), Fail> {
 
 #[test]
 fn shows_the_commands(rt: HostRuntime) -> Result<(), Fail> {
-    let ended = run(rt.alloc(), "--help", Scene::of("", ""))?;
+    let ended = run(&rt, rt.alloc(), "--help", Scene::of("", ""))?;
     assert_eq!(rt; ended.status, 0);
-    for command in ["\n  prove ", "\n  check ", "\n  replay "] {
+    for command in ["\n  prove ", "\n  check ", "\n  replay ", "\n  encode "] {
         assert!(rt; str::from_utf8(&ended.out)?.contains(command), "{command}");
     }
     Ok(())

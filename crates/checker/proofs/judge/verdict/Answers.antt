@@ -1,5 +1,13 @@
-use Rattle.checker.proofs.OneVerdicts.{deadlock_or_memory}
+use Rattle.checker.specs.declared.reason.Verdict.TheVariants.{NoDeadlock, Deadlock}
+use Rattle.checker.proofs.Headlines.{no_deadlock}
+use Rattle.checker.proofs.OneVerdicts.{right_or_memory}
 use Rattle.checker.proofs.judge.verdict.Goals as goal
 
+pub returns-clause-no_deadlock : goal.returns-clause-no_deadlock
+returns-clause-no_deadlock g c = no_deadlock _ _ c.judged_at_once.result c.judged_at_once.ensures
+
+pub returns-clause-no_deadlock_only : goal.returns-clause-no_deadlock_only
+returns-clause-no_deadlock_only g c = λ refutes. right_or_memory _ _ c.judged_at_once.result NoDeadlock c.judged_at_once.ensures refutes (λ e. cc)
+
 pub returns-clause-deadlock_only : goal.returns-clause-deadlock_only
-returns-clause-deadlock_only c = λ shows. deadlock_or_memory _ _ c.judged.result c.judged.ensures shows
+returns-clause-deadlock_only g c = λ shows. right_or_memory _ _ c.judged_at_once.result Deadlock c.judged_at_once.ensures shows (λ e. cc)

@@ -15,8 +15,8 @@ unreachable-requires c =
     let wrong = c.in-Err.ensures.when.1 inside in
     cc
 
-pub returns-clause-made : goal.returns-clause-made
-returns-clause-made c =
+pub returns : goal.returns
+returns c =
     let p = c.args.source.now in
     let count = c.count-count.ensures.same ∙ ap (λ z. length (meanings z)) c.requires.one in
     c.in-Ok.ensures.made ∙ (ap (λ n. record { variables = n; clauses = c.args.clauses.items }) count ∙ ap (λ l. record { variables = length (meanings p); clauses = l }) c.requires.clauses)

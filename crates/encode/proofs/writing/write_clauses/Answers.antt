@@ -1,4 +1,5 @@
 use Rattle.std.proofs.Common.{Err, ◌++◌, sym, ap, ◌∙◌, subst}
+use Rattle.std.proofs.lemmas.Result.{err_from_is_err_and}
 use Rattle.std.specs.List.{flat_map}
 use Rattle.std.proofs.lemmas.List.Folds.{flat_map-map}
 use Rattle.formulas.specs.Numbering.{normal_form}
@@ -6,13 +7,14 @@ use Rattle.encode.specs.Adding.{Adds}
 use Rattle.encode.proofs.Adds.{adds_refused, adds_done}
 use Rattle.encode.proofs.writing.write_clauses.Goals as goal
 
-pub returns-in-Err : goal.returns-in-Err
-returns-in-Err c =
+pub returns-in_err-write_clause : goal.returns-in_err-write_clause
+returns-in_err-write_clause c =
+    let failed = err_from_is_err_and c.from_residual.result c.from_residual.ensures.1 in
     let p = c.args.variables.now in
     let items = c.clauses-clause-items.result.now in
     let whole = sym (flat_map-map (normal_form p) (λ v. v.items) items) ∙ ap (flat_map (normal_form p)) c.clauses-clause-items.ensures in
-    subst (λ l. Adds c.args.draft.now l (Err c.in-Err.halt) c.write_clause.new.draft) whole
-    (adds_refused (λ v. normal_form p v.items) items c.loop-clause.clause-index _ c.clause-item.result _ c.args.draft.now c.loop-clause.draft c.write_clause.new.draft c.write_clause.new.draft c.in-Err.halt c.loop-clause-test.true c.clause-item.is (ap (normal_form p) c.as_slice.ensures.value) c.loop-clause.invariant c.in-Err.ensures)
+    rw (failed.1, failed.2) (subst (λ l. Adds c.args.draft.now l (Err c.in_err-write_clause.field-0.0) c.write_clause.new.draft) whole
+    (adds_refused (λ v. normal_form p v.items) items c.loop-clause.clause-index _ c.clause-item.result _ c.args.draft.now c.loop-clause.draft c.write_clause.new.draft c.write_clause.new.draft c.in_err-write_clause.field-0.0 c.loop-clause-test.true c.clause-item.is (ap (normal_form p) c.as_slice.ensures.value) c.loop-clause.invariant c.in_err-write_clause.ensures))
 
 pub returns : goal.returns
 returns c =

@@ -1,5 +1,5 @@
 -- The bytes of both files are those that were read, and the text is that of the replay.
-use Rattle.std.proofs.Common.{◌≡◌, ℕ, List, refl, sym, ap, subst}
+use Rattle.std.proofs.Common.{◌≡◌, ℕ, List, refl, sym, subst}
 use Rattle.std.specs.Prelude.{Option}
 use Rattle.files.specs.Contents.{AreAll}
 use Rattle.prover.specs.declared.steps.Replayed.TheVariants as replays

@@ -33,15 +33,16 @@ returns-in_ok-make-in-prove c =
       );
     }
 
-pub returns-in_ok-get_str-in-check : goal.returns-in_ok-get_str-in-check
-returns-in_ok-get_str-in-check c =
+pub returns-in_ok-make-in-check : goal.returns-in_ok-make-in-check
+returns-in_ok-make-in-check c =
     let m = c.args.subcommand.1.now in
     record {
       command = search rules;
       values = (
         given_by_rows m _ c.get_str.result c.get_str.ensures ∙ ap (option_map (λ s. s.now)) c.in_ok-program.was,
-        given_by_rows m _ c.get_str-in-check.result c.get_str-in-check.ensures ∙ ap (option_map (λ s. s.now)) c.in_ok-get_str-in-check.was,
+        given_by_rows m _ c.get_str-in-check.result c.get_str-in-check.ensures ∙ ap (option_map (λ s. s.now)) c.in_ok-evidence-in-check.was,
         flag_by_rows m _ c.get_flag-in-check.result c.get_flag-in-check.ensures.value c.get_flag-in-check.ensures.other,
+        number_of _ (λ t r. ParsesUnsigned 32 10 t r × ExplainsUnsignedError 10 t r × HasUnsignedDigitsIfOk t r) m (codes "pieces") _ _ _ (λ t r parsed. parsed.0) (sym c.in_ok-make-in-check.ensures.given) c.in_ok-pieces-in-check.was c.get_one-in-check.ensures.none c.get_one-in-check.ensures.value,
       );
     }
 
@@ -54,4 +55,12 @@ returns-in_ok-get_str-in-replay c =
         given_by_rows m _ c.get_str.result c.get_str.ensures ∙ ap (option_map (λ s. s.now)) c.in_ok-program.was,
         given_by_rows m _ c.get_str-in-replay.result c.get_str-in-replay.ensures ∙ ap (option_map (λ s. s.now)) c.in_ok-get_str-in-replay.was,
       );
+    }
+
+pub returns-in-encode : goal.returns-in-encode
+returns-in-encode c =
+    let m = c.args.subcommand.1.now in
+    record {
+      command = search rules;
+      values = given_by_rows m _ c.get_str.result c.get_str.ensures ∙ ap (option_map (λ s. s.now)) c.in_ok-program.was;
     }

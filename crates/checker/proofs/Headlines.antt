@@ -1,0 +1,34 @@
+-- A program that is refuted has no run that ends stuck.
+use Rattle.std.proofs.Common.{◌≡◌, ◌⊎◌, ℕ, List, sym, subst}
+use Rattle.callorder.specs.Programs.{MpiProgram, IsProgram}
+use Rattle.callorder.specs.Resolving.{IsTextOf}
+use Rattle.callorder.proofs.FirstFaults.{one_program_of_bytes}
+use Rattle.callorder.proofs.ProgramsMade.{expansion_is_program}
+use Rattle.formulas.specs.Numbering.{formula_of}
+use Rattle.semantics.specs.Machine.{IsStuckRun}
+use Rattle.refutations.proofs.Covers.{accepted-refute}
+use Rattle.worlds.proofs.Assignments.{unsatisfiable_have_no_stuck_run}
+use Rattle.checker.specs.declared.reason.Verdict.{Verdict}
+use Rattle.checker.specs.declared.reason.Verdict.TheVariants as verdicts
+use Rattle.checker.specs.Verdicts.{IsNeverStuck, Judges, NeverBoth, RefutedAreNeverStuck}
+
+is_program : (program : List ℕ) (p : MpiProgram) → IsTextOf program p → IsProgram p
+is_program program p of =
+    subst IsProgram (sym of.is_program.is) (expansion_is_program of.text of.is_text.fits.some of.is_text.fits.ranks of.is_program.no_fault)
+
+pub refuted_are_never_stuck : RefutedAreNeverStuck
+refuted_are_never_stuck program evidence r = record {
+  p = r.p;
+  text = r.text;
+  never = unsatisfiable_have_no_stuck_run r.p (is_program program r.p r.text) (accepted-refute (formula_of r.p) r.claim.lines r.claim.nodes r.holds.accepted);
+}
+
+pub never_both : NeverBoth
+never_both program evidence other refutes shows =
+    let never = refuted_are_never_stuck program evidence refutes in
+    let same : shows.p ≡ never.p = one_program_of_bytes program shows.p never.p shows.text never.text in
+    never.never shows.steps (subst (λ (p : MpiProgram). IsStuckRun p shows.steps) same shows.stuck)
+
+-- the headline's first half, of any right verdict
+pub no_deadlock : (program evidence : List ℕ) (v : Verdict) → Judges program evidence v → v ≡ verdicts.NoDeadlock → IsNeverStuck program
+no_deadlock program evidence v judges e = refuted_are_never_stuck program evidence (subst (Judges program evidence) e judges)

@@ -1,0 +1,34 @@
+//! The text of a program's formula.
+
+ghost use Rattle.std.specs.Prelude.{IfOk, IfErr};
+ghost use Rattle.prover.specs.Answers.{HasFormulaText, HasNoFormulaText};
+
+use checker::{Reason, formula_of, program_of};
+use prooflog::write_formula;
+use std::alloc::Global;
+use std::thread::Threads;
+
+/// The text of the formula of a program's text: the line `formula V C`, with the numbers of its variables and clauses,
+/// and a line for each clause, the word `clause` and its literals. A program's text is refused as `verdict` refuses it;
+/// then a program with more than 8,192 fitting pairs, more than 1,024 events or more than 4,000,000 clauses is.
+pub fn formula_text(
+    rt: &(impl Threads + Sync),
+    alloc: Global,
+    program: &[u8],
+) -> Result<Vec<u8>, Reason>
+    ensures text { IfOk result (λ text. HasFormulaText program.now text.items) }
+    ensures reason { IfErr result (λ reason. HasNoFormulaText program.now reason) }
+{
+    let program = match program_of(alloc, program) {
+        Ok(program) => program,
+        Err(reason) => return Err(reason),
+    };
+    let encoded = match formula_of(rt, alloc, program) {
+        Ok(encoded) => encoded,
+        Err(reason) => return Err(reason),
+    };
+    match write_formula(alloc, encoded.formula()) {
+        Ok(text) => Ok(text),
+        Err(_) => Err(Reason::Memory),
+    }
+}

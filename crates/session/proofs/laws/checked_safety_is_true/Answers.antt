@@ -1,0 +1,5 @@
+use Rattle.session.proofs.RunLaws.{checked_never}
+use Rattle.session.proofs.laws.checked_safety_is_true.Goals as goal
+
+pub returns : goal.returns
+returns c = checked_never

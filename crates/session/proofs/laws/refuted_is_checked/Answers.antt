@@ -1,0 +1,5 @@
+use Rattle.session.proofs.RunLaws.{refuted_checked}
+use Rattle.session.proofs.laws.refuted_is_checked.Goals as goal
+
+pub returns : goal.returns
+returns c = refuted_checked

@@ -1,0 +1,65 @@
+-- A command ends by its page, by want of memory or by a file that failed.
+use Rattle.std.proofs.Common.{◌≡◌, IfErr, IfOk, ℕ, List, Bool, Result, Ok, Err, inl, inr, option_map}
+use Rattle.std.specs.Prelude.{Option}
+use Rattle.session.specs.Endings.{Ends, Finishes}
+use Rattle.session.specs.Pages.{IsChecked, IsEither, IsEncoded, IsProveFile, IsProved, IsReplayed, StopsBy}
+use Rattle.session.specs.declared.commands.Stop.{Stop}
+use Rattle.session.specs.declared.commands.Stop.TheVariants as stop
+use Rattle.session.specs.declared.page.Page.{Page}
+use Rattle.session.specs.declared.page.Want.{Want}
+use Rattle.session.proofs.run.answer.Goals as goal
+
+ended : (IsPage : List ℕ → ℕ → Type 0) (IsFile : List ℕ → Type 0) (page : Result Page Stop) (w : Want) (json : Bool)
+    (before after : List ℕ → Option (List ℕ)) (old new told_old told_new : Option (List ℕ)) (status : ℕ)
+    → IfOk page (λ p. IsPage p.text.items p.status) → IfErr page (StopsBy IsFile before after)
+    → Finishes page w json old new told_old told_new status → Ends IsPage IsFile w json before after old new told_old told_new status
+ended IsPage IsFile (Ok page) w json before after old new told_old told_new status is stops ends = inl (page.text.items, page.status, is, ends)
+ended IsPage IsFile (Err stop.Memory) w json before after old new told_old told_new status is stops ends = inr (inl (stops, ends))
+ended IsPage IsFile (Err (stop.File path)) w json before after old new told_old told_new status is stops ends = inr (inr (path.now, stops, ends))
+
+pub returns-in-Prove : goal.returns-in-Prove
+returns-in-Prove g c =
+    let before = g.F.FileSet.held c.args.files.now in
+    let after = g.F.FileSet.held c.prove_page-page.new.files in
+    let out = option_map (λ path. path.now) c.in-Prove.evidence in
+    rw c.in-Prove.is (
+      c.prove_page-page.ensures.others,
+      ended (IsProved g.F.FileSet.tells_written before after c.in-Prove.program.now out c.in-Prove.json)
+          (IsProveFile c.in-Prove.program.now out before after) _ _ _ before after _ _ _ _ _
+          c.prove_page-page.ensures.page c.prove_page-page.ensures.stop c.finish.ensures,
+    )
+
+pub returns-in-Check : goal.returns-in-Check
+returns-in-Check g c =
+    let before = g.F.FileSet.held c.args.files.now in
+    let program = c.in-Check.program.now in
+    let evidence = c.in-Check.evidence.now in
+    rw c.in-Check.is (
+      c.check_page-page.ensures.same,
+      ended (IsChecked (before program) (before evidence) c.in-Check.json) (IsEither program evidence) _ _ _
+          before (g.F.FileSet.held c.check_page-page.new.files) _ _ _ _ _
+          c.check_page-page.ensures.page c.check_page-page.ensures.stop c.finish-in-Check.ensures,
+    )
+
+pub returns-in-Encode : goal.returns-in-Encode
+returns-in-Encode g c =
+    let before = g.F.FileSet.held c.args.files.now in
+    let program = c.in-Encode.program.now in
+    rw c.in-Encode.is (
+      c.encode_page-page.ensures.same,
+      ended (IsEncoded (before program)) (λ path. path ≡ program) _ _ _
+          before (g.F.FileSet.held c.encode_page-page.new.files) _ _ _ _ _
+          c.encode_page-page.ensures.page c.encode_page-page.ensures.stop c.finish-in-Encode.ensures,
+    )
+
+pub returns-in-Replay : goal.returns-in-Replay
+returns-in-Replay g c =
+    let before = g.F.FileSet.held c.args.files.now in
+    let program = c.in-Replay.program.now in
+    let evidence = c.in-Replay.evidence.now in
+    rw c.in-Replay.is (
+      c.replay_page-page.ensures.same,
+      ended (IsReplayed (before program) (before evidence)) (IsEither program evidence) _ _ _
+          before (g.F.FileSet.held c.replay_page-page.new.files) _ _ _ _ _
+          c.replay_page-page.ensures.page c.replay_page-page.ensures.stop c.finish-in-Replay.ensures,
+    )
