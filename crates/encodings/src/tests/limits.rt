@@ -45,12 +45,3 @@ fn too_many_clauses(rt: HostRuntime) -> Result<(), Fail> {
     assert_eq!(rt; told.as_str(), "encode too many clauses");
     Ok(())
 }
-
-#[test]
-fn far_too_many_clauses(rt: HostRuntime) -> Result<(), Fail> {
-    let alloc = rt.alloc();
-    let program = own_messages(alloc, 128, 64)?;
-    let told = counts_of(&rt, alloc, &program)?;
-    assert_eq!(rt; told.as_str(), "encode too many clauses");
-    Ok(())
-}

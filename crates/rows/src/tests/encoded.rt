@@ -117,12 +117,6 @@ check program evidence | 1025 | 0 | refused rank 0 place 1025 too many calls
 encode program | 91 | 91 | refused pairs too many
 check program evidence | 91 | 91 | refused pairs too many";
 
-/// 128 and 64 make as many fitting pairs as there may be, 8,192.
-const DENSE_ENCODED: &str = "encode program | 128 | 64 | refused encode too many clauses";
-
-/// The same program, checked.
-const DENSE_CHECKED: &str = "check program evidence | 128 | 64 | refused encode too many clauses";
-
 /// Asserts that a row's words refuse its program with its line.
 fn assert_has_no_formula(
     rt: &(impl Abort + Threads + Sync),
@@ -146,14 +140,18 @@ fn keeps_the_limits_of_formulas(rt: HostRuntime) -> Result<(), Fail> {
     Ok(())
 }
 
+/// Two ranks, one of which sends 52 messages that the other receives: the formula has 4,078,114 clauses.
 #[test]
-fn encodes_at_most_four_million_clauses(rt: HostRuntime) -> Result<(), Fail> {
-    assert_has_no_formula(&rt, rt.alloc(), DENSE_ENCODED)
-}
-
-#[test]
-fn checks_at_most_four_million_clauses(rt: HostRuntime) -> Result<(), Fail> {
-    assert_has_no_formula(&rt, rt.alloc(), DENSE_CHECKED)
+fn keeps_the_limit_of_clauses(rt: HostRuntime) -> Result<(), Fail> {
+    let alloc = rt.alloc();
+    let sends = "send 1 1/".repeat(alloc, 52)?;
+    let receives = "recv 0 1/".repeat(alloc, 52)?;
+    let program = format!(in alloc; "ranks 2/policy any/rank 0/{sends}rank 1/{receives}")?;
+    let program = lines(alloc, &program)?;
+    let evidence = lines(alloc, EMPTY)?;
+    let scene = Scene::of(&program, &evidence);
+    let told = "refused encode too many clauses";
+    assert_answer(&rt, alloc, "check program evidence", scene, "3", told)
 }
 
 /// Evidence for a program with too many fitting pairs, with what `check` answers: a schedule needs no formula, and a fault
