@@ -7,14 +7,14 @@ use Rattle.candidates.proofs.Ranges.{flat_map_range_more}
 use Rattle.formulas.specs.declared.facts.SignedMeaning.{SignedMeaning}
 use Rattle.formulas.specs.declared.facts.Meaning.TheVariants.{ClockBit as clock_bit, SameBits as same_bits}
 use Rattle.formulas.specs.Orders.{so, not_so, bits_agree}
-use Rattle.encode.proofs.FactSlots.{test_true}
+use Rattle.tables.proofs.FactSlots.{test_true}
 use Rattle.std.proofs.lemmas.List.Concat.{flat_map-append}
 use Rattle.std.proofs.lemmas.List.Folds.{flat_map-map}
 use Rattle.clauses.specs.Clauses.{Literal}
 use Rattle.encode.specs.declared.draft.Halt.{Halt}
 use Rattle.encode.specs.declared.draft.Halt.TheVariants.{Memory, Full}
 use Rattle.encode.specs.Adding.{Adds}
-use Rattle.encode.proofs.Marking.{front}
+use Rattle.families.proofs.Marking.{front}
 
 -- one more along a list
 pub adds_step : {A : Type 0} (f : A → List (List Literal)) (xs : List A) (i : ℕ) (d x : A) (ys old mid new : List (List Literal)) → i < length xs → x ≡ get_or xs i d → ys ≡ f x → mid ≡ old ++ flat_map f (take i xs) → new ≡ mid ++ ys → new ≡ old ++ flat_map f (take (i + 1) xs)

@@ -8,14 +8,15 @@ use Rattle.clauses.specs.Clauses.{Literal}
 use Rattle.formulas.specs.Families.{families_of_order, families_of_end, no_pair_waits, no_issue_waits, some_rank_is_unfinished, sends_are_buffered_as_allowed}
 use Rattle.formulas.specs.Orders.{clock_size, used_pairs, pair_clauses}
 use Rattle.formulas.specs.Numbering.{normal_form, numbered, numbered_order, formula_of}
-use Rattle.encode.specs.declared.families.Block.{Block}
+use Rattle.families.specs.declared.families.Block.{Block}
 use Rattle.encode.specs.declared.draft.Halt.{Halt}
 use Rattle.encode.specs.declared.draft.Halt.TheVariants.{Memory, Full}
 use Rattle.encode.specs.Adding.{Adds}
-use Rattle.encode.specs.declared.families.Family.TheVariants.{Finished, SomeUnfinished}
-use Rattle.encode.specs.Blocks.{blocks_of, numbered_block, order_families, end_families, policy_families}
+use Rattle.families.specs.declared.families.Family.TheVariants.{Finished, SomeUnfinished}
+use Rattle.families.specs.Blocks.{blocks_of, order_families, end_families, policy_families}
+use Rattle.encode.specs.NumberedBlocks.{numbered_block}
 use Rattle.encode.specs.Ordering.{numbered_signed, numbered_pair}
-use Rattle.encode.proofs.FamilyBlocks.{flat_flat, family_of, of_blocks, orders_are, ends_are, policies_are, last_two}
+use Rattle.families.proofs.FamilyBlocks.{flat_flat, family_of, of_blocks, orders_are, ends_are, policies_are, last_two}
 
 order_part : (p : MpiProgram) → flat_map (numbered_block p p) (flat_map (blocks_of p) order_families) ≡ flat_map (numbered p) (families_of_order p)
 order_part p = of_blocks p (normal_form p) order_families (families_of_order p) (orders_are p)

@@ -1,15 +1,3 @@
-pub mod Adding
 pub mod Adds
-pub mod BitsFor
-pub mod EventSlots
-pub mod FactSlots
-pub mod FamilyBlocks
-pub mod Fetches
-pub mod Limits
-pub mod Literals
-pub mod Marking
-pub mod MeaningPlaces
-pub mod Positions
-pub mod Rows
-pub mod VariableNumbers
 pub mod FormulaParts
+pub mod Literals

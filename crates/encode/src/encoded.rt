@@ -5,12 +5,11 @@ ghost use Rattle.candidates.specs.Pairs.{pairs_of};
 ghost use Rattle.nonovertake.specs.Earlier.{earlier_of};
 ghost use Rattle.formulas.specs.Families.{events as events_of};
 ghost use Rattle.formulas.specs.Numbering.{formula_of};
-ghost use Rattle.encode.specs.Meanings.{meaning_of};
+ghost use Rattle.tables.specs.Meanings.{meaning_of};
 ghost use Rattle.encode.specs.declared.fault.EncodeFault.TheVariants.{TooManyEvents, TooManyClauses};
 
 use crate::fault::EncodeFault;
 use crate::making::{Made, make};
-use crate::meanings::Meanings;
 use callorder::Program;
 use candidates::Pairs;
 use clauses::Formula;
@@ -18,6 +17,7 @@ use formulas::Meaning;
 use nonovertake::Earlier;
 use std::alloc::Global;
 use std::marker::Model;
+use tables::Meanings;
 
 /// A program with its pairs and its formula. It has at most 1,024 events, and the formula at most 4,000,000 clauses.
 #[derive(Drop)]

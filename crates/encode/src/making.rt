@@ -8,24 +8,20 @@ ghost use Rattle.formulas.specs.Families.{events as events_of, is_standard, last
 ghost use Rattle.formulas.specs.declared.facts.Fact.TheVariants.{Issued as issued, Buffered as buffered, Matched as matched, Unfinished as unfinished};
 ghost use Rattle.formulas.specs.Numbering.{facts as facts_of, formula_of, meanings as meanings_of};
 ghost use Rattle.formulas.specs.Orders.{bits_for, clock_size, used_pairs};
-ghost use Rattle.encode.specs.Blocks.{blocks_of, order_families, end_families, policy_families};
+ghost use Rattle.families.specs.Blocks.{blocks_of, order_families, end_families, policy_families};
 ghost use Rattle.encode.specs.declared.fault.EncodeFault.TheVariants.{TooManyEvents, TooManyClauses};
 
 use crate::draft::Halt;
-use crate::events::{Events, count};
-use crate::families::{Block, Family, blocks_of};
 use crate::fault::EncodeFault;
-use crate::meanings::Meanings;
-use crate::source::Source;
-use crate::used::used_pairs;
-use crate::variables::Variables;
-use crate::{calls, whole};
+use crate::whole;
 use callorder::Program;
 use candidates::Pairs;
 use clauses::{Clause, Formula};
+use families::{Block, Family, blocks_of, used_pairs};
 use formulas::Fact;
 use nonovertake::Earlier;
 use std::alloc::{AllocError, Global};
+use tables::{Events, Meanings, Source, Variables, count, is_last, is_standard, rank_of};
 
 /// How many events a program may have.
 pub const MOST_EVENTS: usize = 1024;
@@ -49,7 +45,7 @@ fn buffered(alloc: Global, program: &Program) -> Result<Vec<Fact>, AllocError>
     ensures { IfOk result (λ facts. facts.items ≡ map buffered (standard_sends program.now)) }
 {
     (0..program.calls().len())
-        .filter(|call| calls::is_standard(program, *call))
+        .filter(|call| is_standard(program, *call))
         .map(|call| Fact::Buffered(call))
         .collect(alloc)
 }
@@ -68,8 +64,8 @@ fn unfinished(alloc: Global, program: &Program) -> Result<Vec<Fact>, AllocError>
     ensures { IfOk result (λ facts. facts.items ≡ map (λ c. unfinished (rank_of program.now c)) (last_calls program.now)) }
 {
     (0..program.calls().len())
-        .filter(|call| calls::is_last(program, *call))
-        .map(|call| Fact::Unfinished(calls::rank_of(program, call)))
+        .filter(|call| is_last(program, *call))
+        .map(|call| Fact::Unfinished(rank_of(program, call)))
         .collect(alloc)
 }
 

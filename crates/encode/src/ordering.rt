@@ -8,10 +8,10 @@ ghost use Rattle.encode.specs.Adding.{Adds};
 ghost use Rattle.encode.specs.Ordering.{numbered_signed, numbered_pair};
 
 use crate::draft::{Draft, Halt};
-use crate::variables::Variables;
 use clauses::Lit;
 use formulas::{Meaning, SignedMeaning};
 use std::alloc::{AllocError, Global};
+use tables::Variables;
 
 fn so(meaning: Meaning) -> SignedMeaning
     ensures { result ≡ so meaning }

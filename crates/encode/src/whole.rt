@@ -5,18 +5,18 @@ ghost use Rattle.std.specs.List.{flat_map};
 ghost use Rattle.formulas.specs.Orders.{clock_size, used_pairs};
 ghost use Rattle.formulas.specs.Numbering.{formula_of};
 ghost use Rattle.encode.specs.Adding.{Adds};
-ghost use Rattle.encode.specs.Blocks.{blocks_of, numbered_block, order_families, end_families, policy_families};
+ghost use Rattle.families.specs.Blocks.{blocks_of, order_families, end_families, policy_families};
+ghost use Rattle.encode.specs.NumberedBlocks.{numbered_block};
 ghost use Rattle.encode.specs.Ordering.{numbered_pair};
 ghost use Rattle.encode.specs.declared.draft.Halt.TheVariants.{Full};
 
 use crate::draft::{Draft, Halt};
-use crate::families::Block;
 use crate::ordering::write_order;
-use crate::source::Source;
-use crate::variables::Variables;
 use crate::writing::write_blocks;
 use clauses::Clause;
+use families::Block;
 use std::alloc::Global;
+use tables::{Source, Variables};
 
 /// Adds the clauses of the blocks, with those on the order of events before those of the policy.
 fn write_all(

@@ -4,16 +4,15 @@ ghost use Rattle.std.specs.Prelude.{◌≡◌, ◌∷◌, [], ◌++◌, OnOk};
 ghost use Rattle.std.specs.List.{cons_option, filter_map, flat_map};
 ghost use Rattle.formulas.specs.Numbering.{literal_of, normal_form, numbered};
 ghost use Rattle.encode.specs.Adding.{Adds};
-ghost use Rattle.encode.specs.Blocks.{clauses_of, numbered_block};
+ghost use Rattle.families.specs.Blocks.{clauses_of};
+ghost use Rattle.encode.specs.NumberedBlocks.{numbered_block};
 
 use crate::draft::{Draft, Halt};
-use crate::families::{Block, clauses_of};
-use crate::source::Source;
-use crate::symbolic::Symbolic;
-use crate::variables::Variables;
 use clauses::Lit;
+use families::{Block, Symbolic, clauses_of};
 use formulas::Statement;
 use std::alloc::{AllocError, Global};
+use tables::{Source, Variables};
 
 fn push_literal(literals: &mut Vec<Lit>, literal: Option<Lit>) -> Result<(), AllocError>
     ensures { OnOk result (literals.new.items ≡ literals.old.items ++ cons_option literal []) }

@@ -1,5 +1,5 @@
 use Rattle.std.proofs.Common.{ap, ◌∙◌, arith}
-use Rattle.encode.proofs.BitsFor.{bits_found}
+use Rattle.tables.proofs.BitsFor.{bits_found}
 use Rattle.encode.proofs.making.bits_for.Goals as goal
 
 pub returns-then-power-most : goal.returns-then-power-most

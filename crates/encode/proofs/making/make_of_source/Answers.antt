@@ -2,8 +2,8 @@ use Rattle.std.proofs.Common.{length, sym, ap, ◌∙◌}
 use Rattle.formulas.specs.Families.{events}
 use Rattle.formulas.specs.Numbering.{facts}
 use Rattle.formulas.specs.Orders.{bits_for, used_pairs}
-use Rattle.encode.proofs.Limits.{small_from}
-use Rattle.encode.proofs.MeaningPlaces.{some_bits, meanings_are}
+use Rattle.tables.proofs.Limits.{small_from}
+use Rattle.tables.proofs.MeaningPlaces.{some_bits, meanings_are}
 use Rattle.encode.proofs.making.make_of_source.Goals as goal
 
 pub make-requires-clause-small : goal.make-requires-clause-small

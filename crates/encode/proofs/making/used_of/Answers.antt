@@ -2,8 +2,8 @@ use Rattle.std.proofs.Common.{length, ap, ◌∙◌}
 use Rattle.std.specs.List.{filter, flat_map}
 use Rattle.formulas.specs.Families.{events}
 use Rattle.formulas.specs.Orders.{event_pairs, is_among}
-use Rattle.encode.specs.Marks.{orders_of}
-use Rattle.encode.proofs.FamilyBlocks.{stated_by_blocks}
+use Rattle.families.specs.Marks.{orders_of}
+use Rattle.families.proofs.FamilyBlocks.{stated_by_blocks}
 use Rattle.encode.proofs.making.used_of.Goals as goal
 
 pub returns : goal.returns

@@ -1,6 +1,6 @@
 use Rattle.std.proofs.Common.{◌≡◌, ◌<◌, ◌++◌, [], List, length, ap, ◌∙◌, subst}
 use Rattle.std.specs.List.{flat_map}
-use Rattle.encode.specs.Blocks.{numbered_block}
+use Rattle.encode.specs.NumberedBlocks.{numbered_block}
 use Rattle.encode.specs.Ordering.{numbered_pair}
 use Rattle.encode.proofs.FormulaParts.{whole_formula, full_from}
 use Rattle.encode.proofs.whole.clauses.Goals as goal

@@ -1,6 +1,6 @@
 use Rattle.std.proofs.Common.{refl}
 use Rattle.std.proofs.lemmas.Result.{err_from_is_err_and}
-use Rattle.encode.specs.Blocks.{numbered_block}
+use Rattle.encode.specs.NumberedBlocks.{numbered_block}
 use Rattle.encode.proofs.Adds.{adds_refused}
 use Rattle.encode.proofs.writing.write_blocks.Goals as goal
 

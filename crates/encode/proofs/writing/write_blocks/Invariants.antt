@@ -1,6 +1,6 @@
 use Rattle.std.proofs.Common.{◌≡◌, ◌++◌, map, take}
 use Rattle.std.specs.List.{filter_map, flat_map, range_with_len}
-use Rattle.encode.specs.Blocks.{numbered_block}
+use Rattle.encode.specs.NumberedBlocks.{numbered_block}
 use Rattle.encode.proofs.writing.write_blocks.Given as goal
 
 abbrev pub invariant-loop-block : goal.invariant-loop-block

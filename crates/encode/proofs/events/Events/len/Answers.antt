@@ -1,8 +1,0 @@
-use Rattle.std.proofs.Common.{ap, ◌∙◌, length}
-use Rattle.formulas.specs.Families.{events}
-use Rattle.encode.proofs.EventSlots.{slots_count}
-use Rattle.encode.proofs.events.Events.len.Goals as goal
-
-pub returns : goal.returns
-returns c =
-    c.len.ensures ∙ (ap length c.self.invariant ∙ (slots_count c.self.inside.program.now ∙ ap (λ p. length (events p)) c.self.view_is))

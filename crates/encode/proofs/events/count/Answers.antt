@@ -1,7 +1,0 @@
-use Rattle.std.proofs.Common.{ap, length, arith}
-use Rattle.encode.proofs.EventSlots.{events_count}
-use Rattle.encode.proofs.events.count.Goals as goal
-
-pub returns : goal.returns
-returns c =
-    omega (arith, events_count c.args.program.now, c.count_takers.ensures.same, ap length c.calls.ensures.value)

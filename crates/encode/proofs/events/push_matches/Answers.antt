@@ -1,8 +1,0 @@
-use Rattle.std.proofs.Common.{◌+◌}
-use Rattle.formulas.specs.Families.{is_taker}
-use Rattle.encode.proofs.Adding.{kept_more}
-use Rattle.encode.proofs.events.push_matches.Goals as goal
-
-pub loop-taker-preserved : goal.loop-taker-preserved
-loop-taker-preserved c =
-    kept_more (λ t. c.args.calls + t) (is_taker c.args.program.now) c.loop-taker.taker c.args.slots.now.items c.loop-taker.slots.items _ c.loop-taker.invariant c.in_ok-push_match.ensures

@@ -1,8 +1,0 @@
-use Rattle.std.proofs.Common.{arith}
-use Rattle.formulas.specs.Numbering.{meanings, is_same_meaning}
-use Rattle.encode.proofs.VariableNumbers.{position_most}
-use Rattle.encode.proofs.variables.Variables.place_of.Goals as goal
-
-pub returns-clause-few : goal.returns-clause-few
-returns-clause-few c =
-    omega (arith, c.place_in_all.ensures, position_most (is_same_meaning c.args.meaning.now) (meanings c.args.self.now), c.count-count.ensures.same, c.count-count.ensures.few)

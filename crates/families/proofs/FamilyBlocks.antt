@@ -1,0 +1,121 @@
+-- The blocks of families have the clauses of the families.
+use Rattle.std.proofs.Common.{◌≡◌, ℕ, zero, suc, ◌+◌, ◌<◌, ◌≤◌, Bool, true, false, cond, if◌then◌else◌, not, List, [], ◌∷◌, ◌++◌, Err, map, length, get_or, refl, sym, ap, ◌∙◌, subst, arith}
+use Rattle.std.specs.List.{filter, flat_map, range_with_len}
+use Rattle.std.proofs.lemmas.List.{append_assoc, append-nil}
+use Rattle.std.proofs.lemmas.List.Concat.{flat_map-append}
+use Rattle.std.proofs.lemmas.List.Folds.{flat_map-map}
+use Rattle.callorder.specs.Programs.{MpiProgram, are_of_one_rank}
+use Rattle.candidates.specs.Pairs.{places, pairs_of, pair_at}
+use Rattle.nonovertake.specs.Earlier.{earlier_sends, earlier_takers}
+use Rattle.formulas.specs.declared.facts.Fact.TheVariants.{Unfinished as unfinished}
+use Rattle.formulas.specs.declared.facts.Statement.TheVariants.{Fails as is_false}
+use Rattle.formulas.specs.Families.{SymbolicClause, calls_are_issued_in_order, calls_are_issued_after_returns, matches_come_after_issues, calls_are_matched_once, sends_do_not_overtake, takers_do_not_overtake, no_pair_waits, no_issue_waits, some_rank_is_unfinished, sends_are_buffered_as_allowed, issued_before_match, without_later_pairs, send_is_matched_before, taker_is_matched_before, pair_does_not_wait, where_returned, rank_of, is_standard, buffered_under, families_of_order}
+use Rattle.formulas.specs.Orders.{places_in, stated_orders}
+use Rattle.families.specs.declared.families.Block.{Block}
+use Rattle.families.specs.declared.families.Family.{Family}
+use Rattle.families.specs.declared.families.Family.TheVariants.{IssueOrder, ReturnOrder, MatchOrder, MatchedOnce, SendOrder, TakerOrder, NoPairWaits, NoIssueWaits, Finished, SomeUnfinished, Buffering}
+use Rattle.families.specs.Blocks.{order_families, end_families, policy_families, finished_after, buffered_as_allowed, clauses_at, clauses_of, block, blocks_of, size_of}
+
+-- ---- lists
+
+-- a list by its places
+range_after : (a n : ℕ) → range_with_len (a + 1) n ≡ map (λ k. suc k) (range_with_len a n)
+range_after a zero = refl
+range_after a (suc n) =
+    let e : a + 1 ≡ suc a = omega arith in
+    ap (λ l. (a + 1) ∷ l) (range_after (a + 1) n) ∙ ap (λ (z : ℕ). z ∷ map (λ k. suc k) (range_with_len (a + 1) n)) e
+
+by_places : {X Y : Type 0} (h : X → List Y) (xs : List X) (d : X) → flat_map (λ k. h (get_or xs k d)) (range_with_len 0 (length xs)) ≡ flat_map h xs
+by_places h [] d = refl
+by_places h (x ∷ xs) d =
+    ap (λ l. h x ++ flat_map (λ k. h (get_or (x ∷ xs) k d)) l) (range_after 0 (length xs)) ∙
+    (ap (λ l. h x ++ l) (flat_map-map (λ k. h (get_or (x ∷ xs) k d)) (λ k. suc k) (range_with_len 0 (length xs))) ∙
+    ap (λ l. h x ++ l) (by_places h xs d))
+
+filter_step : {X Y : Type 0} (f : X → List Y) (x : X) (rest : List X) (b : Bool) (more : List Y) → flat_map f rest ≡ more → flat_map f (cond b (x ∷ rest) rest) ≡ (if b then f x else []) ++ more
+filter_step f x rest true more e = ap (λ l. f x ++ l) e
+filter_step f x rest false more e = e
+
+of_filter : {X Y : Type 0} (f : X → List Y) (q : X → Bool) (xs : List X) → flat_map f (filter q xs) ≡ flat_map (λ x. if q x then f x else []) xs
+of_filter f q [] = refl
+of_filter f q (x ∷ xs) = filter_step f x (filter q xs) (q x) (flat_map (λ y. if q y then f y else []) xs) (of_filter f q xs)
+
+pub flat_flat : {X Y Z : Type 0} (k : Y → List Z) (f : X → List Y) (xs : List X) → flat_map k (flat_map f xs) ≡ flat_map (λ x. flat_map k (f x)) xs
+flat_flat k f [] = refl
+flat_flat k f (x ∷ xs) = flat_map-append k (f x) (flat_map f xs) ∙ ap (λ l. flat_map k (f x) ++ l) (flat_flat k f xs)
+
+-- ---- one family
+
+-- the clauses of the blocks of a family
+abbrev pub family_of : MpiProgram → Family → List SymbolicClause
+family_of p family = flat_map (clauses_of p) (blocks_of p family)
+
+by_block : (p : MpiProgram) (family : Family) → family_of p family ≡ flat_map (clauses_at p family) (range_with_len 0 (size_of p family))
+by_block p family = flat_map-map (clauses_of p) (block family) (range_with_len 0 (size_of p family))
+
+by_pair : (p : MpiProgram) (h : ℕ × ℕ → List SymbolicClause) → flat_map (λ k. h (pair_at (pairs_of p) k)) (range_with_len 0 (length (pairs_of p))) ≡ flat_map h (pairs_of p)
+by_pair p h = by_places h (pairs_of p) (0, 0)
+
+issue_order : (p : MpiProgram) → family_of p IssueOrder ≡ calls_are_issued_in_order p
+issue_order p = by_block p IssueOrder
+
+return_order : (p : MpiProgram) → family_of p ReturnOrder ≡ calls_are_issued_after_returns p
+return_order p = by_block p ReturnOrder
+
+match_order : (p : MpiProgram) → family_of p MatchOrder ≡ matches_come_after_issues p
+match_order p = by_block p MatchOrder ∙ by_pair p (λ pair. issued_before_match pair.0 pair.1)
+
+matched_once : (p : MpiProgram) → family_of p MatchedOnce ≡ calls_are_matched_once p
+matched_once p = by_block p MatchedOnce ∙ by_pair p (λ pair. without_later_pairs p pair.0 pair.1)
+
+send_order : (p : MpiProgram) → family_of p SendOrder ≡ sends_do_not_overtake p
+send_order p = by_block p SendOrder ∙ by_pair p (λ pair. flat_map (send_is_matched_before p pair.0 pair.1) (earlier_sends p pair.0 pair.1))
+
+taker_order : (p : MpiProgram) → family_of p TakerOrder ≡ takers_do_not_overtake p
+taker_order p = by_block p TakerOrder ∙ by_pair p (λ pair. flat_map (taker_is_matched_before p pair.0 pair.1) (earlier_takers p pair.0 pair.1))
+
+pair_waits : (p : MpiProgram) → family_of p NoPairWaits ≡ no_pair_waits p
+pair_waits p = by_block p NoPairWaits ∙ by_pair p (λ pair. pair_does_not_wait p pair.0 pair.1)
+
+issue_waits : (p : MpiProgram) → family_of p NoIssueWaits ≡ no_issue_waits p
+issue_waits p = by_block p NoIssueWaits
+
+unfinished_ranks : (p : MpiProgram) → family_of p Finished ++ family_of p SomeUnfinished ≡ some_rank_is_unfinished p
+unfinished_ranks p =
+    ap (λ l. l ++ family_of p SomeUnfinished) (by_block p Finished ∙ sym (of_filter (λ c. where_returned p c (is_false (unfinished (rank_of p c)))) (λ c. not (are_of_one_rank p c (c + 1))) (places p)))
+
+buffering : (p : MpiProgram) → family_of p Buffering ≡ sends_are_buffered_as_allowed p
+buffering p = by_block p Buffering ∙ sym (of_filter (buffered_under p.policy) (is_standard p) (places p))
+
+-- ---- lists of families
+
+abbrev pub AreSame : MpiProgram → List Family → List (List SymbolicClause) → Type 0
+AreSame p [] [] = Unit {0}
+AreSame p [] (c ∷ cs) = ⊥
+AreSame p (f ∷ fs) [] = ⊥
+AreSame p (f ∷ fs) (c ∷ cs) = (family_of p f ≡ c) × AreSame p fs cs
+
+pub of_blocks : {Y : Type 0} (p : MpiProgram) (k : SymbolicClause → List Y) (fs : List Family) (cs : List (List SymbolicClause)) → AreSame p fs cs → flat_map (λ b. flat_map k (clauses_of p b)) (flat_map (blocks_of p) fs) ≡ flat_map (flat_map k) cs
+of_blocks p k [] [] h = refl
+of_blocks p k [] (c ∷ cs) h = absurd h
+of_blocks p k (f ∷ fs) [] h = absurd h
+of_blocks p k (f ∷ fs) (c ∷ cs) h =
+    flat_map-append (λ b. flat_map k (clauses_of p b)) (blocks_of p f) (flat_map (blocks_of p) fs) ∙
+    (ap (λ l. l ++ flat_map (λ b. flat_map k (clauses_of p b)) (flat_map (blocks_of p) fs)) (sym (flat_flat k (clauses_of p) (blocks_of p f)) ∙ ap (flat_map k) h.0) ∙
+    ap (λ l. flat_map k c ++ l) (of_blocks p k fs cs h.1))
+
+pub orders_are : (p : MpiProgram) → AreSame p order_families (families_of_order p)
+orders_are p = (issue_order p, (return_order p, (match_order p, (matched_once p, (send_order p, (taker_order p, tt))))))
+
+pub ends_are : (p : MpiProgram) → AreSame p end_families (no_pair_waits p ∷ no_issue_waits p ∷ family_of p Finished ∷ family_of p SomeUnfinished ∷ [])
+ends_are p = (pair_waits p, (issue_waits p, (refl, (refl, tt))))
+
+pub policies_are : (p : MpiProgram) → AreSame p policy_families (sends_are_buffered_as_allowed p ∷ [])
+policies_are p = (buffering p, tt)
+
+pub last_two : {Y : Type 0} (p : MpiProgram) (k : SymbolicClause → List Y) → flat_map k (family_of p Finished) ++ flat_map k (family_of p SomeUnfinished) ≡ flat_map k (some_rank_is_unfinished p)
+last_two p k = sym (flat_map-append k (family_of p Finished) (family_of p SomeUnfinished)) ∙ ap (flat_map k) (unfinished_ranks p)
+
+-- the orders that the blocks state
+pub stated_by_blocks : (p : MpiProgram) → flat_map (λ b. flat_map (flat_map (places_in p)) (clauses_of p b)) (flat_map (blocks_of p) order_families) ≡ stated_orders p
+stated_by_blocks p = of_blocks p (flat_map (places_in p)) order_families (families_of_order p) (orders_are p)

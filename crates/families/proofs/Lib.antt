@@ -1,0 +1,4 @@
+pub mod Adding
+pub mod FamilyBlocks
+pub mod Fetches
+pub mod Marking

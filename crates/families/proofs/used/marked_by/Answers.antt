@@ -1,0 +1,13 @@
+use Rattle.std.proofs.Common.{ℕ, ◌++◌, [], List, length, sym, ap, ◌∙◌, subst}
+use Rattle.std.specs.List.{filter, flat_map}
+use Rattle.formulas.specs.Families.{events}
+use Rattle.formulas.specs.Orders.{event_pairs, is_among}
+use Rattle.families.specs.Marks.{AreMarks, orders_of}
+use Rattle.families.proofs.used.marked_by.Goals as goal
+
+pub returns : goal.returns
+returns c =
+    let p = c.args.source.now in
+    let orders = flat_map (orders_of p) c.args.blocks.now in
+    let most = c.len.ensures ∙ ap (λ z. length (events z)) c.requires.one in
+    c.in_ok-used.ensures orders (subst (λ n. AreMarks n orders c.mark_blocks.new.marks) (sym most) (c.in_ok-mark_blocks.ensures [] c.requires.none)) ∙ ap (λ n. filter (is_among orders) (event_pairs n)) most

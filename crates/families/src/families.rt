@@ -1,0 +1,251 @@
+//! The families of clauses, call by call and pair by pair.
+
+ghost use Rattle.std.specs.Prelude.{◌≡◌, ◌∷◌, [], ◌++◌, ℕ, length, map, OnOk, IfOk};
+ghost use Rattle.std.specs.List.{flat_map, range_with_len};
+ghost use Rattle.candidates.specs.Pairs.{pairs_of};
+ghost use Rattle.formulas.specs.declared.facts.Fact.TheVariants.{Unfinished as unfinished};
+ghost use Rattle.formulas.specs.declared.facts.Statement.TheVariants.{Holds as is_true};
+ghost use Rattle.formulas.specs.Families.{last_calls, rank_of, issued_after, issued_after_return_of, issue_does_not_wait};
+ghost use Rattle.families.specs.Blocks.{finished_after, buffered_as_allowed, clauses_of, size_of, block, blocks_of};
+
+use crate::symbolic::Symbolic;
+use crate::{matches, returns};
+use callorder::Program;
+use calltext::Policy;
+use formulas::{Event, Fact, Statement};
+use std::alloc::{AllocError, Global};
+use tables::{Source, is_last, is_standard, previous, rank_of, when_returned};
+
+/// A family of clauses. Some have a block of clauses for each call, some for each pair, and one has one block in all.
+#[derive(Clone, Copy, Debug, PartialEq, Eq)]
+pub enum Family {
+    /// By call: where it is issued, the call directly before it in its rank is issued, and earlier.
+    IssueOrder,
+    /// By call: where it is issued, the call directly before it in its rank has returned, and before.
+    ReturnOrder,
+    /// By pair: where it is matched, both calls are issued, and before.
+    MatchOrder,
+    /// By pair: it isn't matched together with a later pair of the same send or taker.
+    MatchedOnce,
+    /// By pair: its match doesn't overtake that of an earlier send.
+    SendOrder,
+    /// By pair: its match doesn't overtake that of an earlier taker.
+    TakerOrder,
+    /// By pair: where both calls are issued, one of them is matched.
+    NoPairWaits,
+    /// By call: it is issued where the call directly before it in its rank has returned, or where there is none.
+    NoIssueWaits,
+    /// By call: where it is the last one of its rank and has returned, the rank isn't unfinished.
+    Finished,
+    /// One block: some rank is unfinished.
+    SomeUnfinished,
+    /// By call: whether a standard send is buffered, as the policy says.
+    Buffering,
+}
+
+/// The clauses of a family for one call or for one pair.
+#[derive(Clone, Copy, Debug, PartialEq, Eq)]
+pub struct Block {
+    /// The family.
+    pub family: Family,
+    /// The place of the call among those of the program, or of the pair among the pairs, from 0.
+    pub place: usize,
+}
+
+/// Where the call is issued, the one before it is, and earlier.
+fn issued_after(
+    clauses: &mut Symbolic,
+    alloc: Global,
+    call: usize,
+    before: Option<usize>,
+) -> Result<(), AllocError>
+    ensures { OnOk result (clauses.new ≡ clauses.old ++ issued_after call before) }
+{
+    if let Some(before) = before {
+        let unissued = Statement::Fails(Fact::Issued(call));
+        let issued = Statement::Holds(Fact::Issued(before));
+        let earlier = Statement::Earlier(Event::Issue(before), Event::Issue(call));
+        clauses.add(alloc, &[unissued, issued])?;
+        clauses.add(alloc, &[earlier])?;
+    }
+    Ok(())
+}
+
+/// Where the call is issued, the one before it has returned before.
+fn issued_after_return_of(
+    clauses: &mut Symbolic,
+    alloc: Global,
+    source: &Source<'_>,
+    call: usize,
+    before: Option<usize>,
+) -> Result<(), AllocError>
+    ensures { OnOk result (clauses.new ≡ clauses.old ++ issued_after_return_of source.now call before) }
+{
+    if let Some(before) = before {
+        let condition = when_returned(source.program(), before);
+        returns::is_returned_before(clauses, alloc, source, call, &condition)?;
+    }
+    Ok(())
+}
+
+/// The call is issued where there is none before it, or where the one before it has returned.
+fn issue_does_not_wait(
+    clauses: &mut Symbolic,
+    alloc: Global,
+    source: &Source<'_>,
+    call: usize,
+    before: Option<usize>,
+) -> Result<(), AllocError>
+    ensures { OnOk result (clauses.new ≡ clauses.old ++ issue_does_not_wait source.now call before) }
+{
+    let issued = Statement::Holds(Fact::Issued(call));
+    match before {
+        None => clauses.add(alloc, &[issued])?,
+        Some(before) => returns::where_returned(clauses, alloc, source, before, &issued)?,
+    }
+    Ok(())
+}
+
+/// A rank whose last call has returned isn't unfinished. There is no clause for a call that isn't the last one of its rank.
+fn is_finished(
+    clauses: &mut Symbolic,
+    alloc: Global,
+    source: &Source<'_>,
+    call: usize,
+) -> Result<(), AllocError>
+    ensures { OnOk result (clauses.new ≡ clauses.old ++ finished_after source.now call) }
+{
+    if is_last(source.program(), call) {
+        let rank = rank_of(source.program(), call);
+        let finished = Statement::Fails(Fact::Unfinished(rank));
+        returns::where_returned(clauses, alloc, source, call, &finished)?;
+    }
+    Ok(())
+}
+
+/// The last calls of the ranks that have a call, rising.
+fn last_calls(alloc: Global, program: &Program) -> Result<Vec<usize>, AllocError>
+    ensures { IfOk result (λ calls. calls.items ≡ last_calls program.now) }
+{
+    (0..program.calls().len())
+        .filter(|call| is_last(program, *call))
+        .collect(alloc)
+}
+
+/// Some rank is unfinished.
+fn some_is_unfinished(
+    clauses: &mut Symbolic,
+    alloc: Global,
+    source: &Source<'_>,
+) -> Result<(), AllocError>
+    ensures { OnOk result (clauses.new ≡ clauses.old ++ (map (λ c. is_true (unfinished (rank_of source.now c))) (last_calls source.now)) ∷ []) }
+{
+    let calls = last_calls(alloc, source.program())?;
+    let mut clause = Vec::new(alloc);
+    for call in calls.as_slice() {
+        let rank = rank_of(source.program(), *call);
+        clause.push(Statement::Holds(Fact::Unfinished(rank)))?;
+    }
+    clauses.push(clause)?;
+    Ok(())
+}
+
+/// What the policy says of a standard send. There is no clause for another call.
+fn buffered_as_allowed(
+    clauses: &mut Symbolic,
+    alloc: Global,
+    source: &Source<'_>,
+    call: usize,
+) -> Result<(), AllocError>
+    ensures { OnOk result (clauses.new ≡ clauses.old ++ buffered_as_allowed source.now call) }
+{
+    if is_standard(source.program(), call) {
+        match source.program().policy() {
+            Policy::Any => {}
+            Policy::Never => clauses.add(alloc, &[Statement::Fails(Fact::Buffered(call))])?,
+            Policy::Always => clauses.add(alloc, &[Statement::Holds(Fact::Buffered(call))])?,
+        }
+    }
+    Ok(())
+}
+
+/// Adds the clauses of the block. The only error is want of memory.
+fn add_block(
+    clauses: &mut Symbolic,
+    alloc: Global,
+    source: &Source<'_>,
+    family: Family,
+    place: usize,
+) -> Result<(), AllocError>
+    ensures { OnOk result (clauses.new ≡ clauses.old ++ clauses_of source.now (block family place)) }
+{
+    let (send, taker) = source.pair(place);
+    let before = previous(source.program(), place);
+    match family {
+        Family::IssueOrder => issued_after(clauses, alloc, place, before)?,
+        Family::ReturnOrder => issued_after_return_of(clauses, alloc, source, place, before)?,
+        Family::MatchOrder => matches::issued_before_match(clauses, alloc, send, taker)?,
+        Family::MatchedOnce => matches::without_later_pairs(clauses, alloc, source, send, taker)?,
+        Family::SendOrder => matches::sends_are_matched_before(clauses, alloc, source, place)?,
+        Family::TakerOrder => matches::takers_are_matched_before(clauses, alloc, source, place)?,
+        Family::NoPairWaits => matches::pair_does_not_wait(clauses, alloc, source, send, taker)?,
+        Family::NoIssueWaits => issue_does_not_wait(clauses, alloc, source, place, before)?,
+        Family::Finished => is_finished(clauses, alloc, source, place)?,
+        Family::SomeUnfinished => some_is_unfinished(clauses, alloc, source)?,
+        Family::Buffering => buffered_as_allowed(clauses, alloc, source, place)?,
+    }
+    Ok(())
+}
+
+/// The clauses of the block. The only error is want of memory.
+pub fn clauses_of(alloc: Global, source: &Source<'_>, of: &Block) -> Result<Symbolic, AllocError>
+    ensures { IfOk result (λ clauses. clauses ≡ clauses_of source.now of.now) }
+{
+    let mut clauses = Symbolic::new(alloc);
+    add_block(&mut clauses, alloc, source, of.family, of.place)?;
+    Ok(clauses)
+}
+
+/// How many blocks the family has.
+fn size_of(source: &Source<'_>, family: Family) -> usize
+    ensures { result ≡ size_of source.now family }
+{
+    match family {
+        Family::IssueOrder
+        | Family::ReturnOrder
+        | Family::NoIssueWaits
+        | Family::Finished
+        | Family::Buffering => source.len(),
+        Family::MatchOrder
+        | Family::MatchedOnce
+        | Family::SendOrder
+        | Family::TakerOrder
+        | Family::NoPairWaits => source.pair_count(),
+        Family::SomeUnfinished => 1,
+    }
+}
+
+/// Adds so many blocks of the family.
+fn push_blocks(blocks: &mut Vec<Block>, family: Family, size: usize) -> Result<(), AllocError>
+    ensures { OnOk result (blocks.new.items ≡ blocks.old.items ++ map (block family) (range_with_len 0 size)) }
+{
+    for place in 0..size {
+        blocks.push(Block { family, place })?;
+    }
+    Ok(())
+}
+
+/// The blocks of the families, in order. The only error is want of memory.
+pub fn blocks_of(
+    alloc: Global,
+    source: &Source<'_>,
+    families: &[Family],
+) -> Result<Vec<Block>, AllocError>
+    ensures { IfOk result (λ blocks. blocks.items ≡ flat_map (blocks_of source.now) families.now) }
+{
+    let mut blocks = Vec::new(alloc);
+    for family in families {
+        push_blocks(&mut blocks, *family, size_of(source, *family))?;
+    }
+    Ok(blocks)
+}
