@@ -1,14 +1,12 @@
 //! The formula of a program.
 
 ghost use Rattle.std.specs.Prelude.{◌≡◌, ◌<◌, ◌≤◌, ◌^◌, ◌++◌, ◌↔◌, [], Err, IfOk, length, map};
-ghost use Rattle.std.specs.List.{filter, flat_map, range_with_len};
 ghost use Rattle.candidates.specs.Pairs.{pairs_of, places};
 ghost use Rattle.nonovertake.specs.Earlier.{earlier_of};
 ghost use Rattle.formulas.specs.Families.{events as events_of, is_standard, last_calls, rank_of, standard_sends};
 ghost use Rattle.formulas.specs.declared.facts.Fact.TheVariants.{Issued as issued, Buffered as buffered, Matched as matched, Unfinished as unfinished};
 ghost use Rattle.formulas.specs.Numbering.{facts as facts_of, formula_of, meanings as meanings_of};
-ghost use Rattle.formulas.specs.Orders.{bits_for, clock_size, used_pairs};
-ghost use Rattle.families.specs.Blocks.{blocks_of, order_families, end_families, policy_families};
+ghost use Rattle.formulas.specs.Orders.{bits_for};
 ghost use Rattle.encode.specs.declared.fault.EncodeFault.TheVariants.{TooManyEvents, TooManyClauses};
 
 use crate::draft::Halt;
@@ -17,7 +15,7 @@ use crate::whole;
 use callorder::Program;
 use candidates::Pairs;
 use clauses::{Clause, Formula};
-use families::{Block, Family, blocks_of, used_pairs};
+use families::used_pairs;
 use formulas::Fact;
 use nonovertake::Earlier;
 use std::alloc::{AllocError, Global};
@@ -98,57 +96,6 @@ pub fn bits_for(most: usize) -> usize
     size
 }
 
-fn order_blocks(alloc: Global, source: &Source<'_>) -> Result<Vec<Block>, AllocError>
-    ensures { IfOk result (λ blocks. blocks.items ≡ flat_map (blocks_of source.now) order_families) }
-{
-    let families = [
-        Family::IssueOrder,
-        Family::ReturnOrder,
-        Family::MatchOrder,
-        Family::MatchedOnce,
-        Family::SendOrder,
-        Family::TakerOrder,
-    ];
-    let blocks = blocks_of(alloc, source, &families)?;
-    Ok(blocks)
-}
-
-fn end_blocks(alloc: Global, source: &Source<'_>) -> Result<Vec<Block>, AllocError>
-    ensures { IfOk result (λ blocks. blocks.items ≡ flat_map (blocks_of source.now) end_families) }
-{
-    let families = [
-        Family::NoPairWaits,
-        Family::NoIssueWaits,
-        Family::Finished,
-        Family::SomeUnfinished,
-    ];
-    let blocks = blocks_of(alloc, source, &families)?;
-    Ok(blocks)
-}
-
-fn policy_blocks(alloc: Global, source: &Source<'_>) -> Result<Vec<Block>, AllocError>
-    ensures { IfOk result (λ blocks. blocks.items ≡ flat_map (blocks_of source.now) policy_families) }
-{
-    let blocks = blocks_of(alloc, source, &[Family::Buffering])?;
-    Ok(blocks)
-}
-
-/// The used pairs of events.
-fn used_of(
-    alloc: Global,
-    source: &Source<'_>,
-    events: &Events<'_>,
-    order: &[Block],
-) -> Result<Vec<(usize, usize)>, AllocError>
-    requires one { events.now ≡ source.now }
-    requires few { length (events_of events.now) ≤ 1024 }
-    requires order { order.now ≡ flat_map (blocks_of source.now) order_families }
-    ensures { IfOk result (λ used. used.items ≡ used_pairs source.now) }
-{
-    let used = used_pairs(alloc, source, events, order)?;
-    Ok(used)
-}
-
 /// The formula of these clauses.
 fn formula_of_clauses(
     source: &Source<'_>,
@@ -182,26 +129,11 @@ fn make_of_source(
     ensures full { result ≡ Err TooManyClauses → 4000000 < length (formula_of source.now).clauses }
     ensures events { result ≡ Err TooManyEvents → ⊥ }
 {
-    let order = order_blocks(alloc, source)?;
-    let end = end_blocks(alloc, source)?;
-    let policy = policy_blocks(alloc, source)?;
-    let used = used_of(alloc, source, &events, order.as_slice())?;
+    let used = used_pairs(alloc, source, &events)?;
     let facts = facts_of(alloc, source.program(), pairs)?;
     let size = bits_for(events.len());
     let variables = Variables::make(alloc, events, facts.as_slice(), used.as_slice(), size)?;
-    let order = order.as_slice();
-    let end = end.as_slice();
-    let policy = policy.as_slice();
-    match whole::clauses(
-        alloc,
-        &variables,
-        source,
-        order,
-        end,
-        policy,
-        size,
-        used.as_slice(),
-    ) {
+    match whole::clauses(alloc, &variables, source, size, used.as_slice()) {
         Ok(clauses) => {
             let formula = formula_of_clauses(source, &variables, clauses);
             let meanings = Meanings::make(facts, variables.event_count(), size, used);

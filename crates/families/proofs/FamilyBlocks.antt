@@ -4,6 +4,7 @@ use Rattle.std.specs.List.{filter, flat_map, range_with_len}
 use Rattle.std.proofs.lemmas.List.{append_assoc, append-nil}
 use Rattle.std.proofs.lemmas.List.Concat.{flat_map-append}
 use Rattle.std.proofs.lemmas.List.Folds.{flat_map-map}
+use Rattle.std.proofs.lemmas.List.FromFn.{get_or-map-range_with_len, length-map-range_with_len}
 use Rattle.callorder.specs.Programs.{MpiProgram, are_of_one_rank}
 use Rattle.candidates.specs.Pairs.{places, pairs_of, pair_at}
 use Rattle.nonovertake.specs.Earlier.{earlier_sends, earlier_takers}
@@ -15,6 +16,7 @@ use Rattle.families.specs.declared.families.Block.{Block}
 use Rattle.families.specs.declared.families.Family.{Family}
 use Rattle.families.specs.declared.families.Family.TheVariants.{IssueOrder, ReturnOrder, MatchOrder, MatchedOnce, SendOrder, TakerOrder, NoPairWaits, NoIssueWaits, Finished, SomeUnfinished, Buffering}
 use Rattle.families.specs.Blocks.{order_families, end_families, policy_families, finished_after, buffered_as_allowed, clauses_at, clauses_of, block, blocks_of, size_of}
+use Rattle.families.specs.Marks.{orders_of_family}
 
 -- ---- lists
 
@@ -95,14 +97,14 @@ AreSame p [] (c ∷ cs) = ⊥
 AreSame p (f ∷ fs) [] = ⊥
 AreSame p (f ∷ fs) (c ∷ cs) = (family_of p f ≡ c) × AreSame p fs cs
 
-pub of_blocks : {Y : Type 0} (p : MpiProgram) (k : SymbolicClause → List Y) (fs : List Family) (cs : List (List SymbolicClause)) → AreSame p fs cs → flat_map (λ b. flat_map k (clauses_of p b)) (flat_map (blocks_of p) fs) ≡ flat_map (flat_map k) cs
-of_blocks p k [] [] h = refl
-of_blocks p k [] (c ∷ cs) h = absurd h
-of_blocks p k (f ∷ fs) [] h = absurd h
-of_blocks p k (f ∷ fs) (c ∷ cs) h =
-    flat_map-append (λ b. flat_map k (clauses_of p b)) (blocks_of p f) (flat_map (blocks_of p) fs) ∙
-    (ap (λ l. l ++ flat_map (λ b. flat_map k (clauses_of p b)) (flat_map (blocks_of p) fs)) (sym (flat_flat k (clauses_of p) (blocks_of p f)) ∙ ap (flat_map k) h.0) ∙
-    ap (λ l. flat_map k c ++ l) (of_blocks p k fs cs h.1))
+pub of_families : {Y : Type 0} (p : MpiProgram) (k : SymbolicClause → List Y) (fs : List Family) (cs : List (List SymbolicClause)) → AreSame p fs cs → flat_map (λ f. flat_map (λ b. flat_map k (clauses_of p b)) (blocks_of p f)) fs ≡ flat_map (flat_map k) cs
+of_families p k [] [] h = refl
+of_families p k [] (c ∷ cs) h = absurd h
+of_families p k (f ∷ fs) [] h = absurd h
+of_families p k (f ∷ fs) (c ∷ cs) h =
+    let rest = flat_map (λ g. flat_map (λ b. flat_map k (clauses_of p b)) (blocks_of p g)) fs in
+    ap (λ l. l ++ rest) (sym (flat_flat k (clauses_of p) (blocks_of p f)) ∙ ap (flat_map k) h.0) ∙
+    ap (λ l. flat_map k c ++ l) (of_families p k fs cs h.1)
 
 pub orders_are : (p : MpiProgram) → AreSame p order_families (families_of_order p)
 orders_are p = (issue_order p, (return_order p, (match_order p, (matched_once p, (send_order p, (taker_order p, tt))))))
@@ -116,6 +118,14 @@ policies_are p = (buffering p, tt)
 pub last_two : {Y : Type 0} (p : MpiProgram) (k : SymbolicClause → List Y) → flat_map k (family_of p Finished) ++ flat_map k (family_of p SomeUnfinished) ≡ flat_map k (some_rank_is_unfinished p)
 last_two p k = sym (flat_map-append k (family_of p Finished) (family_of p SomeUnfinished)) ∙ ap (flat_map k) (unfinished_ranks p)
 
--- the orders that the blocks state
-pub stated_by_blocks : (p : MpiProgram) → flat_map (λ b. flat_map (flat_map (places_in p)) (clauses_of p b)) (flat_map (blocks_of p) order_families) ≡ stated_orders p
-stated_by_blocks p = of_blocks p (flat_map (places_in p)) order_families (families_of_order p) (orders_are p)
+-- the orders that the families state
+pub stated_by_families : (p : MpiProgram) → flat_map (orders_of_family p) order_families ≡ stated_orders p
+stated_by_families p = of_families p (flat_map (places_in p)) order_families (families_of_order p) (orders_are p)
+
+-- ---- the blocks of a family, by their places
+
+pub blocks_count : (p : MpiProgram) (family : Family) → length (blocks_of p family) ≡ size_of p family
+blocks_count p family = length-map-range_with_len (block family) 0 (size_of p family)
+
+pub block_at : (p : MpiProgram) (family : Family) (place : ℕ) (d : Block) → place < size_of p family → block family place ≡ get_or (blocks_of p family) place d
+block_at p family place d below = sym (get_or-map-range_with_len (block family) 0 (size_of p family) place place d below (omega arith))

@@ -1,12 +1,10 @@
 //! The families of clauses, call by call and pair by pair.
 
 ghost use Rattle.std.specs.Prelude.{◌≡◌, ◌∷◌, [], ◌++◌, ℕ, length, map, OnOk, IfOk};
-ghost use Rattle.std.specs.List.{flat_map, range_with_len};
-ghost use Rattle.candidates.specs.Pairs.{pairs_of};
 ghost use Rattle.formulas.specs.declared.facts.Fact.TheVariants.{Unfinished as unfinished};
 ghost use Rattle.formulas.specs.declared.facts.Statement.TheVariants.{Holds as is_true};
 ghost use Rattle.formulas.specs.Families.{last_calls, rank_of, issued_after, issued_after_return_of, issue_does_not_wait};
-ghost use Rattle.families.specs.Blocks.{finished_after, buffered_as_allowed, clauses_of, size_of, block, blocks_of};
+ghost use Rattle.families.specs.Blocks.{finished_after, buffered_as_allowed, clauses_of, size_of, block, order_families, end_families, policy_families};
 
 use crate::symbolic::Symbolic;
 use crate::{matches, returns};
@@ -54,8 +52,7 @@ pub struct Block {
 
 /// Where the call is issued, the one before it is, and earlier.
 fn issued_after(
-    clauses: &mut Symbolic,
-    alloc: Global,
+    clauses: &mut Symbolic<Statement>,
     call: usize,
     before: Option<usize>,
 ) -> Result<(), AllocError>
@@ -65,15 +62,15 @@ fn issued_after(
         let unissued = Statement::Fails(Fact::Issued(call));
         let issued = Statement::Holds(Fact::Issued(before));
         let earlier = Statement::Earlier(Event::Issue(before), Event::Issue(call));
-        clauses.add(alloc, &[unissued, issued])?;
-        clauses.add(alloc, &[earlier])?;
+        clauses.add(&[unissued, issued])?;
+        clauses.add(&[earlier])?;
     }
     Ok(())
 }
 
 /// Where the call is issued, the one before it has returned before.
 fn issued_after_return_of(
-    clauses: &mut Symbolic,
+    clauses: &mut Symbolic<Statement>,
     alloc: Global,
     source: &Source<'_>,
     call: usize,
@@ -90,8 +87,7 @@ fn issued_after_return_of(
 
 /// The call is issued where there is none before it, or where the one before it has returned.
 fn issue_does_not_wait(
-    clauses: &mut Symbolic,
-    alloc: Global,
+    clauses: &mut Symbolic<Statement>,
     source: &Source<'_>,
     call: usize,
     before: Option<usize>,
@@ -100,16 +96,15 @@ fn issue_does_not_wait(
 {
     let issued = Statement::Holds(Fact::Issued(call));
     match before {
-        None => clauses.add(alloc, &[issued])?,
-        Some(before) => returns::where_returned(clauses, alloc, source, before, &issued)?,
+        None => clauses.add(&[issued])?,
+        Some(before) => returns::where_returned(clauses, source, before, &issued)?,
     }
     Ok(())
 }
 
 /// A rank whose last call has returned isn't unfinished. There is no clause for a call that isn't the last one of its rank.
 fn is_finished(
-    clauses: &mut Symbolic,
-    alloc: Global,
+    clauses: &mut Symbolic<Statement>,
     source: &Source<'_>,
     call: usize,
 ) -> Result<(), AllocError>
@@ -118,7 +113,7 @@ fn is_finished(
     if is_last(source.program(), call) {
         let rank = rank_of(source.program(), call);
         let finished = Statement::Fails(Fact::Unfinished(rank));
-        returns::where_returned(clauses, alloc, source, call, &finished)?;
+        returns::where_returned(clauses, source, call, &finished)?;
     }
     Ok(())
 }
@@ -134,7 +129,7 @@ fn last_calls(alloc: Global, program: &Program) -> Result<Vec<usize>, AllocError
 
 /// Some rank is unfinished.
 fn some_is_unfinished(
-    clauses: &mut Symbolic,
+    clauses: &mut Symbolic<Statement>,
     alloc: Global,
     source: &Source<'_>,
 ) -> Result<(), AllocError>
@@ -146,14 +141,13 @@ fn some_is_unfinished(
         let rank = rank_of(source.program(), *call);
         clause.push(Statement::Holds(Fact::Unfinished(rank)))?;
     }
-    clauses.push(clause)?;
+    clauses.add(clause.as_slice())?;
     Ok(())
 }
 
 /// What the policy says of a standard send. There is no clause for another call.
 fn buffered_as_allowed(
-    clauses: &mut Symbolic,
-    alloc: Global,
+    clauses: &mut Symbolic<Statement>,
     source: &Source<'_>,
     call: usize,
 ) -> Result<(), AllocError>
@@ -162,16 +156,16 @@ fn buffered_as_allowed(
     if is_standard(source.program(), call) {
         match source.program().policy() {
             Policy::Any => {}
-            Policy::Never => clauses.add(alloc, &[Statement::Fails(Fact::Buffered(call))])?,
-            Policy::Always => clauses.add(alloc, &[Statement::Holds(Fact::Buffered(call))])?,
+            Policy::Never => clauses.add(&[Statement::Fails(Fact::Buffered(call))])?,
+            Policy::Always => clauses.add(&[Statement::Holds(Fact::Buffered(call))])?,
         }
     }
     Ok(())
 }
 
-/// Adds the clauses of the block. The only error is want of memory.
+/// Adds the clauses of a family for the call or the pair at a place.
 fn add_block(
-    clauses: &mut Symbolic,
+    clauses: &mut Symbolic<Statement>,
     alloc: Global,
     source: &Source<'_>,
     family: Family,
@@ -182,32 +176,37 @@ fn add_block(
     let (send, taker) = source.pair(place);
     let before = previous(source.program(), place);
     match family {
-        Family::IssueOrder => issued_after(clauses, alloc, place, before)?,
+        Family::IssueOrder => issued_after(clauses, place, before)?,
         Family::ReturnOrder => issued_after_return_of(clauses, alloc, source, place, before)?,
-        Family::MatchOrder => matches::issued_before_match(clauses, alloc, send, taker)?,
-        Family::MatchedOnce => matches::without_later_pairs(clauses, alloc, source, send, taker)?,
+        Family::MatchOrder => matches::issued_before_match(clauses, send, taker)?,
+        Family::MatchedOnce => matches::without_later_pairs(clauses, source, send, taker)?,
         Family::SendOrder => matches::sends_are_matched_before(clauses, alloc, source, place)?,
         Family::TakerOrder => matches::takers_are_matched_before(clauses, alloc, source, place)?,
         Family::NoPairWaits => matches::pair_does_not_wait(clauses, alloc, source, send, taker)?,
-        Family::NoIssueWaits => issue_does_not_wait(clauses, alloc, source, place, before)?,
-        Family::Finished => is_finished(clauses, alloc, source, place)?,
+        Family::NoIssueWaits => issue_does_not_wait(clauses, source, place, before)?,
+        Family::Finished => is_finished(clauses, source, place)?,
         Family::SomeUnfinished => some_is_unfinished(clauses, alloc, source)?,
-        Family::Buffering => buffered_as_allowed(clauses, alloc, source, place)?,
+        Family::Buffering => buffered_as_allowed(clauses, source, place)?,
     }
     Ok(())
 }
 
-/// The clauses of the block. The only error is want of memory.
-pub fn clauses_of(alloc: Global, source: &Source<'_>, of: &Block) -> Result<Symbolic, AllocError>
-    ensures { IfOk result (λ clauses. clauses ≡ clauses_of source.now of.now) }
+/// Puts the clauses of the block in place of those that stand there. The only error is want of memory.
+pub fn put_block(
+    clauses: &mut Symbolic<Statement>,
+    alloc: Global,
+    source: &Source<'_>,
+    of: &Block,
+) -> Result<(), AllocError>
+    ensures { OnOk result (clauses.new ≡ clauses_of source.now of.now) }
 {
-    let mut clauses = Symbolic::new(alloc);
-    add_block(&mut clauses, alloc, source, of.family, of.place)?;
-    Ok(clauses)
+    clauses.clear();
+    add_block(clauses, alloc, source, of.family, of.place)?;
+    Ok(())
 }
 
-/// How many blocks the family has.
-fn size_of(source: &Source<'_>, family: Family) -> usize
+/// How many blocks the family has: their places are the numbers below.
+pub fn size_of(source: &Source<'_>, family: Family) -> usize
     ensures { result ≡ size_of source.now family }
 {
     match family {
@@ -225,27 +224,35 @@ fn size_of(source: &Source<'_>, family: Family) -> usize
     }
 }
 
-/// Adds so many blocks of the family.
-fn push_blocks(blocks: &mut Vec<Block>, family: Family, size: usize) -> Result<(), AllocError>
-    ensures { OnOk result (blocks.new.items ≡ blocks.old.items ++ map (block family) (range_with_len 0 size)) }
+/// The families that state which of two events is earlier.
+pub fn order_families() -> &'static [Family]
+    ensures { result.now ≡ order_families }
 {
-    for place in 0..size {
-        blocks.push(Block { family, place })?;
-    }
-    Ok(())
+    &[
+        Family::IssueOrder,
+        Family::ReturnOrder,
+        Family::MatchOrder,
+        Family::MatchedOnce,
+        Family::SendOrder,
+        Family::TakerOrder,
+    ]
 }
 
-/// The blocks of the families, in order. The only error is want of memory.
-pub fn blocks_of(
-    alloc: Global,
-    source: &Source<'_>,
-    families: &[Family],
-) -> Result<Vec<Block>, AllocError>
-    ensures { IfOk result (λ blocks. blocks.items ≡ flat_map (blocks_of source.now) families.now) }
+/// The families that say that the run is stuck.
+pub fn end_families() -> &'static [Family]
+    ensures { result.now ≡ end_families }
 {
-    let mut blocks = Vec::new(alloc);
-    for family in families {
-        push_blocks(&mut blocks, *family, size_of(source, *family))?;
-    }
-    Ok(blocks)
+    &[
+        Family::NoPairWaits,
+        Family::NoIssueWaits,
+        Family::Finished,
+        Family::SomeUnfinished,
+    ]
+}
+
+/// The family on the policy.
+pub fn policy_families() -> &'static [Family]
+    ensures { result.now ≡ policy_families }
+{
+    &[Family::Buffering]
 }

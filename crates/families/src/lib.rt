@@ -11,6 +11,8 @@ mod returns;
 mod symbolic;
 mod used;
 
-pub use families::{Block, Family, blocks_of, clauses_of};
+pub use families::{
+    Block, Family, end_families, order_families, policy_families, put_block, size_of,
+};
 pub use symbolic::Symbolic;
 pub use used::used_pairs;

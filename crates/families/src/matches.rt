@@ -18,8 +18,7 @@ use tables::Source;
 /// Adds the clauses that say: where the pair is matched, both calls are issued, and before. The only error is want of
 /// memory.
 pub fn issued_before_match(
-    clauses: &mut Symbolic,
-    alloc: Global,
+    clauses: &mut Symbolic<Statement>,
     send: usize,
     taker: usize,
 ) -> Result<(), AllocError>
@@ -31,17 +30,16 @@ pub fn issued_before_match(
     let taker_issued = Statement::Holds(Fact::Issued(taker));
     let send_earlier = Statement::Earlier(Event::Issue(send), matching);
     let taker_earlier = Statement::Earlier(Event::Issue(taker), matching);
-    clauses.add(alloc, &[unmatched, send_issued])?;
-    clauses.add(alloc, &[unmatched, taker_issued])?;
-    clauses.add(alloc, &[unmatched, send_earlier])?;
-    clauses.add(alloc, &[unmatched, taker_earlier])?;
+    clauses.add(&[unmatched, send_issued])?;
+    clauses.add(&[unmatched, taker_issued])?;
+    clauses.add(&[unmatched, send_earlier])?;
+    clauses.add(&[unmatched, taker_earlier])?;
     Ok(())
 }
 
 /// Of the pair and a later one of its send, one isn't matched.
 fn without_later_takers(
-    clauses: &mut Symbolic,
-    alloc: Global,
+    clauses: &mut Symbolic<Statement>,
     send: usize,
     taker: usize,
     takers: &[usize],
@@ -52,7 +50,7 @@ fn without_later_takers(
     for other in takers {
         if taker < *other {
             let other = Statement::Fails(Fact::Matched(send, *other));
-            clauses.add(alloc, &[unmatched, other])?;
+            clauses.add(&[unmatched, other])?;
         }
     }
     Ok(())
@@ -60,8 +58,7 @@ fn without_later_takers(
 
 /// Of the pair and a later one of its taker, one isn't matched.
 fn without_later_sends(
-    clauses: &mut Symbolic,
-    alloc: Global,
+    clauses: &mut Symbolic<Statement>,
     send: usize,
     taker: usize,
     sends: &[usize],
@@ -72,7 +69,7 @@ fn without_later_sends(
     for other in sends {
         if send < *other {
             let other = Statement::Fails(Fact::Matched(*other, taker));
-            clauses.add(alloc, &[unmatched, other])?;
+            clauses.add(&[unmatched, other])?;
         }
     }
     Ok(())
@@ -81,16 +78,15 @@ fn without_later_sends(
 /// Adds the clauses that say: the pair isn't matched together with a later pair of the same send or taker. The only error
 /// is want of memory.
 pub fn without_later_pairs(
-    clauses: &mut Symbolic,
-    alloc: Global,
+    clauses: &mut Symbolic<Statement>,
     source: &Source<'_>,
     send: usize,
     taker: usize,
 ) -> Result<(), AllocError>
     ensures { OnOk result (clauses.new ≡ clauses.old ++ without_later_pairs source.now send taker) }
 {
-    without_later_takers(clauses, alloc, send, taker, source.takers_of(send))?;
-    without_later_sends(clauses, alloc, send, taker, source.sends_of(taker))?;
+    without_later_takers(clauses, send, taker, source.takers_of(send))?;
+    without_later_sends(clauses, send, taker, source.sends_of(taker))?;
     Ok(())
 }
 
@@ -107,8 +103,7 @@ fn others(alloc: Global, calls: &[usize], but: usize) -> Result<Vec<usize>, Allo
 
 /// Where the pair is matched and the earlier send with another taker, the other match is earlier.
 fn matched_earlier(
-    clauses: &mut Symbolic,
-    alloc: Global,
+    clauses: &mut Symbolic<Statement>,
     pair: (usize, usize),
     earlier: usize,
     others: &[usize],
@@ -119,14 +114,14 @@ fn matched_earlier(
     for other in others {
         let other_unmatched = Statement::Fails(Fact::Matched(earlier, *other));
         let other_earlier = Statement::Earlier(Event::Match(*other), Event::Match(pair.1));
-        clauses.add(alloc, &[unmatched, other_unmatched, other_earlier])?;
+        clauses.add(&[unmatched, other_unmatched, other_earlier])?;
     }
     Ok(())
 }
 
 /// Where the pair is matched, the earlier send is matched with another taker, and earlier.
 fn send_is_matched_before(
-    clauses: &mut Symbolic,
+    clauses: &mut Symbolic<Statement>,
     alloc: Global,
     source: &Source<'_>,
     pair: (usize, usize),
@@ -138,15 +133,15 @@ fn send_is_matched_before(
     let unmatched = Statement::Fails(Fact::Matched(pair.0, pair.1));
     let mut clause = vec![in alloc; unmatched]?;
     push_takers(&mut clause, earlier, others.as_slice())?;
-    clauses.push(clause)?;
-    matched_earlier(clauses, alloc, pair, earlier, others.as_slice())?;
+    clauses.add(clause.as_slice())?;
+    matched_earlier(clauses, pair, earlier, others.as_slice())?;
     Ok(())
 }
 
 /// Adds the clauses that say: where the pair at this place is matched, each earlier send that fits its taker is matched with
 /// another taker, and earlier. The only error is want of memory.
 pub fn sends_are_matched_before(
-    clauses: &mut Symbolic,
+    clauses: &mut Symbolic<Statement>,
     alloc: Global,
     source: &Source<'_>,
     place: usize,
@@ -162,7 +157,7 @@ pub fn sends_are_matched_before(
 
 /// Where the pair is matched, the earlier taker is matched with another send, and earlier.
 fn taker_is_matched_before(
-    clauses: &mut Symbolic,
+    clauses: &mut Symbolic<Statement>,
     alloc: Global,
     source: &Source<'_>,
     pair: (usize, usize),
@@ -174,16 +169,16 @@ fn taker_is_matched_before(
     let unmatched = Statement::Fails(Fact::Matched(pair.0, pair.1));
     let mut clause = vec![in alloc; unmatched]?;
     push_sends(&mut clause, earlier, others.as_slice())?;
-    clauses.push(clause)?;
+    clauses.add(clause.as_slice())?;
     let matched_earlier = Statement::Earlier(Event::Match(earlier), Event::Match(pair.1));
-    clauses.add(alloc, &[unmatched, matched_earlier])?;
+    clauses.add(&[unmatched, matched_earlier])?;
     Ok(())
 }
 
 /// Adds the clauses that say: where the pair at this place is matched, each earlier taker that its send fits is matched with
 /// another send, and earlier. The only error is want of memory.
 pub fn takers_are_matched_before(
-    clauses: &mut Symbolic,
+    clauses: &mut Symbolic<Statement>,
     alloc: Global,
     source: &Source<'_>,
     place: usize,
@@ -200,7 +195,7 @@ pub fn takers_are_matched_before(
 /// Adds the clause that says: where both calls are issued, the send or the taker is matched. The only error is want of
 /// memory.
 pub fn pair_does_not_wait(
-    clauses: &mut Symbolic,
+    clauses: &mut Symbolic<Statement>,
     alloc: Global,
     source: &Source<'_>,
     send: usize,
@@ -213,6 +208,6 @@ pub fn pair_does_not_wait(
     let mut clause = vec![in alloc; send_unissued, taker_unissued]?;
     push_takers(&mut clause, send, source.takers_of(send))?;
     push_sends(&mut clause, taker, source.sends_of(taker))?;
-    clauses.push(clause)?;
+    clauses.add(clause.as_slice())?;
     Ok(())
 }

@@ -1,56 +1,114 @@
 //! Clauses before their variables are numbered.
 
-ghost use Rattle.std.specs.Prelude.{◌≡◌, ◌++◌, ◌∷◌, [], map, OnOk};
+ghost use Rattle.std.specs.Prelude.{◌≡◌, ◌<◌, ◌≤◌, ◌-◌, take, drop, ◌++◌, ◌∷◌, [], OnOk, length, get_or};
+ghost use Rattle.families.specs.Parts.{parts, start_of, AreEnds};
 
-use formulas::Statement;
 use std::alloc::{AllocError, Global};
 use std::marker::Model;
 
-/// Clauses, each a list of statements of which one is right.
+/// Clauses, each a list of items of which one is right. They stand one behind the other in one list, so that a clause takes no
+/// block of memory of its own.
 #[derive(Debug, Drop)]
-pub struct Symbolic {
-    clauses: Vec<Vec<Statement>>,
+pub struct Symbolic<Item> {
+    entries: Vec<Item>,
+    ends: Vec<usize>,
 }
 
-impl Model for Symbolic {
-    ghost use Rattle.std.specs.Prelude.{List, map};
-    ghost use Rattle.formulas.specs.declared.facts.Statement.{Statement};
+impl<Item> Model for Symbolic<Item> {
+    ghost use Rattle.std.specs.Prelude.{List, length};
+    ghost use Rattle.families.specs.Parts.{parts, AreEnds};
 
-    ghost Value = { List (List Statement) };
+    ghost Value = { List (List Item) };
 
-    ghost view = { λ s. map (λ v. v.items) s.clauses.items };
+    ghost view = { λ s. parts s.entries.items 0 s.ends.items };
+
+    ghost invariant = { λ s. AreEnds 0 s.ends.items (length s.entries.items) };
 }
 
-impl Symbolic {
+/// Where the part at a place begins.
+fn start(ends: &[usize], place: usize) -> usize
+    requires { place < length ends.now }
+    ensures { result ≡ start_of 0 ends.now place }
+{
+    if place == 0 {
+        return 0;
+    }
+    ends[place - 1]
+}
+
+/// What stands from one place to another.
+fn between<Item: Copy>(entries: &[Item], start: usize, end: usize) -> &[Item]
+    requires rise { start ≤ end }
+    requires within { end ≤ length entries.now }
+    ensures { result.now ≡ take (end - start) (drop start entries.now) }
+{
+    &entries[start..end]
+}
+
+/// The part at a place.
+fn part<'a, Item: Copy>(entries: &'a [Item], ends: &[usize], place: usize) -> &'a [Item]
+    requires ends { AreEnds 0 ends.now (length entries.now) }
+    requires inside { place < length ends.now }
+    ensures { result.now ≡ get_or (parts entries.now 0 ends.now) place [] }
+{
+    between(entries, start(ends, place), ends[place])
+}
+
+/// Adds a part at the end. Without memory nothing is added.
+fn add<Item: Copy>(entries: &mut Vec<Item>, ends: &mut Vec<usize>, part: &[Item]) -> Result<(), AllocError>
+    requires { AreEnds 0 ends.old.items (length entries.old.items) }
+    ensures ends { AreEnds 0 ends.new.items (length entries.new.items) }
+    ensures added { OnOk result (parts entries.new.items 0 ends.new.items ≡ parts entries.old.items 0 ends.old.items ++ part.now ∷ []) }
+{
+    let before = entries.len();
+    entries.extend_from_slice(part)?;
+    match ends.push(entries.len()) {
+        Ok(()) => Ok(()),
+        Err(_) => {
+            entries.truncate(before);
+            Err(AllocError)
+        }
+    }
+}
+
+impl<Item: Copy> Symbolic<Item> {
     /// No clause.
-    pub fn new(alloc: Global) -> Symbolic
+    pub fn new(alloc: Global) -> Symbolic<Item>
         ensures { result ≡ [] }
     {
         Symbolic {
-            clauses: Vec::new(alloc),
+            entries: Vec::new(alloc),
+            ends: Vec::new(alloc),
         }
     }
 
-    /// The clauses, in order.
-    pub fn clauses(&self) -> &[Vec<Statement>]
-        ensures { map (λ v. v.items) result.now ≡ self.now }
+    /// How many clauses there are.
+    pub fn len(&self) -> usize
+        ensures { result ≡ length self.now }
     {
-        self.clauses.as_slice()
+        self.ends.len()
+    }
+
+    /// The clause at a place, from 0.
+    pub fn clause(&self, place: usize) -> &[Item]
+        requires { place < length self.now }
+        ensures { result.now ≡ get_or self.now place [] }
+    {
+        part(self.entries.as_slice(), self.ends.as_slice(), place)
     }
 
     /// Adds a clause at the end. The only error is want of memory.
-    pub fn push(&mut self, clause: Vec<Statement>) -> Result<(), AllocError>
-        ensures { OnOk result (self.new ≡ self.old ++ clause.items ∷ []) }
-    {
-        self.clauses.push(clause)?;
-        Ok(())
-    }
-
-    /// Adds a clause of these statements at the end. The only error is want of memory.
-    pub fn add(&mut self, alloc: Global, clause: &[Statement]) -> Result<(), AllocError>
+    pub fn add(&mut self, clause: &[Item]) -> Result<(), AllocError>
         ensures { OnOk result (self.new ≡ self.old ++ clause.now ∷ []) }
     {
-        let clause = clause.to_vec(alloc)?;
-        self.push(clause)
+        add(&mut self.entries, &mut self.ends, clause)
+    }
+
+    /// Takes all clauses away, and keeps their memory for others.
+    pub fn clear(&mut self)
+        ensures { self.new ≡ [] }
+    {
+        self.entries.clear();
+        self.ends.clear();
     }
 }

@@ -4,10 +4,10 @@ ghost use Rattle.std.specs.Prelude.{◌≡◌, ◌<◌, ◌≤◌, ◌*◌, if�
 ghost use Rattle.std.specs.List.{filter, flat_map};
 ghost use Rattle.formulas.specs.declared.facts.Statement.{Statement};
 ghost use Rattle.formulas.specs.Families.{events as events_of};
-ghost use Rattle.formulas.specs.Orders.{between, event_pairs, is_among, places_in};
-ghost use Rattle.families.specs.Marks.{AreMarks, orders_of};
+ghost use Rattle.formulas.specs.Orders.{between, event_pairs, is_among, places_in, used_pairs};
+ghost use Rattle.families.specs.Marks.{AreMarks, orders_of, orders_of_family};
 
-use crate::families::{Block, clauses_of};
+use crate::families::{Block, Family, order_families, put_block, size_of};
 use crate::symbolic::Symbolic;
 use formulas::Statement;
 use std::alloc::{AllocError, Global};
@@ -48,30 +48,68 @@ fn mark_clause(marks: &mut [bool], events: &Events<'_>, clause: &[Statement])
     }
 }
 
-fn mark_clauses(marks: &mut [bool], events: &Events<'_>, clauses: &Symbolic)
+fn mark_clauses(marks: &mut [bool], events: &Events<'_>, clauses: &Symbolic<Statement>)
     requires { length marks.old ≡ length (events_of events.now) * length (events_of events.now) }
     ensures { (orders : List (ℕ × ℕ)) → AreMarks (length (events_of events.now)) orders marks.old → AreMarks (length (events_of events.now)) (orders ++ flat_map (flat_map (places_in events.now)) clauses.now) marks.new }
 {
-    for clause in clauses.clauses() {
-        mark_clause(marks, events, clause.as_slice());
+    for place in 0..clauses.len() {
+        mark_clause(marks, events, clauses.clause(place));
     }
 }
 
-/// Marks the events of which the clauses of the blocks say that one is earlier.
-fn mark_blocks(
+/// Marks the events of which the clauses of the block say that one is earlier. The clauses are made in `clauses`.
+fn mark_block(
+    marks: &mut [bool],
+    clauses: &mut Symbolic<Statement>,
+    alloc: Global,
+    source: &Source<'_>,
+    events: &Events<'_>,
+    block: &Block,
+) -> Result<(), AllocError>
+    requires size { length marks.old ≡ length (events_of events.now) * length (events_of events.now) }
+    requires one { events.now ≡ source.now }
+    ensures { OnOk result ((orders : List (ℕ × ℕ)) → AreMarks (length (events_of source.now)) orders marks.old → AreMarks (length (events_of source.now)) (orders ++ orders_of source.now block.now) marks.new) }
+{
+    put_block(clauses, alloc, source, block)?;
+    mark_clauses(marks, events, clauses);
+    Ok(())
+}
+
+/// Marks them for each block of the family.
+fn mark_family(
+    marks: &mut [bool],
+    clauses: &mut Symbolic<Statement>,
+    alloc: Global,
+    source: &Source<'_>,
+    events: &Events<'_>,
+    family: Family,
+) -> Result<(), AllocError>
+    requires size { length marks.old ≡ length (events_of events.now) * length (events_of events.now) }
+    requires one { events.now ≡ source.now }
+    ensures { OnOk result ((orders : List (ℕ × ℕ)) → AreMarks (length (events_of source.now)) orders marks.old → AreMarks (length (events_of source.now)) (orders ++ orders_of_family source.now family) marks.new) }
+{
+    for place in 0..size_of(source, family) {
+        let block = Block { family, place };
+        mark_block(marks, clauses, alloc, source, events, &block)?;
+    }
+    Ok(())
+}
+
+/// Marks them for each block of the families.
+fn mark_families(
     marks: &mut [bool],
     alloc: Global,
     source: &Source<'_>,
     events: &Events<'_>,
-    blocks: &[Block],
+    families: &[Family],
 ) -> Result<(), AllocError>
     requires size { length marks.old ≡ length (events_of events.now) * length (events_of events.now) }
     requires one { events.now ≡ source.now }
-    ensures { OnOk result ((orders : List (ℕ × ℕ)) → AreMarks (length (events_of source.now)) orders marks.old → AreMarks (length (events_of source.now)) (orders ++ flat_map (orders_of source.now) blocks.now) marks.new) }
+    ensures { OnOk result ((orders : List (ℕ × ℕ)) → AreMarks (length (events_of source.now)) orders marks.old → AreMarks (length (events_of source.now)) (orders ++ flat_map (orders_of_family source.now) families.now) marks.new) }
 {
-    for block in blocks {
-        let clauses = clauses_of(alloc, source, block)?;
-        mark_clauses(marks, events, &clauses);
+    let mut clauses = Symbolic::new(alloc);
+    for family in families {
+        mark_family(marks, &mut clauses, alloc, source, events, *family)?;
     }
     Ok(())
 }
@@ -119,38 +157,36 @@ fn marked(alloc: Global, marks: &[bool], most: usize) -> Result<Vec<(usize, usiz
     Ok(used)
 }
 
-/// The pairs that the blocks mark, on a table without marks.
+/// The used pairs, found on a table without marks.
 fn marked_by(
     marks: &mut [bool],
     alloc: Global,
     source: &Source<'_>,
     events: &Events<'_>,
-    blocks: &[Block],
 ) -> Result<Vec<(usize, usize)>, AllocError>
     requires size { length marks.old ≡ length (events_of events.now) * length (events_of events.now) }
     requires one { events.now ≡ source.now }
     requires none { AreMarks (length (events_of source.now)) [] marks.old }
-    ensures { IfOk result (λ used. used.items ≡ filter (is_among (flat_map (orders_of source.now) blocks.now)) (event_pairs (length (events_of source.now)))) }
+    ensures { IfOk result (λ used. used.items ≡ used_pairs source.now) }
 {
-    mark_blocks(marks, alloc, source, events, blocks)?;
+    mark_families(marks, alloc, source, events, order_families())?;
     let used = marked(alloc, marks, events.len())?;
     Ok(used)
 }
 
-/// The pairs of events, by their places, of which the clauses of the blocks say that one is earlier: by the first place,
-/// then by the second. The only error is want of memory.
+/// The used pairs of events: those of which some clause says that one is earlier, by their places, the smaller one first.
+/// They are sorted by the first place, then by the second. The only error is want of memory.
 pub fn used_pairs(
     alloc: Global,
     source: &Source<'_>,
     events: &Events<'_>,
-    blocks: &[Block],
 ) -> Result<Vec<(usize, usize)>, AllocError>
     requires one { events.now ≡ source.now }
     requires few { length (events_of events.now) ≤ 1024 }
-    ensures { IfOk result (λ used. used.items ≡ filter (is_among (flat_map (orders_of source.now) blocks.now)) (event_pairs (length (events_of source.now)))) }
+    ensures { IfOk result (λ used. used.items ≡ used_pairs source.now) }
 {
     let most = events.len();
     let mut marks = vec![in alloc; false; most * most]?;
-    let used = marked_by(marks.as_mut_slice(), alloc, source, events, blocks)?;
+    let used = marked_by(marks.as_mut_slice(), alloc, source, events)?;
     Ok(used)
 }

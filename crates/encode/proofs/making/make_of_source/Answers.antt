@@ -10,7 +10,7 @@ pub make-requires-clause-small : goal.make-requires-clause-small
 make-requires-clause-small c = small_from c.args.events c.requires.few
 
 pub make-requires-clause-used : goal.make-requires-clause-used
-make-requires-clause-used c = c.as_slice-3.ensures.value ∙ (c.in_ok-used.ensures ∙ ap used_pairs (sym c.requires.one))
+make-requires-clause-used c = c.as_slice-2.ensures.value ∙ (c.in_ok-used.ensures ∙ ap used_pairs (sym c.requires.one))
 
 pub make-meanings-requires : goal.make-meanings-requires
 make-meanings-requires c =

@@ -13,6 +13,6 @@ returns c =
     let taker = c.args.pair.1 in
     let earlier = c.args.earlier in
     let others = c.in_ok-others.ensures ∙ ap (λ l. filter (λ other. not (other == taker)) l) c.takers_of.ensures in
-    clause_then c.args.clauses.now c.push.new.self c.matched_earlier.new.clauses _ _ _ c.in_ok-push.ensures
-    (c.in_ok-push_takers.ensures ∙ (ap (λ l. l ++ map (λ other. is_true (matched earlier other)) c.as_slice.result.now) c.in_ok-clause.ensures.items ∙ ap (λ l. is_false (matched send taker) ∷ map (λ other. is_true (matched earlier other)) l) (c.as_slice.ensures.value ∙ others)))
-    (c.in_ok-matched_earlier.ensures ∙ ap (λ l. c.push.new.self ++ map (λ other. is_false (matched send taker) ∷ is_false (matched earlier other) ∷ is_earlier (match_of other) (match_of taker) ∷ []) l) (c.as_slice-2.ensures.value ∙ others))
+    clause_then c.args.clauses.now c.add.new.self c.matched_earlier.new.clauses _ _ _ c.in_ok-add.ensures
+    (c.as_slice-2.ensures.value ∙ (c.in_ok-push_takers.ensures ∙ (ap (λ l. l ++ map (λ other. is_true (matched earlier other)) c.as_slice.result.now) c.in_ok-clause.ensures.items ∙ ap (λ l. is_false (matched send taker) ∷ map (λ other. is_true (matched earlier other)) l) (c.as_slice.ensures.value ∙ others))))
+    (c.in_ok-matched_earlier.ensures ∙ ap (λ l. c.add.new.self ++ map (λ other. is_false (matched send taker) ∷ is_false (matched earlier other) ∷ is_earlier (match_of other) (match_of taker) ∷ []) l) (c.as_slice-3.ensures.value ∙ others))

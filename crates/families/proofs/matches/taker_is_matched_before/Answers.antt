@@ -11,6 +11,6 @@ returns c =
     let taker = c.args.pair.1 in
     let earlier = c.args.earlier in
     let others = c.as_slice.ensures.value ∙ (c.in_ok-others.ensures ∙ ap (λ l. filter (λ other. not (other == send)) l) c.sends_of.ensures) in
-    clause_then c.args.clauses.now c.push.new.self c.add.new.self _ _ _ c.in_ok-push.ensures
-    (c.in_ok-push_sends.ensures ∙ (ap (λ l. l ++ map (λ other. is_true (matched other earlier)) c.as_slice.result.now) c.in_ok-clause.ensures.items ∙ ap (λ l. is_false (matched send taker) ∷ map (λ other. is_true (matched other earlier)) l) others))
-    c.in_ok-add.ensures
+    clause_then c.args.clauses.now c.add.new.self c.add-2.new.self _ _ _ c.in_ok-add.ensures
+    (c.as_slice-2.ensures.value ∙ (c.in_ok-push_sends.ensures ∙ (ap (λ l. l ++ map (λ other. is_true (matched other earlier)) c.as_slice.result.now) c.in_ok-clause.ensures.items ∙ ap (λ l. is_false (matched send taker) ∷ map (λ other. is_true (matched other earlier)) l) others)))
+    c.in_ok-add-2.ensures

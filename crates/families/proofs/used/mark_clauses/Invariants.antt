@@ -5,6 +5,6 @@ use Rattle.formulas.specs.Orders.{places_in}
 use Rattle.families.specs.Marks.{AreMarks}
 use Rattle.families.proofs.used.mark_clauses.Given as goal
 
-abbrev pub invariant-loop-clause : goal.invariant-loop-clause
-invariant-loop-clause l =
-    (orders : List (ℕ × ℕ)) → AreMarks (length (events l.events)) orders l.initial.marks → AreMarks (length (events l.events)) (orders ++ flat_map (λ v. flat_map (places_in l.events) v.items) (take l.clause-index l.clause-items)) l.marks
+abbrev pub invariant-loop-place : goal.invariant-loop-place
+invariant-loop-place l =
+    (orders : List (ℕ × ℕ)) → AreMarks (length (events l.events)) orders l.initial.marks → AreMarks (length (events l.events)) (orders ++ flat_map (flat_map (places_in l.events)) (take l.place l.clauses)) l.marks

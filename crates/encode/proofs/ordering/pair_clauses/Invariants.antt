@@ -1,7 +1,0 @@
-use Rattle.std.proofs.Common.{◌≡◌, ◌++◌, map, take}
-use Rattle.std.specs.List.{filter_map, flat_map, range_with_len}
-use Rattle.formulas.specs.Orders.{bits_agree, bit_decides}
-use Rattle.encode.proofs.ordering.pair_clauses.Given as goal
-
-abbrev pub invariant-loop-place : goal.invariant-loop-place
-invariant-loop-place l = map (λ v. v.items) l.clauses.items ≡ flat_map (λ i. bits_agree l.size l.pair.0 l.pair.1 i ++ bit_decides l.size l.pair.0 l.pair.1 i) (range_with_len 0 l.place)
