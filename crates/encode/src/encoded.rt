@@ -15,9 +15,9 @@ use candidates::Pairs;
 use clauses::Formula;
 use formulas::Meaning;
 use nonovertake::Earlier;
-use std::alloc::Global;
+use std::alloc::{AllocError, Global};
 use std::marker::Model;
-use tables::Meanings;
+use tables::{Events, Meanings, Variables};
 
 /// A program with its pairs and its formula. It has at most 1,024 events, and the formula at most 4,000,000 clauses.
 #[derive(Drop)]
@@ -30,14 +30,14 @@ pub struct Encoded {
 
 impl Model for Encoded {
     ghost use Rattle.std.specs.Prelude.{◌≡◌};
-    ghost use Rattle.formulas.specs.Numbering.{meanings as meanings_of};
+    ghost use Rattle.tables.specs.Meanings.{parts_of};
     ghost use Rattle.encode.specs.Encodings.{EncodedProgram, IsEncoded};
 
     ghost Value = { EncodedProgram };
 
     ghost view = { λ e. record { program = e.program; pairs = e.pairs; formula = e.formula } };
 
-    ghost invariant = { λ e. IsEncoded (record { program = e.program; pairs = e.pairs; formula = e.formula }) × (e.meanings ≡ meanings_of e.program) };
+    ghost invariant = { λ e. IsEncoded (record { program = e.program; pairs = e.pairs; formula = e.formula }) × (e.meanings ≡ parts_of e.program) };
 }
 
 /// A refusal, with what was handed in.
@@ -83,6 +83,17 @@ impl Encoded {
             return None;
         }
         self.meanings.at(variable as usize - 1)
+    }
+
+    /// The numbers of the formula's variables, in tables that are made anew, so that each is found in constant time. The only
+    /// error is want of memory.
+    pub fn variables(&self, alloc: Global) -> Result<Variables<'_>, AllocError>
+        ensures { IfOk result (λ variables. variables ≡ self.now.program) }
+    {
+        let events = Events::make(alloc, &self.program)?;
+        let facts = self.meanings.facts();
+        let used = self.meanings.used_pairs();
+        Variables::make(alloc, events, facts, used, self.meanings.clock_size())
     }
 
     /// The program, its pairs and its formula.

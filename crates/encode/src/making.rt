@@ -5,7 +5,8 @@ ghost use Rattle.candidates.specs.Pairs.{pairs_of, places};
 ghost use Rattle.nonovertake.specs.Earlier.{earlier_of};
 ghost use Rattle.formulas.specs.Families.{events as events_of, is_standard, last_calls, rank_of, standard_sends};
 ghost use Rattle.formulas.specs.declared.facts.Fact.TheVariants.{Issued as issued, Buffered as buffered, Matched as matched, Unfinished as unfinished};
-ghost use Rattle.formulas.specs.Numbering.{facts as facts_of, formula_of, meanings as meanings_of};
+ghost use Rattle.formulas.specs.Numbering.{facts as facts_of, formula_of};
+ghost use Rattle.tables.specs.Meanings.{parts_of};
 ghost use Rattle.formulas.specs.Orders.{bits_for};
 ghost use Rattle.encode.specs.declared.fault.EncodeFault.TheVariants.{TooManyEvents, TooManyClauses};
 
@@ -124,7 +125,7 @@ fn make_of_source(
     requires pairs { pairs.now ≡ pairs_of source.now }
     requires few { length (events_of events) ≤ 1024 }
     ensures formula { IfOk result (λ made. made.formula ≡ formula_of source.now) }
-    ensures meanings { IfOk result (λ made. made.meanings ≡ meanings_of source.now) }
+    ensures meanings { IfOk result (λ made. made.meanings ≡ parts_of source.now) }
     ensures few { IfOk result (λ made. length made.formula.clauses ≤ 4000000) }
     ensures full { result ≡ Err TooManyClauses → 4000000 < length (formula_of source.now).clauses }
     ensures events { result ≡ Err TooManyEvents → ⊥ }
@@ -155,7 +156,7 @@ pub fn make(
     requires pairs { pairs.now ≡ pairs_of program.now }
     requires earlier { earlier.now ≡ map (earlier_of program.now) (pairs_of program.now) }
     ensures formula { IfOk result (λ made. made.formula ≡ formula_of program.now) }
-    ensures meanings { IfOk result (λ made. made.meanings ≡ meanings_of program.now) }
+    ensures meanings { IfOk result (λ made. made.meanings ≡ parts_of program.now) }
     ensures few { IfOk result (λ made. length made.formula.clauses ≤ 4000000) }
     ensures few_events { IfOk result (λ _. length (events_of program.now) ≤ 1024) }
     ensures full { result ≡ Err TooManyClauses → (length (events_of program.now) ≤ 1024) × (4000000 < length (formula_of program.now).clauses) }

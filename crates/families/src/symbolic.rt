@@ -55,7 +55,11 @@ fn part<'a, Item: Copy>(entries: &'a [Item], ends: &[usize], place: usize) -> &'
 }
 
 /// Adds a part at the end. Without memory nothing is added.
-fn add<Item: Copy>(entries: &mut Vec<Item>, ends: &mut Vec<usize>, part: &[Item]) -> Result<(), AllocError>
+fn add<Item: Copy>(
+    entries: &mut Vec<Item>,
+    ends: &mut Vec<usize>,
+    part: &[Item],
+) -> Result<(), AllocError>
     requires { AreEnds 0 ends.old.items (length entries.old.items) }
     ensures ends { AreEnds 0 ends.new.items (length entries.new.items) }
     ensures added { OnOk result (parts entries.new.items 0 ends.new.items ≡ parts entries.old.items 0 ends.old.items ++ part.now ∷ []) }

@@ -12,7 +12,7 @@ mod source;
 mod variables;
 
 pub use calls::{
-    fetch_of, is_last, is_standard, previous, rank_of, receive_on_handle, when_returned,
+    fetch_of, is_last, is_standard, is_taker, previous, rank_of, receive_on_handle, when_returned,
 };
 pub use events::{Events, count};
 pub use meanings::Meanings;
