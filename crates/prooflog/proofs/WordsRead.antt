@@ -106,12 +106,6 @@ no_more_words whole rest in_range read so none ls hints e =
     let empty : [] ≡ n.0 ∷ n.1 = ap (λ (o : Option (List ℕ)). words_after o) (sym none) ∙ n.2 in
     cc
 
--- one more literal, whether it is in range or not
-pub one_read : (whole rest after : Option (List ℕ)) (in_range : Bool) (read : List Literal) (word : List ℕ) (l : Literal) (found : Option Literal) → LiteralsSoFar whole rest in_range read → words_after rest ≡ word ∷ words_after after → literal_word l ≡ word
-    → IsReadLiteral found l → (in_range : Bool) × (read : List Literal) × LiteralsSoFar whole after in_range read
-one_read whole rest after in_range read word l None so next is reads = (false, read, one_out_of_range whole rest after in_range read word l so next is reads)
-one_read whole rest after in_range read word l (Some found) so next is reads = (in_range, read ++ found ∷ [], one_literal whole rest after in_range read word l found so next is reads)
-
 -- fewer bytes are left after a word
 pub fewer_left : (after : Option (Bor (List ℕ))) (words : List ℕ) → IfSome after (λ rest. length rest.now < length words) → bytes_left (option_copied after) < length words + 1
 fewer_left None words shorter = omega arith

@@ -58,42 +58,27 @@ fn literal_of(word: &[u8]) -> Option<Option<Lit>>
     Some(Lit::make(variable, true))
 }
 
-/// How many literals stand before the colon, where there are literals and a colon. Nothing is kept of
-/// them, so a line of another shape costs no memory.
-fn literal_count(others: Option<&[u8]>) -> Option<usize>
-    ensures { IfNone result ((ls : List Literal) (hints : List (List ℕ)) → map literal_word ls ++ codes ":" ∷ hints ≢ words_after (option_copied others.entry)) }
-{
+/// How many words stand before the first colon, or in all where there is none.
+fn count_to_colon(others: Option<&[u8]>) -> usize {
     let mut count = 0usize;
     let mut rest = others;
     while let Some(words) = rest {
         let (word, after) = cut_word(words);
         if is_word(word, ":") {
-            return Some(count);
+            return count;
         }
-        let Some(_found) = literal_of(word) else {
-            return None;
-        };
         count += 1;
         rest = after;
     }
-    None
+    count
 }
 
-/// How many numbers the words are, where each is one. Nothing is kept of them.
-fn number_count(others: Option<&[u8]>) -> Option<usize>
-    ensures { IfNone result ((ns : List ℕ) → map numeral ns ≢ words_after (option_copied others.entry)) }
-{
-    let mut count = 0usize;
-    let mut rest = others;
-    while let Some(words) = rest {
-        let (word, after) = cut_word(words);
-        let Some(_number) = number_of(word) else {
-            return None;
-        };
-        count += 1;
-        rest = after;
+/// How many words there are.
+fn word_count(others: Option<&[u8]>) -> usize {
+    match others {
+        None => 0,
+        Some(words) => words.iter().filter(|b| **b == b' ').count() + 1,
     }
-    Some(count)
 }
 
 /// What stands before the colon of a proof line and after it.
@@ -109,10 +94,7 @@ fn literals_of(alloc: Global, others: Option<&[u8]>) -> Result<Option<Literals<'
     ensures none { IfOk result (λ found. IfNone found ((ls : List Literal) (hints : List (List ℕ)) → map literal_word ls ++ codes ":" ∷ hints ≢ words_after (option_copied others.entry))) }
     ensures some { IfOk result (λ found. IfSome found (λ read. (ls : List Literal) × (map literal_word ls ++ codes ":" ∷ words_after (option_copied read.hints) ≡ words_after (option_copied others.entry)) × AreRead read.in_range read.literals.items ls)) }
 {
-    let Some(count) = literal_count(others) else {
-        return Ok(None);
-    };
-    let mut literals = Vec::with_capacity(alloc, count)?;
+    let mut literals = Vec::with_capacity(alloc, count_to_colon(others))?;
     let mut in_range = true;
     let mut rest = others;
     while let Some(words) = rest {
@@ -139,10 +121,7 @@ fn numbers_of(alloc: Global, others: Option<&[u8]>) -> Result<Option<Vec<u32>>, 
     ensures none { IfOk result (λ found. IfNone found ((ns : List ℕ) → map numeral ns ≢ words_after (option_copied others.entry))) }
     ensures some { IfOk result (λ found. IfSome found (λ read. (ns : List ℕ) × (map numeral ns ≡ words_after (option_copied others.entry)) × (read.items ≡ map capped ns))) }
 {
-    let Some(count) = number_count(others) else {
-        return Ok(None);
-    };
-    let mut numbers = Vec::with_capacity(alloc, count)?;
+    let mut numbers = Vec::with_capacity(alloc, word_count(others))?;
     let mut rest = others;
     while let Some(words) = rest {
         let (word, after) = cut_word(words);
