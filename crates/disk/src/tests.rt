@@ -1,6 +1,6 @@
-//! Long contents, in pieces.
-use crate::{Disk, DiskFiles, Trouble};
-use files::{FileSet, load, store};
+//! Long contents, in pieces, and files that tell what they hold.
+use crate::{Disk, DiskFiles, Shelf, Trouble};
+use files::{FileSet, OpenFault, load, store};
 use std::alloc::{AllocError, Global};
 use std::cell::{Cell, RefCell};
 use std::test::Fail;
@@ -38,5 +38,29 @@ fn moves_long_contents(rt: HostRuntime) -> Result<(), Fail> {
     store(&mut writer, &loaded)?;
     files.close("out", writer);
     assert!(rt; disk.written.into_inner() == bytes);
+    Ok(())
+}
+
+#[test]
+fn a_shelf_holds_what_was_written(rt: HostRuntime) -> Result<(), Fail> {
+    let alloc = rt.alloc();
+    let mut shelf = Shelf {
+        alloc,
+        program: b"ranks 1",
+        evidence: b"evidence 1",
+        out: None,
+    };
+    let mut program = shelf.open_read("program")?;
+    let bytes = load(alloc, &mut program)?;
+    assert!(rt; bytes.as_slice() == b"ranks 1".as_slice());
+    let mut evidence = shelf.open_read("evidence")?;
+    let bytes = load(alloc, &mut evidence)?;
+    assert!(rt; bytes.as_slice() == b"evidence 1".as_slice());
+    assert_eq!(rt; shelf.open_read("out").err(), Some(OpenFault::Device));
+    assert_eq!(rt; shelf.open_write("program").err(), Some(OpenFault::Device));
+    let mut writer = shelf.open_write("out")?;
+    store(&mut writer, b"schedule")?;
+    shelf.close("out", writer);
+    assert_eq!(rt; shelf.out.as_deref(), Some(b"schedule".as_slice()));
     Ok(())
 }

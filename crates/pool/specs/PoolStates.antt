@@ -1,5 +1,5 @@
 -- What a pool keeps, and what its calls do to it.
-use Rattle.std.specs.Prelude.{◌≡◌, ℕ, ◌≤◌, nat_le, if◌then◌else◌, List, [], ◌∷◌, ◌++◌, Option, Some, None, Contains, All}
+use Rattle.std.specs.Prelude.{◌≡◌, codes, ℕ, ◌≤◌, nat_le, if◌then◌else◌, List, [], ◌∷◌, ◌++◌, Option, Some, None, Contains, All}
 use Rattle.callorder.specs.Programs.{MpiProgram}
 use Rattle.semantics.specs.declared.state.Step.{Step}
 use Rattle.semantics.specs.Machine.{IsStuckRun}
@@ -29,6 +29,13 @@ why_number Budget = 1
 why_number Full = 2
 why_number Memory = 3
 why_number Left = 4
+
+-- the word by which a reason is told
+abbrev pub why_word : Why → List ℕ
+why_word Budget = codes "budget"
+why_word Full = codes "full"
+why_word Memory = codes "memory"
+why_word Left = codes "left"
 
 -- the smallest of the reasons, where there are any
 abbrev pub IsSmallest : List Why → Option Why → Type 0

@@ -1,7 +1,7 @@
 //! Why no answer is known.
 
-ghost use Rattle.std.specs.Prelude.{◌≡◌};
-ghost use Rattle.pool.specs.PoolStates.{why_number, smaller_of, IsSmallest};
+ghost use Rattle.std.specs.Prelude.{◌≡◌, Some};
+ghost use Rattle.pool.specs.PoolStates.{why_number, why_word, smaller_of, IsSmallest};
 
 use std::fmt;
 
@@ -19,17 +19,26 @@ pub enum Why {
 }
 
 impl fmt::Display for Why {
+    ghost output = { λ why. Some (why_word why) };
+
     fn fmt<W: fmt::Write>(&self, f: &mut fmt::Formatter<W>) -> fmt::Result {
-        f.write_str(match self {
-            Why::Budget => "budget",
-            Why::Full => "full",
-            Why::Memory => "memory",
-            Why::Left => "left",
-        })
+        f.write_str(self.word())
     }
 }
 
 impl Why {
+    /// The word by which it is told.
+    fn word(self) -> &'static str
+        ensures { result.now ≡ why_word self }
+    {
+        match self {
+            Why::Budget => "budget",
+            Why::Full => "full",
+            Why::Memory => "memory",
+            Why::Left => "left",
+        }
+    }
+
     fn number(self) -> u32
         ensures { result ≡ why_number self }
     {

@@ -8,3 +8,4 @@ pub mod Requests
 pub mod RunLaws
 pub mod PlainAnswers
 pub mod OptionWords
+pub mod PieceWords

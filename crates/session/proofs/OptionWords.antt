@@ -46,10 +46,10 @@ no_minus : (text : Text) → begins_with_hyphen text ≡ false → Some (without
 no_minus text free = ap (λ (o : Option Text). Some (unwrap_or o text)) (unstripped text free)
 
 -- `--pieces` and its value after both files
-abbrev pieces_last : Text → Text → Text → Walk
+abbrev pub pieces_last : Text → Text → Text → Walk
 pieces_last p e pieces = after_free check_rules (walked check_rules [] (two_words check_rules p e) (codes "--pieces")) pieces
 
-pieces_walk : (p e pieces : Text) → begins_with_hyphen p ≡ false → begins_with_hyphen e ≡ false → begins_with_hyphen pieces ≡ false
+pub pieces_walk : (p e pieces : Text) → begins_with_hyphen p ≡ false → begins_with_hyphen e ≡ false → begins_with_hyphen pieces ≡ false
     → fold (walked check_rules []) start (p ∷ e ∷ codes "--pieces" ∷ pieces ∷ []) ≡ pieces_last p e pieces
 unfolding clap_on_literals
 pieces_walk p e pieces fp fe fn =

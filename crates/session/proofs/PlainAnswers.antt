@@ -2,9 +2,11 @@
 use Rattle.std.proofs.Common.{◌≡◌, inl, inr, true, false, List, [], ◌∷◌, Some, None, codes}
 use Rattle.clap.specs.Words.{Text, fault_of}
 use Rattle.session.specs.CommandLine.{AskFor, command_line}
-use Rattle.session.specs.Deadlocks.{AskToCheck, AskToProve, AskToReplay, IsAnswered, PlainWordsAreAnswered}
+use Rattle.session.specs.Deadlocks.{AskToCheck, AskToCheckIn, AskToEncode, AskToProve, AskToReplay, IsAnswered, PlainWordsAreAnswered}
 use Rattle.session.specs.declared.request.Request.{Request}
-use Rattle.session.proofs.PlainFaults.{check_faultless, check_json_faultless, prove_faultless, prove_json_faultless, prove_out_faultless, replay_faultless}
+use Rattle.session.proofs.PlainFaults.{check_faultless, check_json_faultless, check_pieces_faultless, encode_faultless, prove_faultless, prove_json_faultless, prove_out_faultless, replay_faultless}
+use Rattle.session.proofs.OptionWords.{option_words_are_read}
+use Rattle.session.proofs.PieceWords.{pieces_are_free}
 use Rattle.session.proofs.PlainWords.{plain_words_are_read}
 use Rattle.session.proofs.Requests.{faulted}
 
@@ -23,9 +25,18 @@ plain_words_are_answered = record {
   check_as_json = λ name p e fp fe.
       answered (name ∷ codes "check" ∷ p ∷ e ∷ codes "--json" ∷ []) (λ words. AskToCheck words p e) (check_json_faultless name p e fp fe)
       (λ request asks. (request, true, asks, plain_words_are_read.check_as_json name p e request fp fe asks));
+  check_pieces = λ name p e pieces fp fe spells.
+      answered (name ∷ codes "check" ∷ p ∷ e ∷ codes "--pieces" ∷ pieces ∷ []) (λ words. AskToCheckIn words p e pieces)
+      (check_pieces_faultless name p e pieces fp fe spells)
+      (λ request asks.
+          let read = option_words_are_read.check_pieces name p e pieces request fp fe (pieces_are_free pieces spells) asks in
+          (request, asks, read.0, read.1));
   replay = λ name p e fp fe.
       answered (name ∷ codes "replay" ∷ p ∷ e ∷ []) (λ words. AskToReplay words p e) (replay_faultless name p e fp fe)
       (λ request asks. (request, asks, plain_words_are_read.replay name p e request fp fe asks));
+  encode = λ name p fp.
+      answered (name ∷ codes "encode" ∷ p ∷ []) (λ words. AskToEncode words p) (encode_faultless name p fp)
+      (λ request asks. (request, asks, plain_words_are_read.encode name p request fp asks));
   prove = λ name p fp.
       answered (name ∷ codes "prove" ∷ p ∷ []) (λ words. AskToProve words p None) (prove_faultless name p fp)
       (λ request asks. (request, false, asks, (plain_words_are_read.prove name p request fp asks).0));

@@ -9,8 +9,13 @@ use Rattle.clap.specs.Faults.{bundle_fault, check_fault, defaults_fault, flag_wo
 use Rattle.clap.specs.Walk.{Held, Step, Waiting, Walk, answers_to, finished, nothing_held, plain_word, settled, walk, walked, word_met}
 use Rattle.clap.specs.Simple.{help_shape, label_of, names_of}
 use Rattle.clap.proofs.OnLiterals.{clap_on_literals}
-use Rattle.session.specs.CommandLine.{begins_with_hyphen, command_line}
-use Rattle.session.proofs.PlainWords.{after_free, check_rules, check_walk, free_met, no_dashes, no_long, no_short, out_walk, prove_out, prove_rules, prove_walk, prove_word, replay_rules, replay_walk, start, two_words, walked_free}
+use Rattle.clap.specs.ValueTests.{accepts}
+use Rattle.clap.specs.declared.builder.value_parser.ValueParser.TheVariants.{Signed}
+use Rattle.clap.specs.declared.error.kind.ErrorKind.TheVariants.{ValueValidation}
+use Rattle.session.specs.CommandLine.{SpellsPieces, begins_with_hyphen, command_line}
+use Rattle.session.proofs.OptionWords.{pieces_last, pieces_walk}
+use Rattle.session.proofs.PieceWords.{pieces_are_free, pieces_pass}
+use Rattle.session.proofs.PlainWords.{after_free, check_rules, check_walk, encode_rules, free_met, no_dashes, no_long, no_short, out_walk, prove_out, prove_rules, prove_walk, prove_word, replay_rules, replay_walk, start, two_words, walked_free}
 
 -- ---- one free word
 
@@ -60,6 +65,9 @@ check_shape = shape_in (find (λ s. answers_to (codes "check") (label_of s)) (bu
 abbrev replay_shape : Shape
 replay_shape = shape_in (find (λ s. answers_to (codes "replay") (label_of s)) (built command_line).subs)
 
+abbrev encode_shape : Shape
+encode_shape = shape_in (find (λ s. answers_to (codes "encode") (label_of s)) (built command_line).subs)
+
 abbrev prove_shape : Shape
 prove_shape = shape_in (find (λ s. answers_to (codes "prove") (label_of s)) (built command_line).subs)
 
@@ -95,6 +103,42 @@ check_json_leaf p e fp fe =
     (ap₂ (λ (a b : Kinds). or_else a (or_else b [])) (check_second p e fp fe) third) in
     leaf_by_walk check_shape (p ∷ e ∷ codes "--json" ∷ []) (walked check_rules [] (two_words check_rules p e) (codes "--json")) turns
     (ap (λ (w : Walk). walked check_rules [] w (codes "--json")) (check_walk p e fp fe))
+
+-- what is left to be tested after the walk, where the text of the pieces passes or not
+abbrev pieces_fault : Text → Text → Text → Bool → Kinds
+pieces_fault p e pieces passes =
+    or_else (or_else (if passes then [] else ValueValidation ∷ []) [])
+    (or_else (defaults_fault (settled check_rules (pieces_last p e pieces).held).rows check_rules)
+    (check_fault check_shape (finished check_rules (pieces_last p e pieces).held) false))
+
+pieces_end : (p e pieces : Text) → SpellsPieces pieces → end_fault check_shape (pieces_last p e pieces) ≡ []
+unfolding clap_on_literals
+pieces_end p e pieces spells =
+    let passes : end_fault check_shape (pieces_last p e pieces) ≡ pieces_fault p e pieces true = ap (pieces_fault p e pieces) (pieces_pass pieces spells) in
+    passes
+
+check_pieces_leaf : (p e pieces : Text) → begins_with_hyphen p ≡ false → begins_with_hyphen e ≡ false → SpellsPieces pieces
+    → leaf_fault check_shape (p ∷ e ∷ codes "--pieces" ∷ pieces ∷ []) ≡ []
+unfolding clap_on_literals
+check_pieces_leaf p e pieces fp fe spells =
+    let fn = pieces_are_free pieces spells in
+    let third : turn_fault check_shape [] (walked check_rules [] (walked check_rules [] start p) e) (codes "--pieces") ≡ [] =
+    ap (λ (w : Walk). turn_fault check_shape [] w (codes "--pieces")) (check_walk p e fp fe) in
+    let fourth : turn_fault check_shape [] (walked check_rules [] (walked check_rules [] (walked check_rules [] start p) e) (codes "--pieces")) pieces ≡ [] =
+    ap (λ (w : Walk). turn_fault check_shape [] (walked check_rules [] w (codes "--pieces")) pieces) (check_walk p e fp fe)
+    ∙ turn_at_rest check_shape (walked check_rules [] (two_words check_rules p e) (codes "--pieces")) pieces fn in
+    let turns : walk_fault check_shape [] start (p ∷ e ∷ codes "--pieces" ∷ pieces ∷ []) ≡ [] =
+    ap₂ (λ (a b : Kinds). or_else a b) (check_first p fp)
+    (ap₂ (λ (a b : Kinds). or_else a b) (check_second p e fp fe) (ap₂ (λ (a b : Kinds). or_else a (or_else b [])) third fourth)) in
+    leaf_by_walk check_shape (p ∷ e ∷ codes "--pieces" ∷ pieces ∷ []) (pieces_last p e pieces) turns (pieces_walk p e pieces fp fe fn)
+    ∙ pieces_end p e pieces spells
+
+encode_leaf : (p : Text) → begins_with_hyphen p ≡ false → leaf_fault encode_shape (p ∷ []) ≡ []
+unfolding clap_on_literals
+encode_leaf p fp =
+    let first : turn_fault encode_shape [] start p ≡ [] = turn_at_rest encode_shape start p fp in
+    let turns : walk_fault encode_shape [] start (p ∷ []) ≡ [] = ap (λ (a : Kinds). or_else a []) first in
+    leaf_by_walk encode_shape (p ∷ []) (after_free encode_rules start p) turns (walked_free encode_rules start p refl refl fp)
 
 replay_leaf : (p e : Text) → begins_with_hyphen p ≡ false → begins_with_hyphen e ≡ false → leaf_fault replay_shape (p ∷ e ∷ []) ≡ []
 unfolding clap_on_literals
@@ -148,6 +192,16 @@ pub check_json_faultless : (name p e : Text) → begins_with_hyphen p ≡ false 
     → fault_of command_line (name ∷ codes "check" ∷ p ∷ e ∷ codes "--json" ∷ []) ≡ []
 unfolding clap_on_literals
 check_json_faultless name p e fp fe = ap (whole_fault (codes "check" ∷ p ∷ e ∷ codes "--json" ∷ [])) (check_json_leaf p e fp fe)
+
+pub check_pieces_faultless : (name p e pieces : Text) → begins_with_hyphen p ≡ false → begins_with_hyphen e ≡ false → SpellsPieces pieces
+    → fault_of command_line (name ∷ codes "check" ∷ p ∷ e ∷ codes "--pieces" ∷ pieces ∷ []) ≡ []
+unfolding clap_on_literals
+check_pieces_faultless name p e pieces fp fe spells =
+    ap (whole_fault (codes "check" ∷ p ∷ e ∷ codes "--pieces" ∷ pieces ∷ [])) (check_pieces_leaf p e pieces fp fe spells)
+
+pub encode_faultless : (name p : Text) → begins_with_hyphen p ≡ false → fault_of command_line (name ∷ codes "encode" ∷ p ∷ []) ≡ []
+unfolding clap_on_literals
+encode_faultless name p fp = ap (whole_fault (codes "encode" ∷ p ∷ [])) (encode_leaf p fp)
 
 pub replay_faultless : (name p e : Text) → begins_with_hyphen p ≡ false → begins_with_hyphen e ≡ false
     → fault_of command_line (name ∷ codes "replay" ∷ p ∷ e ∷ []) ≡ []

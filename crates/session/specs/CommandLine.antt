@@ -8,7 +8,7 @@ use Rattle.clap.specs.declared.builder.command.Command.{Command}
 use Rattle.clap.specs.declared.builder.command.Command.TheViews.{out-Command}
 use Rattle.clap.specs.declared.builder.value_parser.ValueParser.{ValueParser}
 use Rattle.clap.specs.declared.builder.value_parser.ValueParser.TheVariants.{Signed}
-use Rattle.prover.specs.Ranges.{AreUsual}
+use Rattle.prover.specs.Ranges.{AreUsual, IsPieces}
 use Rattle.prover.specs.declared.options.Options.{Options}
 use Rattle.session.specs.declared.request.Request.{Request}
 use Rattle.session.specs.declared.request.Request.TheVariants as ask
@@ -208,6 +208,11 @@ HasPieces number (ask.Check p e pieces json) = pieces.number ≡ digits_value 10
 HasPieces number (ask.Prove p out options json) = ⊥
 HasPieces number (ask.Replay p e) = ⊥
 HasPieces number (ask.Encode p) = ⊥
+
+-- the text is a number of pieces in decimal digits, 1 to 64
+pub record SpellsPieces (text : Text) : Type 0 where
+  pub digits : IsNumeral 10 text
+  pub in_range : IsPieces (digits_value 10 text)
 
 -- the words in their usual order, where no file's name begins with a hyphen
 pub record PlainWordsAreRead : Type 0 where
