@@ -1,11 +1,10 @@
 -- The text of a number of pieces passes the parser of its option.
-use Rattle.std.proofs.Common.{◌≡◌, arith, ap, ap₂, refl, subst, sym, cond, ℕ, ℤ, Bool, true, false, List, [], ◌∷◌, drop}
+use Rattle.std.proofs.Common.{◌≡◌, arith, ap₂, refl, subst, sym, cond, ℕ, ℤ, Bool, true, false, [], ◌∷◌, drop}
 use Rattle.std.specs.Prelude.{◌<◌, ◌==◌, FitsSigned, int_le, neg_ℤ, pos, slice_index, ◌≤ℤ◌}
 use Rattle.std.specs.Int.{w64}
 use Rattle.std.specs.Char.{digit_value}
 use Rattle.std.specs.Str.Parse.{IsNumeral, digits_value, signed_digits_value, without_leading_sign}
 use Rattle.std.proofs.lemmas.Bool.{le-leb, ne_eqb}
-use Rattle.std.proofs.lemmas.Str.Parse.{digit_from_value}
 use lib.Signed.{le_z_yes}
 use lib.Dec.{T}
 use Rattle.clap.specs.Words.{Text}

@@ -29,8 +29,8 @@ plain_words_are_answered = record {
       answered (name ∷ codes "check" ∷ p ∷ e ∷ codes "--pieces" ∷ pieces ∷ []) (λ words. AskToCheckIn words p e pieces)
       (check_pieces_faultless name p e pieces fp fe spells)
       (λ request asks.
-          let read = option_words_are_read.check_pieces name p e pieces request fp fe (pieces_are_free pieces spells) asks in
-          (request, asks, read.0, read.1));
+      let read = option_words_are_read.check_pieces name p e pieces request fp fe (pieces_are_free pieces spells) asks in
+      (request, asks, read.0, read.1));
   replay = λ name p e fp fe.
       answered (name ∷ codes "replay" ∷ p ∷ e ∷ []) (λ words. AskToReplay words p e) (replay_faultless name p e fp fe)
       (λ request asks. (request, asks, plain_words_are_read.replay name p e request fp fe asks));

@@ -9,8 +9,6 @@ use Rattle.clap.specs.Faults.{bundle_fault, check_fault, defaults_fault, flag_wo
 use Rattle.clap.specs.Walk.{Held, Step, Waiting, Walk, answers_to, finished, nothing_held, plain_word, settled, walk, walked, word_met}
 use Rattle.clap.specs.Simple.{help_shape, label_of, names_of}
 use Rattle.clap.proofs.OnLiterals.{clap_on_literals}
-use Rattle.clap.specs.ValueTests.{accepts}
-use Rattle.clap.specs.declared.builder.value_parser.ValueParser.TheVariants.{Signed}
 use Rattle.clap.specs.declared.error.kind.ErrorKind.TheVariants.{ValueValidation}
 use Rattle.session.specs.CommandLine.{SpellsPieces, begins_with_hyphen, command_line}
 use Rattle.session.proofs.OptionWords.{pieces_last, pieces_walk}
