@@ -1,11 +1,11 @@
 -- The clauses of all families and of the order are those of the formula.
-use Rattle.std.proofs.Common.{◌≡◌, ℕ, ◌<◌, List, [], ◌∷◌, ◌++◌, Result, Ok, Err, length, refl, sym, ap, ◌∙◌, subst}
+use Rattle.std.proofs.Common.{◌≡◌, ℕ, ◌<◌, List, [], ◌∷◌, ◌++◌, Result, Err, length, sym, ap, ◌∙◌}
 use Rattle.std.specs.List.{flat_map}
 use Rattle.std.proofs.lemmas.List.{append_assoc, append-nil}
 use Rattle.std.proofs.lemmas.List.Concat.{flat_map-append}
 use Rattle.callorder.specs.Programs.{MpiProgram}
 use Rattle.clauses.specs.Clauses.{Literal}
-use Rattle.formulas.specs.Families.{families_of_order, families_of_end, no_pair_waits, no_issue_waits, some_rank_is_unfinished, sends_are_buffered_as_allowed}
+use Rattle.formulas.specs.Families.{families_of_order, families_of_end, no_pair_waits, no_issue_waits, sends_are_buffered_as_allowed}
 use Rattle.formulas.specs.Orders.{clock_size, used_pairs, pair_clauses}
 use Rattle.formulas.specs.Numbering.{normal_form, numbered, numbered_order, formula_of}
 use Rattle.encode.specs.declared.draft.Halt.{Halt}

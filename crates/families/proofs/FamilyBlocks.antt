@@ -1,7 +1,6 @@
 -- The blocks of families have the clauses of the families.
-use Rattle.std.proofs.Common.{◌≡◌, ℕ, zero, suc, ◌+◌, ◌<◌, ◌≤◌, Bool, true, false, cond, if◌then◌else◌, not, List, [], ◌∷◌, ◌++◌, Err, map, length, get_or, refl, sym, ap, ◌∙◌, subst, arith}
+use Rattle.std.proofs.Common.{◌≡◌, ℕ, zero, suc, ◌+◌, ◌<◌, Bool, true, false, cond, if◌then◌else◌, not, List, [], ◌∷◌, ◌++◌, map, length, get_or, refl, sym, ap, ◌∙◌, arith}
 use Rattle.std.specs.List.{filter, flat_map, range_with_len}
-use Rattle.std.proofs.lemmas.List.{append_assoc, append-nil}
 use Rattle.std.proofs.lemmas.List.Concat.{flat_map-append}
 use Rattle.std.proofs.lemmas.List.Folds.{flat_map-map}
 use Rattle.std.proofs.lemmas.List.FromFn.{get_or-map-range_with_len, length-map-range_with_len}
@@ -15,7 +14,7 @@ use Rattle.formulas.specs.Orders.{places_in, stated_orders}
 use Rattle.families.specs.declared.families.Block.{Block}
 use Rattle.families.specs.declared.families.Family.{Family}
 use Rattle.families.specs.declared.families.Family.TheVariants.{IssueOrder, ReturnOrder, MatchOrder, MatchedOnce, SendOrder, TakerOrder, NoPairWaits, NoIssueWaits, Finished, SomeUnfinished, Buffering}
-use Rattle.families.specs.Blocks.{order_families, end_families, policy_families, finished_after, buffered_as_allowed, clauses_at, clauses_of, block, blocks_of, size_of}
+use Rattle.families.specs.Blocks.{order_families, end_families, policy_families, clauses_at, clauses_of, block, blocks_of, size_of}
 use Rattle.families.specs.Marks.{orders_of_family}
 
 -- ---- lists

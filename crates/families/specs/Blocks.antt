@@ -1,5 +1,5 @@
 -- The clauses of a program in blocks, each of a family for one call or for one pair.
-use Rattle.std.specs.Prelude.{ℕ, not, if◌then◌else◌, ◌+◌, List, [], ◌∷◌, ◌++◌, length, map}
+use Rattle.std.specs.Prelude.{ℕ, not, if◌then◌else◌, ◌+◌, List, [], ◌∷◌, length, map}
 use Rattle.std.specs.List.{flat_map, range_with_len}
 use Rattle.callorder.specs.Programs.{MpiProgram, are_of_one_rank}
 use Rattle.candidates.specs.Pairs.{pairs_of, pair_at}

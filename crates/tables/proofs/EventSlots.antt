@@ -1,7 +1,7 @@
 -- The places of events by their numbers.
-use Rattle.std.proofs.Common.{◌≡◌, ℕ, zero, suc, ◌+◌, ◌-◌, ◌*◌, ◌<◌, ◌≤◌, Bool, true, false, cond, not, ◌&&◌, ◌||◌, ◌==◌, nat_lt, if◌then◌else◌, List, [], ◌∷◌, ◌++◌, map, length, refl, sym, ap, ◌∙◌, subst, arith}
+use Rattle.std.proofs.Common.{◌≡◌, ℕ, ◌+◌, ◌<◌, Bool, true, false, cond, not, ◌==◌, nat_lt, if◌then◌else◌, List, [], ◌∷◌, ◌++◌, map, length, refl, sym, ap, ◌∙◌, subst, arith}
 use Rattle.std.specs.Prelude.{All}
-use Rattle.std.specs.List.{filter, range_with_len, list_any, position_or_len}
+use Rattle.std.specs.List.{filter, range_with_len, position_or_len}
 use Rattle.std.proofs.lemmas.Bool.Decides.{nat_tests}
 use Rattle.std.proofs.lemmas.List.{map-append, length-append, length-map}
 use Rattle.std.proofs.lemmas.List.FromFn.{length-range_with_len}
@@ -11,7 +11,7 @@ use Rattle.formulas.specs.Facts.{is_same_event}
 use Rattle.formulas.specs.declared.facts.Event.{Event}
 use Rattle.formulas.specs.declared.facts.Event.TheVariants.{Issue as issue_of, Match as match_of}
 use Rattle.formulas.specs.Families.{events, place_of, is_taker}
-use Rattle.formulas.proofs.Elements.{Each, each_append, each_map, each_filter, each_range, each_from, each_mono, all_from_each}
+use Rattle.formulas.proofs.Elements.{Each, each_append, each_map, each_filter, each_range, each_mono, all_from_each}
 use Rattle.tables.specs.Places.{first_place}
 use Rattle.tables.specs.Slots.{event_slot, event_slots}
 
