@@ -1,0 +1,5 @@
+//! Tests of schedules from assignments.
+#![tactic(auto)]
+
+#[cfg(test)]
+mod tests;
