@@ -48,7 +48,7 @@ taker_there None y h = absurd (cc)
 taker_there (Some x) None h = absurd (cc)
 taker_there (Some x) (Some y) h = pattern_there x.rank y.rank (message_of x.kind) (pattern_of y.kind) h
 
-fit_taker : (p : MpiProgram) (s t : ℕ) → are_fit p s t ≡ true → is_taker p t ≡ true
+pub fit_taker : (p : MpiProgram) (s t : ℕ) → are_fit p s t ≡ true → is_taker p t ≡ true
 fit_taker p s t fit = taker_there (call_at p s) (call_at p t) fit
 
 -- a matched pair's match happens
