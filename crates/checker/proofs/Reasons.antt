@@ -3,9 +3,7 @@ use Rattle.std.proofs.Common.{◌≡◌, ◌⊎◌, ℕ, true, false, List, leng
 use Rattle.std.proofs.lemmas.Bool.{and_parts, eqb-true, eq-eqb}
 use Rattle.callorder.specs.Programs.{MpiProgram}
 use Rattle.callorder.specs.Resolving.{IsTextOf}
-use Rattle.candidates.specs.declared.fault.PairFault.TheVariants as pairing
 use Rattle.clauses.specs.Clauses.{Conjunction}
-use Rattle.encode.specs.declared.fault.EncodeFault.TheVariants as encoding
 use Rattle.formulas.specs.Numbering.{formula_of}
 use Rattle.semantics.specs.declared.state.Step.{Step}
 use Rattle.semantics.specs.declared.schedule.End.TheVariants as ends
@@ -21,7 +19,7 @@ use Rattle.refutations.specs.Trees.{HasTreeFault}
 use Rattle.checker.specs.declared.reason.Reason.{Reason}
 use Rattle.checker.specs.declared.reason.Reason.TheVariants as reasons
 use Rattle.checker.specs.declared.reason.NoRun.TheVariants as runs
-use Rattle.checker.specs.Verdicts.{IsProgramReason, IsReason, IsUnrefuted, IsUnaccepted, IsUnshown, HasFormula, HasNoFormula, HasCounts, Refutes}
+use Rattle.checker.specs.Verdicts.{IsProgramReason, IsReason, IsUnrefuted, IsUnaccepted, IsUnshown, HasFormula, HasNoFormula, Refutes}
 use Rattle.checker.specs.Parts.{IsClaim, IsClaimOf, IsNoRun, has_counts, tree_reason}
 
 -- a program that is refused has no stuck run

@@ -8,7 +8,7 @@ ghost use Rattle.checker.specs.Verdicts.{IsNeverStuck, Shows, Refutes, Judges, I
 
 use crate::formula::formula_of;
 use crate::reason::{Reason, Verdict};
-use crate::texts::{Texts, check_stuck, texts_of};
+use crate::texts::{Texts, check_stuck, texts_in};
 use callorder::Program;
 use clauses::Formula;
 use pieces::{LinesFault, PieceGate, check_all, check_pieces};
@@ -57,17 +57,19 @@ fn claim_on(
     }
 }
 
-/// The claim that the evidence makes of the program, or the verdict where it makes none that has to be checked.
-fn claim_of(
-    rt: &(impl Threads + Sync),
+/// The claim that the evidence makes of the program, or the verdict where it makes none that has to be checked. Its lines are
+/// read in so many parts, or one after another where there are none.
+fn claim_of<R: Threads + Sync>(
+    rt: &R,
     alloc: Global,
     program: &[u8],
     evidence: &[u8],
+    parts: usize,
 ) -> Result<Claim, Verdict>
     ensures claim { IfOk result (λ claim. IsClaimOf program.now evidence.now claim.formula claim.refutation) }
     ensures judges { IfErr result (λ verdict. Judges program.now evidence.now verdict) }
 {
-    let Texts { program, evidence } = match texts_of(alloc, program, evidence) {
+    let Texts { program, evidence } = match texts_in(rt, alloc, program, evidence, parts) {
         Ok(texts) => texts,
         Err(reason) => return Err(Verdict::Refused(reason)),
     };
@@ -120,7 +122,7 @@ fn judged_at_once(
 ) -> Verdict
     ensures { Judges program.now evidence.now result }
 {
-    match claim_of(rt, alloc, program, evidence) {
+    match claim_of(rt, alloc, program, evidence, 0) {
         Ok(claim) => {
             let lines = check_all(alloc, &claim.formula, claim.refutation.lines());
             judged(alloc, &claim, lines)
@@ -141,7 +143,7 @@ fn judged_in<R: Threads + Sync, G: PieceGate + Sync>(
     requires few { pieces ≤ 64 }
     ensures { Judges program.now evidence.now result }
 {
-    match claim_of(rt, alloc, program, evidence) {
+    match claim_of(rt, alloc, program, evidence, pieces) {
         Ok(claim) => {
             let lines = claim.refutation.lines();
             let lines = check_pieces(rt, alloc, &claim.formula, lines, pieces, gate);
@@ -175,8 +177,8 @@ pub fn verdict(
     judged_at_once(rt, alloc, program, evidence)
 }
 
-/// The same verdict, with the lines of a refutation checked in so many pieces, 1 to 64, each in a thread of its own where
-/// one can be started, else by the calling thread. It waits for all of them.
+/// The same verdict, with the lines of a refutation read and then checked in so many pieces, 1 to 64, each in a thread of its own
+/// where one can be started, else by the calling thread. It waits for all of them.
 pub fn verdict_in<R: Threads + Sync, G: PieceGate + Sync>(
     rt: &R,
     alloc: Global,

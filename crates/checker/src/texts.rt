@@ -10,9 +10,10 @@ ghost use Rattle.checker.specs.Verdicts.{IsProgramReason, IsUnshown};
 use crate::reason::{NoRun, Reason};
 use callorder::Program;
 use calltext::read;
-use prooflog::{Evidence, Schedule, read_evidence};
+use prooflog::{Evidence, Schedule, read_evidence, read_evidence_in};
 use semantics::{End, ReplayFault, replay};
 use std::alloc::Global;
+use std::thread::Threads;
 
 /// A program and an evidence, as their texts give them.
 #[derive(Debug, Drop)]
@@ -51,6 +52,28 @@ pub fn texts_of(alloc: Global, program: &[u8], evidence: &[u8]) -> Result<Texts,
         Err(reason) => return Err(reason),
     };
     match read_evidence(alloc, evidence) {
+        Ok(evidence) => Ok(Texts { program, evidence }),
+        Err(fault) => Err(Reason::from(fault)),
+    }
+}
+
+/// The same, want of memory aside, with the proof lines of a refutation read in so many parts, each in a thread of its own where one
+/// can be started. Where there are none, the calling thread reads all.
+pub fn texts_in<R: Threads + Sync>(
+    rt: &R,
+    alloc: Global,
+    program: &[u8],
+    evidence: &[u8],
+    parts: usize,
+) -> Result<Texts, Reason>
+    ensures texts { IfOk result (λ texts. AreTexts program.now evidence.now texts.program texts.evidence) }
+    ensures reason { IfErr result (λ reason. IsNoRun program.now evidence.now (refused reason)) }
+{
+    let program = match program_of(alloc, program) {
+        Ok(program) => program,
+        Err(reason) => return Err(reason),
+    };
+    match read_evidence_in(rt, alloc, evidence, parts) {
         Ok(evidence) => Ok(Texts { program, evidence }),
         Err(fault) => Err(Reason::from(fault)),
     }

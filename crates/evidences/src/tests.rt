@@ -4,13 +4,14 @@ mod fronts;
 mod limits;
 mod making;
 mod one_send;
+mod parts;
 mod round_trips;
 mod schedules;
 mod shapes;
 mod tree_shapes;
 
 use clauses::Lit;
-use prooflog::{Evidence, Refutation, read_evidence, write_evidence};
+use prooflog::{Evidence, EvidenceFault, Refutation, read_evidence, write_evidence};
 use refutations::{Line, Node, ProofTree};
 use std::alloc::{AllocError, Global};
 use std::process::Abort;
@@ -28,7 +29,16 @@ fn column(row: &str) -> Result<(&str, &str), Fail> {
 
 /// What is told of the text: `read`, where it is read and written as it was, and else its fault.
 fn told(alloc: Global, text: &[u8]) -> Result<String, Fail> {
-    let evidence = match read_evidence(alloc, text) {
+    told_of(alloc, text, read_evidence(alloc, text))
+}
+
+/// The same of a text that was read so.
+fn told_of(
+    alloc: Global,
+    text: &[u8],
+    read: Result<Evidence, EvidenceFault>,
+) -> Result<String, Fail> {
+    let evidence = match read {
         Ok(evidence) => evidence,
         Err(fault) => return Ok(format!(in alloc; "{fault}")?),
     };

@@ -9,6 +9,7 @@ pub mod Exact
 pub mod Schedules
 pub mod Claims
 pub mod ProofLines
+pub mod Parts
 pub mod Nodes
 pub mod Headings
 pub mod TreeDepths

@@ -14,7 +14,7 @@ use Rattle.prooflog.specs.declared.fault.EvidenceFault.TheVariants.{Syntax, Rang
 use Rattle.prooflog.specs.Refutations.{ClaimedRefutation, proof_words, item_words, item_line, a_proof, a_node, the_tree, is_line_in_range, IsInRangeRefutation, IsSmall}
 use Rattle.prooflog.specs.Grammar.{as_refutation, written_lines}
 use Rattle.prooflog.specs.Fault.{IsRanged, IsFew, CanGoOn}
-use Rattle.prooflog.specs.Reading.{words_of, HasFaultAfter, opening}
+use Rattle.prooflog.specs.Reading.{words_of, HasFaultAfter, opening, LinesSoFar}
 use Rattle.prooflog.proofs.ProofWords.{plain_item, some_item_words, item_line_injective, item_line_nonempty}
 use Rattle.prooflog.proofs.Items.{next_of_lines, tree_missing}
 use Rattle.prooflog.proofs.Fronts.{stops_syntax, stops_range, stops_large, small_front}
@@ -35,12 +35,6 @@ line_in_all : (all done : List ProofLine) (line : ProofLine) (others : List Proo
 line_in_all all done line others cut in_range =
     let split : (list_all is_line_in_range done && list_all is_line_in_range (line ∷ others)) ≡ true = sym (list_all-append is_line_in_range done (line ∷ others)) ∙ ap (list_all is_line_in_range) (sym cut) ∙ in_range in
     (and_parts (is_line_in_range line) (list_all is_line_in_range others) (and_parts (list_all is_line_in_range done) (list_all is_line_in_range (line ∷ others)) split).1).0
-
-pub record LinesSoFar (bytes rest : List ℕ) (number : ℕ) (lines : List ProofLine) : Type 0 where
-  pub cut : text_lines bytes ≡ map item_line (map a_proof lines) ++ text_lines rest
-  pub in_range : IsTrue (list_all is_line_in_range lines)
-  pub few : length lines ≤ 1000000
-  pub place : number ≡ 3 + length lines
 
 push_line : (lines : List ProofLine) (p : ProofLine) → map item_line (map a_proof (lines ++ p ∷ [])) ≡ map item_line (map a_proof lines) ++ item_line (a_proof p) ∷ []
 push_line lines p = ap (map item_line) (map_push a_proof lines p) ∙ map_push item_line (map a_proof lines) (a_proof p)

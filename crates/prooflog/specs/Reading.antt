@@ -1,8 +1,8 @@
 -- What the reader's parts say of a line and of the rest of a text.
-use Rattle.std.specs.Prelude.{codes, ◌≡◌, ◌≢◌, ◌↔◌, ℕ, ◌≤◌, Bool, IsTrue, List, [], ◌∷◌, ◌++◌, length, map, min, Option, Some, None, ◌==◌}
-use Rattle.std.specs.List.{slice_split, AllByRecursion, list_all}
-use Rattle.plaintext.specs.Plain.{numeral}
-use Rattle.plaintext.specs.Fronts.{IsFirstFaultyLine}
+use Rattle.std.specs.Prelude.{codes, ◌≡◌, ◌≢◌, ◌↔◌, ℕ, ◌+◌, ◌≤◌, Bool, IsTrue, List, [], ◌∷◌, ◌++◌, length, map, drop, min, Option, Some, None, IfSome, slice_get, ◌==◌}
+use Rattle.std.specs.List.{slice_split, slice_range, AllByRecursion, list_all}
+use Rattle.plaintext.specs.Plain.{numeral, text_lines}
+use Rattle.plaintext.specs.Fronts.{to_end, IsFirstFaultyLine}
 use Rattle.clauses.specs.Clauses.{Literal}
 use Rattle.refutations.specs.Proofs.{ProofLine}
 use Rattle.refutations.specs.declared.tree.Node.{Node}
@@ -11,10 +11,13 @@ use Rattle.prooflog.specs.declared.fault.EvidenceFault.{EvidenceFault}
 use Rattle.prooflog.specs.declared.fault.EvidenceFault.TheVariants.{Memory}
 use Rattle.prooflog.specs.declared.proof_line.Unread.{Unread}
 use Rattle.prooflog.specs.declared.proof_line.Unread.TheVariants as unread
+use Rattle.prooflog.specs.declared.ahead.Part.{Part}
+use Rattle.prooflog.specs.declared.reader.Kind.{Kind}
+use Rattle.prooflog.specs.declared.reader.Kind.TheVariants.{Schedule, Refutation}
 use Rattle.prooflog.specs.declared.step.WrittenStep.{WrittenStep}
 use Rattle.prooflog.specs.declared.step.WrittenStep.TheVariants.{Issue, Match}
 use Rattle.prooflog.specs.Refutations.{proof_words, is_line_in_range, item_line, a_proof, the_tree}
-use Rattle.prooflog.specs.Grammar.{heading_line, refutation_line}
+use Rattle.prooflog.specs.Grammar.{heading_line, schedule_line, refutation_line}
 use Rattle.prooflog.specs.Fault.{CanGoOn, IsWhy}
 
 -- what stands between the spaces of a line
@@ -81,3 +84,36 @@ pub record FitsAbove (variables clauses : ℕ) (lines : List ProofLine) : Type 0
   pub clauses_in_range : clauses ≤ 2147483647
   pub lines_in_range : IsTrue (list_all is_line_in_range lines)
   pub few : length lines ≤ 1000000
+
+-- The text's lines are these proof lines, and then those of the rest.
+pub record LinesSoFar (bytes rest : List ℕ) (number : ℕ) (lines : List ProofLine) : Type 0 where
+  pub cut : text_lines bytes ≡ map item_line (map a_proof lines) ++ text_lines rest
+  pub in_range : IsTrue (list_all is_line_in_range lines)
+  pub few : length lines ≤ 1000000
+  -- the number of the rest's first line, where the first of these is the third
+  pub place : number ≡ 3 + length lines
+
+-- The proof lines stand in the text up to this place.
+pub record HaveReached (bytes : List ℕ) (place : ℕ) (lines : List ProofLine) : Type 0 where
+  pub within : place ≤ length bytes
+  pub so_far : LinesSoFar bytes (drop place bytes) (3 + length lines) lines
+
+-- the text is all of these proof lines
+pub record AreWhole (bytes : List ℕ) (lines : List ProofLine) : Type 0 where
+  pub cut : text_lines bytes ≡ to_end (map item_line (map a_proof lines))
+  pub in_range : IsTrue (list_all is_line_in_range lines)
+
+-- a part of the text, and the proof lines that are all of it
+pub record IsPart (bytes : List ℕ) (part : Part) : Type 0 where
+  pub forward : part.start ≤ part.end
+  pub within : part.end ≤ length bytes
+  pub whole : AreWhole (slice_range bytes part.start part.end) part.lines.items
+
+-- parts of the text, some of them missing
+abbrev pub AreParts : List ℕ → List (Option Part) → Type 0
+AreParts bytes parts = (place : ℕ) (part : Option Part) → slice_get parts place ≡ Some part → IfSome part (IsPart bytes)
+
+-- the text begins with the two headings of this kind of evidence
+abbrev pub IsOpened : List ℕ → Kind → List ℕ → Type 0
+IsOpened bytes Schedule rest = text_lines bytes ≡ (heading_line ∷ schedule_line ∷ []) ++ text_lines rest
+IsOpened bytes (Refutation v c) rest = (text_lines bytes ≡ opening v c ++ text_lines rest) × (v ≤ 2147483647) × (c ≤ 2147483647)

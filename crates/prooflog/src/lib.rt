@@ -7,6 +7,7 @@
 //! wrong with bytes that are none, `specs/FormulaText.antt` the text of a formula.
 #![tactic(auto)]
 
+mod ahead;
 mod evidence;
 mod fault;
 mod formula_text;
@@ -25,7 +26,7 @@ pub use evidence::Evidence;
 pub use fault::EvidenceFault;
 pub use formula_text::write_formula;
 pub use laws::{depths_are_of_the_tree, one_fault, one_value, text_has_no_fault};
-pub use reader::read_evidence;
+pub use reader::{read_evidence, read_evidence_in};
 pub use refutation::{MOST_DEPTH, MOST_LINES, MOST_NODES, MakeRefutationFault, Refutation};
 pub use schedule::Schedule;
 pub use step::put_match;

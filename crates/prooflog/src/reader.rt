@@ -1,12 +1,13 @@
 //! The reader.
 
-ghost use Rattle.std.specs.Prelude.{◌≡◌, ◌++◌, ◌∷◌, [], map, IfOk, IfErr};
+ghost use Rattle.std.specs.Prelude.{◌≡◌, ◌+◌, ◌++◌, ◌∷◌, [], length, map, IfOk, IfErr};
 ghost use Rattle.plaintext.specs.Plain.{text_lines};
 ghost use Rattle.prooflog.specs.Steps.{IsSchedule, written, step_line};
 ghost use Rattle.prooflog.specs.Grammar.{IsEvidenceText, heading_line, schedule_line};
 ghost use Rattle.prooflog.specs.Fault.{HasEvidenceFault};
-ghost use Rattle.prooflog.specs.Reading.{HasFaultAfter};
+ghost use Rattle.prooflog.specs.Reading.{HasFaultAfter, IsOpened, LinesSoFar};
 
+use crate::ahead::{Ahead, lines_ahead, no_lines};
 use crate::evidence::Evidence;
 use crate::fault::EvidenceFault;
 use crate::refutation_reader::{counts_of, read_refutation};
@@ -16,6 +17,7 @@ use plaintext::{is_word, next_line};
 use refutations::LARGEST_NUMBER;
 use semantics::Step;
 use std::alloc::Global;
+use std::thread::Threads;
 
 /// The steps from the third line to the end of the text.
 fn read_steps(alloc: Global, bytes: &[u8]) -> Result<Schedule, EvidenceFault>
@@ -46,13 +48,25 @@ fn read_steps(alloc: Global, bytes: &[u8]) -> Result<Schedule, EvidenceFault>
     Ok(Schedule::of_checked(steps))
 }
 
-/// The evidence that the bytes are the text of, or the fault of their first faulty line.
-///
-/// It goes over the bytes a fixed number of times, so it takes time linear in their number, and
-/// keeps nothing but the evidence, whose literals and hints take four bytes each. `Memory` may be
-/// answered for any bytes, and only where a growth was refused.
-pub fn read_evidence(alloc: Global, bytes: &[u8]) -> Result<Evidence, EvidenceFault>
-    ensures found { IfOk result (λ evidence. IsEvidenceText bytes.now evidence) }
+/// What the second line of an evidence's text says: which kind of evidence follows.
+#[derive(Clone, Copy)]
+pub enum Kind {
+    /// Steps.
+    Schedule,
+    /// Proof lines and a tree, for a formula with these counts.
+    Refutation { variables: u32, clauses: u32 },
+}
+
+/// The kind of an evidence's text, and what follows its first two lines.
+#[derive(Clone, Copy)]
+struct Opening<'a> {
+    kind: Kind,
+    rest: &'a [u8],
+}
+
+/// The opening of a text, or the fault of the first or second line.
+fn opening_of(bytes: &[u8]) -> Result<Opening<'_>, EvidenceFault>
+    ensures opened { IfOk result (λ opening. IsOpened bytes.now opening.kind opening.rest.now) }
     ensures fault { IfErr result (λ fault. HasEvidenceFault bytes.now fault) }
 {
     let Some((heading, rest)) = next_line(bytes) else {
@@ -65,10 +79,10 @@ pub fn read_evidence(alloc: Global, bytes: &[u8]) -> Result<Evidence, EvidenceFa
         return Err(EvidenceFault::Syntax { line: 2 });
     };
     if is_word(kind, "schedule") {
-        return match read_steps(alloc, rest) {
-            Ok(schedule) => Ok(Evidence::Schedule(schedule)),
-            Err(fault) => Err(fault),
-        };
+        return Ok(Opening {
+            kind: Kind::Schedule,
+            rest,
+        });
     }
     let Some((variables, clauses)) = counts_of(kind) else {
         return Err(EvidenceFault::Syntax { line: 2 });
@@ -76,8 +90,70 @@ pub fn read_evidence(alloc: Global, bytes: &[u8]) -> Result<Evidence, EvidenceFa
     if variables > LARGEST_NUMBER || clauses > LARGEST_NUMBER {
         return Err(EvidenceFault::Range { line: 2 });
     }
-    match read_refutation(alloc, rest, variables, clauses) {
-        Ok(refutation) => Ok(Evidence::Refutation(refutation)),
-        Err(fault) => Err(fault),
+    Ok(Opening {
+        kind: Kind::Refutation { variables, clauses },
+        rest,
+    })
+}
+
+/// The evidence whose text opens so. Where it is a refutation, some of its lines were read before.
+fn read_opened<'a>(
+    alloc: Global,
+    bytes: &'a [u8],
+    opening: Opening<'a>,
+    before: Ahead<'a>,
+) -> Result<Evidence, EvidenceFault>
+    requires opened { IsOpened bytes.now opening.kind opening.rest.now }
+    requires before { LinesSoFar opening.rest.now before.rest.now (3 + length before.lines.items) before.lines.items }
+    ensures found { IfOk result (λ evidence. IsEvidenceText bytes.now evidence) }
+    ensures fault { IfErr result (λ fault. HasEvidenceFault bytes.now fault) }
+{
+    match opening.kind {
+        Kind::Schedule => match read_steps(alloc, opening.rest) {
+            Ok(schedule) => Ok(Evidence::Schedule(schedule)),
+            Err(fault) => Err(fault),
+        },
+        Kind::Refutation { variables, clauses } => {
+            match read_refutation(alloc, opening.rest, variables, clauses, before) {
+                Ok(refutation) => Ok(Evidence::Refutation(refutation)),
+                Err(fault) => Err(fault),
+            }
+        }
     }
+}
+
+/// The evidence that the bytes are the text of, or the fault of their first faulty line.
+///
+/// It goes over the bytes a fixed number of times, so it takes time linear in their number, and
+/// keeps nothing but the evidence, whose literals and hints take four bytes each. `Memory` may be
+/// answered for any bytes, and only where a growth was refused.
+pub fn read_evidence(alloc: Global, bytes: &[u8]) -> Result<Evidence, EvidenceFault>
+    ensures found { IfOk result (λ evidence. IsEvidenceText bytes.now evidence) }
+    ensures fault { IfErr result (λ fault. HasEvidenceFault bytes.now fault) }
+{
+    let opening = match opening_of(bytes) {
+        Ok(opening) => opening,
+        Err(fault) => return Err(fault),
+    };
+    read_opened(alloc, bytes, opening, no_lines(alloc, opening.rest))
+}
+
+/// The same answer, want of memory aside, with the proof lines of a refutation read in so many parts of about the same size, each
+/// in a thread of its own where one can be started, and else by the calling thread. Lines from the first part on that has a
+/// fault, or for which memory ran out, are read once more by the calling thread.
+pub fn read_evidence_in<R: Threads + Sync>(
+    rt: &R,
+    alloc: Global,
+    bytes: &[u8],
+    parts: usize,
+) -> Result<Evidence, EvidenceFault>
+    ensures found { IfOk result (λ evidence. IsEvidenceText bytes.now evidence) }
+    ensures fault { IfErr result (λ fault. HasEvidenceFault bytes.now fault) }
+{
+    let opening = match opening_of(bytes) {
+        Ok(opening) => opening,
+        Err(fault) => return Err(fault),
+    };
+    let before = lines_ahead(rt, alloc, opening.rest, parts);
+    read_opened(alloc, bytes, opening, before)
 }

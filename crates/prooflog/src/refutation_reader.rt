@@ -6,8 +6,9 @@ ghost use Rattle.plaintext.specs.Plain.{text_lines};
 ghost use Rattle.plaintext.specs.Fronts.{to_end};
 ghost use Rattle.refutations.specs.Proofs.{ProofLine, is_tree, are_numbered};
 ghost use Rattle.prooflog.specs.Refutations.{item_line, items, a_proof, a_node, the_tree, is_line_in_range, IsSmall, IsRefutation};
-ghost use Rattle.prooflog.specs.Reading.{words_of, capped, counts_words, opening, above_tree, FitsAbove, HasFaultAfter};
+ghost use Rattle.prooflog.specs.Reading.{words_of, capped, counts_words, opening, above_tree, FitsAbove, HasFaultAfter, LinesSoFar};
 
+use crate::ahead::Ahead;
 use crate::fault::EvidenceFault;
 use crate::node::node_of;
 use crate::proof_line::{Unread, proof_line_of};
@@ -43,16 +44,23 @@ pub fn counts_of(line: &[u8]) -> Option<(u32, u32)>
     Some((variables, clauses))
 }
 
-/// The proof lines from the third line of the text on, and what follows the line `tree`.
-fn read_lines(alloc: Global, bytes: &[u8]) -> Result<(Vec<Line>, &[u8]), EvidenceFault>
+/// The proof lines from the third line of the text on, and what follows the line `tree`. Some of them were read before.
+fn read_lines<'a>(
+    alloc: Global,
+    bytes: &'a [u8],
+    before: Ahead<'a>,
+) -> Result<(Vec<Line>, &'a [u8]), EvidenceFault>
+    requires { LinesSoFar bytes.now before.rest.now (3 + length before.lines.items) before.lines.items }
     ensures cut { IfOk result (λ found. text_lines bytes.now ≡ map item_line (map a_proof found.0.items ++ the_tree ∷ []) ++ text_lines found.1.now) }
     ensures in_range { IfOk result (λ found. IsTrue (list_all is_line_in_range found.0.items)) }
     ensures few { IfOk result (λ found. length found.0.items ≤ 1000000) }
     ensures fault { IfErr result (λ fault. (v c : ℕ) → v ≤ 2147483647 → c ≤ 2147483647 → HasFaultAfter (opening v c) bytes.now fault) }
 {
-    let mut lines: Vec<Line> = Vec::new(alloc);
-    let mut number: u32 = 3;
-    let mut rest = bytes;
+    let Ahead {
+        mut lines,
+        mut rest,
+    } = before;
+    let mut number = lines.len() as u32 + 3;
     while let Some((line, after)) = next_line(rest) {
         if is_word(line, "tree") {
             return Ok((lines, after));
@@ -115,21 +123,23 @@ fn read_nodes(alloc: Global, bytes: &[u8], first: u32) -> Result<Vec<Node>, Evid
     Ok(nodes)
 }
 
-/// The refutation of these counts whose items stand from the third line of the text to its end.
-pub fn read_refutation(
+/// The refutation of these counts whose items stand from the third line of the text to its end, some of its lines read before.
+pub fn read_refutation<'a>(
     alloc: Global,
-    bytes: &[u8],
+    bytes: &'a [u8],
     variables: u32,
     clauses: u32,
+    before: Ahead<'a>,
 ) -> Result<Refutation, EvidenceFault>
     requires variables { variables ≤ 2147483647 }
     requires clauses { clauses ≤ 2147483647 }
+    requires before { LinesSoFar bytes.now before.rest.now (3 + length before.lines.items) before.lines.items }
     ensures counts { IfOk result (λ r. (r.variables ≡ variables) × (r.clauses ≡ clauses)) }
     ensures limits { IfOk result (λ r. IsRefutation r) }
     ensures cut { IfOk result (λ r. text_lines bytes.now ≡ to_end (map item_line (items r))) }
     ensures fault { IfErr result (λ fault. HasFaultAfter (opening variables clauses) bytes.now fault) }
 {
-    let (lines, rest) = match read_lines(alloc, bytes) {
+    let (lines, rest) = match read_lines(alloc, bytes, before) {
         Ok(found) => found,
         Err(fault) => return Err(fault),
     };

@@ -1,9 +1,9 @@
 use Rattle.std.proofs.Common.{◌≡◌, [], ◌∷◌, ◌++◌, ap, sym, ◌∙◌, arith}
 use Rattle.plaintext.specs.Plain.{text_lines}
 use Rattle.prooflog.specs.Grammar.{schedule_line, refutation_line}
-use Rattle.prooflog.proofs.Headings.{first_faulty, first_unended, no_heading, first_is, second_faulty, second_unended, second_over, no_schedule, no_counts, counts_line, second_is, after_headings, is_schedule_text, is_refutation_text}
-use Rattle.prooflog.proofs.reader.read_evidence.Goals.{then-variables-gt-LARGEST_NUMBER-via-then-variables-gt-LARGEST_NUMBER, then-variables-gt-LARGEST_NUMBER-via-else-variables-gt-LARGEST_NUMBER+then-clauses-gt-LARGEST_NUMBER}
-use Rattle.prooflog.proofs.reader.read_evidence.Goals as goal
+use Rattle.prooflog.proofs.Headings.{first_faulty, first_unended, no_heading, first_is, second_faulty, second_unended, second_over, no_schedule, no_counts, counts_line, second_is}
+use Rattle.prooflog.proofs.reader.opening_of.Goals.{then-variables-gt-LARGEST_NUMBER-via-then-variables-gt-LARGEST_NUMBER, then-variables-gt-LARGEST_NUMBER-via-else-variables-gt-LARGEST_NUMBER+then-clauses-gt-LARGEST_NUMBER}
+use Rattle.prooflog.proofs.reader.opening_of.Goals as goal
 
 pub returns-in_default-clause-fault : goal.returns-in_default-clause-fault
 returns-in_default-clause-fault c = first_unended c.args.bytes.now c.in_default.ensures.none
@@ -15,18 +15,6 @@ returns-then-not-is_word-clause-fault c =
 
 pub returns-in_default-next_line-clause-fault : goal.returns-in_default-next_line-clause-fault
 returns-in_default-next_line-clause-fault c = second_unended c.args.bytes.now c.in-Some.rest.now (first_is c.args.bytes.now c.in-Some.rest.now c.in-Some.heading.now c.in-Some.ensures.some (c.is_word.ensures.0 c.if-not-is_word.false)) c.in_default-next_line.ensures.none
-
-pub returns-in-Ok-clause-found : goal.returns-in-Ok-clause-found
-returns-in-Ok-clause-found c =
-    let first = first_is c.args.bytes.now c.in-Some.rest.now c.in-Some.heading.now c.in-Some.ensures.some (c.is_word.ensures.0 c.if-not-is_word.false) in
-    let kind : schedule_line ≡ c.in-Some-next_line.kind.now ++ 10 ∷ [] = ap (λ word. word ++ 10 ∷ []) (sym (c.is_word-2.ensures.0 c.if-is_word.true)) in
-    is_schedule_text c.args.bytes.now c.in-Some-next_line.rest.now c.in-Ok.schedule (second_is c.args.bytes.now c.in-Some.rest.now c.in-Some-next_line.rest.now schedule_line (c.in-Some-next_line.kind.now ++ 10 ∷ []) first c.in-Some-next_line.ensures.some kind) c.in-Ok.ensures.limits c.in-Ok.ensures.found
-
-pub returns-in-Err-clause-fault : goal.returns-in-Err-clause-fault
-returns-in-Err-clause-fault c =
-    let first = first_is c.args.bytes.now c.in-Some.rest.now c.in-Some.heading.now c.in-Some.ensures.some (c.is_word.ensures.0 c.if-not-is_word.false) in
-    let kind : schedule_line ≡ c.in-Some-next_line.kind.now ++ 10 ∷ [] = ap (λ word. word ++ 10 ∷ []) (sym (c.is_word-2.ensures.0 c.if-is_word.true)) in
-    after_headings c.args.bytes.now c.in-Some-next_line.rest.now schedule_line c.in-Err.fault (second_is c.args.bytes.now c.in-Some.rest.now c.in-Some-next_line.rest.now schedule_line (c.in-Some-next_line.kind.now ++ 10 ∷ []) first c.in-Some-next_line.ensures.some kind) c.in-Err.ensures.fault
 
 pub returns-in_default-counts_of-clause-fault : goal.returns-in_default-counts_of-clause-fault
 returns-in_default-counts_of-clause-fault c =
@@ -44,24 +32,18 @@ returns-then-variables-gt-LARGEST_NUMBER-clause-fault c =
       | then-variables-gt-LARGEST_NUMBER-via-else-variables-gt-LARGEST_NUMBER+then-clauses-gt-LARGEST_NUMBER w ↦ grind (arith, read.4, fits.1, w.if-clauses-gt-LARGEST_NUMBER.true)
     ])
 
-pub returns-in-Ok-read_refutation-clause-found : goal.returns-in-Ok-read_refutation-clause-found
-returns-in-Ok-read_refutation-clause-found c =
+pub returns-then-is_word-clause-opened : goal.returns-then-is_word-clause-opened
+returns-then-is_word-clause-opened c =
     let first = first_is c.args.bytes.now c.in-Some.rest.now c.in-Some.heading.now c.in-Some.ensures.some (c.is_word.ensures.0 c.if-not-is_word.false) in
-    let read = c.in-Some-counts_of.ensures.some in
-    let v : c.in-Some-counts_of.variables ≡ read.0 = grind (arith, read.3, c.if-variables-gt-LARGEST_NUMBER.false) in
-    let n : c.in-Some-counts_of.clauses ≡ read.1 = grind (arith, read.4, c.if-clauses-gt-LARGEST_NUMBER.false) in
-    let kind : refutation_line c.in-Some-counts_of.variables c.in-Some-counts_of.clauses ≡ c.in-Some-next_line.kind.now ++ 10 ∷ [] = (λ i. refutation_line (v i) (n i)) ∙ counts_line c.in-Some-next_line.kind.now read.0 read.1 read.2 in
-    is_refutation_text c.args.bytes.now c.in-Some-next_line.rest.now c.in-Some-counts_of.variables c.in-Some-counts_of.clauses c.in-Ok-read_refutation.refutation
-    (second_is c.args.bytes.now c.in-Some.rest.now c.in-Some-next_line.rest.now (refutation_line c.in-Some-counts_of.variables c.in-Some-counts_of.clauses) (c.in-Some-next_line.kind.now ++ 10 ∷ []) first c.in-Some-next_line.ensures.some kind)
-    c.in-Ok-read_refutation.ensures.counts c.in-Ok-read_refutation.ensures.limits c.in-Ok-read_refutation.ensures.cut
+    let kind : schedule_line ≡ c.in-Some-next_line.kind.now ++ 10 ∷ [] = ap (λ word. word ++ 10 ∷ []) (sym (c.is_word-2.ensures.0 c.if-is_word.true)) in
+    second_is c.args.bytes.now c.in-Some.rest.now c.in-Some-next_line.rest.now schedule_line (c.in-Some-next_line.kind.now ++ 10 ∷ []) first c.in-Some-next_line.ensures.some kind
 
-pub returns-in-Err-read_refutation-clause-fault : goal.returns-in-Err-read_refutation-clause-fault
-returns-in-Err-read_refutation-clause-fault c =
+pub returns-clause-opened : goal.returns-clause-opened
+returns-clause-opened c =
     let first = first_is c.args.bytes.now c.in-Some.rest.now c.in-Some.heading.now c.in-Some.ensures.some (c.is_word.ensures.0 c.if-not-is_word.false) in
     let read = c.in-Some-counts_of.ensures.some in
     let v : c.in-Some-counts_of.variables ≡ read.0 = grind (arith, read.3, c.if-variables-gt-LARGEST_NUMBER.false) in
     let n : c.in-Some-counts_of.clauses ≡ read.1 = grind (arith, read.4, c.if-clauses-gt-LARGEST_NUMBER.false) in
     let second = refutation_line c.in-Some-counts_of.variables c.in-Some-counts_of.clauses in
     let kind : refutation_line c.in-Some-counts_of.variables c.in-Some-counts_of.clauses ≡ c.in-Some-next_line.kind.now ++ 10 ∷ [] = (λ i. refutation_line (v i) (n i)) ∙ counts_line c.in-Some-next_line.kind.now read.0 read.1 read.2 in
-    after_headings c.args.bytes.now c.in-Some-next_line.rest.now second c.in-Err-read_refutation.fault
-    (second_is c.args.bytes.now c.in-Some.rest.now c.in-Some-next_line.rest.now second (c.in-Some-next_line.kind.now ++ 10 ∷ []) first c.in-Some-next_line.ensures.some kind) c.in-Err-read_refutation.ensures.fault
+    (second_is c.args.bytes.now c.in-Some.rest.now c.in-Some-next_line.rest.now second (c.in-Some-next_line.kind.now ++ 10 ∷ []) first c.in-Some-next_line.ensures.some kind, grind (arith, c.if-variables-gt-LARGEST_NUMBER.false), grind (arith, c.if-clauses-gt-LARGEST_NUMBER.false))

@@ -1,0 +1,5 @@
+use Rattle.prooflog.specs.Reading.{HaveReached}
+use Rattle.prooflog.proofs.ahead.joined.Given as goal
+
+abbrev pub invariant-loop-part : goal.invariant-loop-part
+invariant-loop-part l = HaveReached l.bytes l.used l.lines.items
