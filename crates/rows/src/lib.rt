@@ -1,8 +1,6 @@
-//! Worked examples: runs of the session over files in memory, with what each has to print and its
-//! exit status. All stands in tests.
+//! Runs of the session over files in memory whose texts are made by code, or that meet trouble. All stands in tests; runs on
+//! texts that can be written down are rows of the crate `worked`.
 #![tactic(auto)]
 
-#[cfg(test)]
-mod run;
 #[cfg(test)]
 mod tests;

@@ -1,6 +1,6 @@
-//! Each limit, at its value and one beyond.
-use super::{assert_answer, column, lines, schedule};
-use crate::run::Scene;
+//! Limits of ranks, of numbers and of the waits of one call line, at their values and one beyond.
+use super::{assert_answer, column, lines};
+use runs::Scene;
 use std::alloc::{AllocError, Global};
 use std::test::Fail;
 
@@ -59,91 +59,45 @@ fn keeps_limits_of_numbers(rt: HostRuntime) -> Result<(), Fail> {
         let (calls, row) = column(row)?;
         let (status, line) = column(row)?;
         let program = program_of(alloc, ranks.parse::<u32>()?, calls)?;
-        assert_answer(
-            &rt,
-            alloc,
-            "prove program",
-            Scene::of(&program, ""),
-            status,
-            line,
-        )?;
+        let scene = Scene::of(&program, "");
+        assert_answer(&rt, alloc, "prove program", scene, status, line)?;
     }
     Ok(())
 }
 
-/// A program of two ranks with so many calls.
-fn program_of_calls(alloc: Global, first: usize, second: usize) -> Result<String, AllocError> {
-    let call = "recv 0 1/";
-    let mut text = String::from_str(alloc, "ranks 2/policy any/rank 0/")?;
-    text.push_str(&call.repeat(alloc, first)?)?;
-    text.push_str("rank 1/")?;
-    text.push_str(&call.repeat(alloc, second)?)?;
+/// A program of one rank that starts so many sends in buffered mode, and waits for all of them in
+/// one call line.
+fn waited_for(alloc: Global, sends: usize) -> Result<String, AllocError> {
+    let mut text = String::from_str(alloc, "ranks 1/policy any/rank 0/")?;
+    let mut names = String::new(alloc);
+    for number in 0..sends {
+        let start = format!(in alloc; "ibsend q{number} 0 1/")?;
+        text.push_str(&start)?;
+        let name = format!(in alloc; " q{number}")?;
+        names.push_str(&name)?;
+    }
+    text.push_str("waitall")?;
+    text.push_str(&names)?;
+    text.push_str("/")?;
     lines(alloc, &text)
 }
 
-/// The numbers of calls of two ranks, with the status and the line of `prove`.
-const CALLS: &str = "\
-1024 | 0 | 1 | deadlock
-512 | 512 | 1 | deadlock
-512 | 513 | 3 | refused rank 1 place 513 too many calls
-1024 | 1 | 3 | refused rank 1 place 1 too many calls
-1025 | 0 | 3 | refused rank 0 place 1025 too many calls
-1100 | 1100 | 3 | refused rank 0 place 1025 too many calls";
+/// How many sends there are, with the status and the line of `prove`.
+const WAITS: &str = "\
+512 | 2 | unknown budget
+513 | 3 | refused rank 0 place 514 too many calls
+1024 | 3 | refused rank 0 place 1025 too many calls
+1025 | 3 | refused rank 0 place 1025 too many calls";
 
 #[test]
-fn keeps_the_limit_of_calls(rt: HostRuntime) -> Result<(), Fail> {
+fn counts_the_waits_of_a_list(rt: HostRuntime) -> Result<(), Fail> {
     let alloc = rt.alloc();
-    for row in CALLS.lines() {
-        let (first, row) = column(row)?;
-        let (second, row) = column(row)?;
+    for row in WAITS.lines() {
+        let (sends, row) = column(row)?;
         let (status, line) = column(row)?;
-        let program = program_of_calls(alloc, first.parse::<usize>()?, second.parse::<usize>()?)?;
-        assert_answer(
-            &rt,
-            alloc,
-            "prove program",
-            Scene::of(&program, ""),
-            status,
-            line,
-        )?;
-    }
-    Ok(())
-}
-
-#[test]
-fn keeps_the_limit_of_steps(rt: HostRuntime) -> Result<(), Fail> {
-    let alloc = rt.alloc();
-    let program = lines(alloc, "ranks 1/policy any/rank 0/recv 0 1/")?;
-    for (steps, line) in [
-        (4096, "refused step 2 not enabled"),
-        (4097, "refused evidence too large"),
-    ] {
-        let evidence = schedule(alloc, &"issue 0/".repeat(alloc, steps)?)?;
-        let scene = Scene::of(&program, &evidence);
-        assert_answer(&rt, alloc, "check program evidence", scene, "3", line)?;
-    }
-    Ok(())
-}
-
-#[test]
-fn keeps_the_limit_of_the_text(rt: HostRuntime) -> Result<(), Fail> {
-    let alloc = rt.alloc();
-    let heading = "ranks 1/policy any/rank 0/";
-    for (size, line) in [
-        (1_048_576_usize, "refused line 4 syntax"),
-        (1_048_577, "refused text too large"),
-    ] {
-        let padding = "x".repeat(alloc, size.saturating_sub(heading.len()))?;
-        let program = lines(alloc, &format!(in alloc; "{heading}{padding}")?)?;
-        assert_eq!(rt; program.len(), size);
-        assert_answer(
-            &rt,
-            alloc,
-            "prove program",
-            Scene::of(&program, ""),
-            "3",
-            line,
-        )?;
+        let program = waited_for(alloc, sends.parse::<usize>()?)?;
+        let scene = Scene::of(&program, "");
+        assert_answer(&rt, alloc, "prove program", scene, status, line)?;
     }
     Ok(())
 }

@@ -1,73 +1,11 @@
 //! Files and streams that fail.
-use super::{column, lines, schedule};
-use crate::run::{Ended, Scene, run};
+use super::{column, lines};
 use disk::Trouble;
+use runs::{Ended, Scene, run};
 use std::alloc::Global;
 use std::process::Abort;
-use std::str;
 use std::test::Fail;
 use std::thread::Threads;
-
-const PROGRAM: &str = "ranks 1/policy any/rank 0/recv 0 1/";
-
-/// Words, with what stands on standard error.
-const MISSING: &str = "\
-prove nowhere | file nowhere
-check nowhere nothing | file nowhere
-check program nothing | file nothing
-check program nothing --json | file nothing
-replay nowhere nothing | file nowhere
-replay program nothing | file nothing
-encode nowhere | file nowhere
-prove program --out nowhere | file nowhere
-prove program --json --out nowhere | file nowhere";
-
-#[test]
-fn names_the_file_that_fails(rt: HostRuntime) -> Result<(), Fail> {
-    let alloc = rt.alloc();
-    let program = lines(alloc, PROGRAM)?;
-    for row in MISSING.lines() {
-        let (words, line) = column(row)?;
-        let ended = run(&rt, alloc, words, Scene::of(&program, ""))?;
-        assert_eq!(rt; ended.status, 5, "{words}");
-        assert_eq!(rt;
-            str::from_utf8(&ended.err)?.strip_suffix("\n"),
-            Some(line),
-            "{words}"
-        );
-        assert!(rt; ended.out.is_empty() && ended.writers == 0, "{words}");
-    }
-    Ok(())
-}
-
-/// Words that meet want of memory, with the line that tells it.
-const WANTS: &str = "\
-prove memory | unknown memory
-prove memory --json | {\"answer\":\"unknown memory\",\"status\":4}
-prove program --out memory | unknown memory
-check memory nowhere | refused memory
-check program memory | refused memory
-check program memory --json | {\"answer\":\"refused memory\",\"status\":4}
-replay program memory | refused memory
-encode memory | refused memory";
-
-#[test]
-fn tells_want_of_memory(rt: HostRuntime) -> Result<(), Fail> {
-    let alloc = rt.alloc();
-    let program = lines(alloc, PROGRAM)?;
-    for row in WANTS.lines() {
-        let (words, line) = column(row)?;
-        let ended = run(&rt, alloc, words, Scene::of(&program, ""))?;
-        assert_eq!(rt; ended.status, 4, "{words}");
-        assert_eq!(rt;
-            str::from_utf8(&ended.out)?.strip_suffix("\n"),
-            Some(line),
-            "{words}"
-        );
-        assert!(rt; ended.err.is_empty() && ended.writers == 0, "{words}");
-    }
-    Ok(())
-}
 
 /// Whether a run whose file or output failed told so and printed a beginning of the text at most.
 fn is_fault(ended: &Ended, text: &[u8]) -> bool {
@@ -154,8 +92,8 @@ check --help | memory";
 #[test]
 fn tells_each_trouble(rt: HostRuntime) -> Result<(), Fail> {
     let alloc = rt.alloc();
-    let program = lines(alloc, PROGRAM)?;
-    let evidence = schedule(alloc, "issue 0/")?;
+    let program = lines(alloc, "ranks 1/policy any/rank 0/recv 0 1/")?;
+    let evidence = lines(alloc, "evidence 1/schedule/issue 0/")?;
     for row in TROUBLED.lines() {
         let (words, line) = column(row)?;
         let memory = format!(in alloc; "{line}\n")?;

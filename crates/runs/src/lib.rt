@@ -1,4 +1,6 @@
-//! One run of the session over a disk in memory.
+//! One run of the program over files in memory, for tests.
+#![tactic(auto)]
+
 use disk::{Disk, DiskFiles, Stream, Trouble};
 use session::session;
 use std::alloc::{AllocError, Global};
@@ -8,30 +10,35 @@ use std::thread::Threads;
 /// What a run left.
 #[derive(Debug, Drop)]
 pub struct Ended {
+    /// The exit status.
     pub status: u8,
     /// Standard output.
     pub out: Vec<u8>,
     /// Standard error.
     pub err: Vec<u8>,
-    /// The file `out`.
+    /// What was written to the file `out`.
     pub written: Vec<u8>,
     /// How often the file `out` was opened.
     pub writers: u64,
-    /// How many opens, reads and writes there were.
+    /// How many opens, reads and writes there were. Those of standard error are not counted.
     pub steps: u64,
 }
 
-/// The files of a run, and the open, read or write, from 1, that meets trouble; 0 for none.
+/// The files of a run, and which of its opens, reads and writes meets trouble.
 #[derive(Clone, Copy)]
 pub struct Scene<'a> {
+    /// What the file `program` holds.
     pub program: &'a [u8],
+    /// What the file `evidence` holds.
     pub evidence: &'a [u8],
+    /// The open, read or write, from 1, that meets trouble; 0 for none.
     pub trouble_at: u64,
+    /// The trouble.
     pub trouble: Trouble,
 }
 
 impl<'a> Scene<'a> {
-    /// A run without trouble.
+    /// The files `program` and `evidence` with these texts, and no trouble.
     pub fn of(program: &'a str, evidence: &'a str) -> Scene<'a> {
         Scene {
             program: program.as_bytes(),
@@ -45,7 +52,8 @@ impl<'a> Scene<'a> {
 /// The bytes that standard error has room for, so that it takes each text.
 const ROOM: usize = 4096;
 
-/// Runs the words, parted by spaces, after the program's own name.
+/// Runs the program with these words, which blanks part, after its own name. Fails where there is no memory for the words or
+/// for standard error; want of memory of the run itself is told by what it left.
 pub fn run(
     rt: &(impl Threads + Sync),
     alloc: Global,
@@ -88,6 +96,7 @@ pub fn run(
     })
 }
 
+/// The program's own name and these words.
 fn word_list(alloc: Global, words: &str) -> Result<Vec<String>, AllocError> {
     let mut list = Vec::new(alloc);
     list.push(String::from_str(alloc, "mpiprove")?)?;
