@@ -1,0 +1,222 @@
+//! What the search knows, and how clauses come in.
+
+use crate::batch::OWN;
+use crate::codes::{NONE, code_of, variable_of};
+use crate::marks::Marks;
+use crate::order::Order;
+use crate::propagation::propagate;
+use crate::store::Store;
+use crate::trail::{Trail, Truth};
+use crate::watches::Watches;
+use clauses::{Clause, Formula, Lit};
+use std::alloc::{AllocError, Global};
+
+/// All that the search knows.
+#[derive(Debug, Drop)]
+pub(crate) struct Engine {
+    pub(crate) store: Store,
+    pub(crate) trail: Trail,
+    pub(crate) watches: Watches,
+    pub(crate) marks: Marks,
+    pub(crate) order: Order,
+    /// A clause that is false at level 0.
+    pub(crate) refuted: Option<u32>,
+    /// The clauses of the last batch's lines, and how many of them were imported since.
+    pub(crate) pending: Vec<u32>,
+    pub(crate) returned: usize,
+    /// How many clauses of more than one level there are beside the formula's, and how many are too many.
+    pub(crate) learnt: usize,
+    pub(crate) limit: usize,
+    /// The literals to probe, which of them is probed next, and how many are probed until all were since the last one failed.
+    pub(crate) probes: Vec<u32>,
+    pub(crate) probe_place: usize,
+    pub(crate) probes_left: usize,
+}
+
+/// How many learnt clauses are kept at first.
+const FIRST_LIMIT: usize = 8_000;
+
+/// Brings up to two literals that aren't false to the front, and answers how many there are.
+fn bring_open(literals: &mut [u32], trail: &Trail) -> usize {
+    let mut found = 0;
+    for place in 0..literals.len() {
+        if found < 2 && trail.value(literals[place]) != Truth::False {
+            literals.swap(found, place);
+            found += 1;
+        }
+    }
+    found
+}
+
+/// Puts the literals' numbers in place of those in the list.
+fn fill(codes: &mut Vec<u32>, literals: &[Lit]) -> Result<(), AllocError> {
+    codes.clear();
+    for literal in literals {
+        codes.push(code_of(literal))?;
+    }
+    Ok(())
+}
+
+/// The positive literals of those of these variables that are among the first `variables`.
+fn positive_literals(
+    alloc: Global,
+    variables: u32,
+    numbers: &[u32],
+) -> Result<Vec<u32>, AllocError> {
+    let mut codes = Vec::with_capacity(alloc, numbers.len())?;
+    for number in numbers {
+        if *number <= variables
+            && let Some(literal) = Lit::make(*number, true)
+        {
+            codes.push(code_of(&literal))?;
+        }
+    }
+    Ok(codes)
+}
+
+impl Engine {
+    /// What is known of no clause. The variables of these numbers are probed.
+    fn empty(alloc: Global, variables: u32, probed: &[u32]) -> Result<Engine, AllocError> {
+        let probes = positive_literals(alloc, variables, probed)?;
+        Ok(Engine {
+            store: Store::new(alloc),
+            trail: Trail::new(alloc, variables)?,
+            watches: Watches::new(alloc, variables)?,
+            marks: Marks::new(alloc, variables)?,
+            order: Order::new(alloc, variables)?,
+            refuted: None,
+            pending: Vec::new(alloc),
+            returned: 0,
+            learnt: 0,
+            limit: FIRST_LIMIT,
+            probe_place: 0,
+            probes_left: probes.len(),
+            probes,
+        })
+    }
+
+    /// What is known of the formula's clauses. Those whose numbers no hint can have are left out.
+    pub(crate) fn new(
+        alloc: Global,
+        formula: &Formula,
+        probed: &[u32],
+    ) -> Result<Engine, AllocError> {
+        let mut engine = Engine::empty(alloc, formula.variables(), probed)?;
+        let mut codes = Vec::new(alloc);
+        let mut number = 0u32;
+        for clause in formula.clauses() {
+            number = number.saturating_add(1);
+            if number >= OWN {
+                break;
+            }
+            fill(&mut codes, clause.literals())?;
+            engine.attach(number, 0, codes.as_mut_slice())?;
+        }
+        Ok(engine)
+    }
+
+    /// Takes in a clause of this tag, at level 0. Where no place is left for it, it is left out.
+    pub(crate) fn attach(
+        &mut self,
+        tag: u32,
+        glue: u32,
+        codes: &mut [u32],
+    ) -> Result<(), AllocError> {
+        let open = bring_open(codes, &self.trail);
+        let Some(place) = self.store.add(codes, tag, glue)? else {
+            return Ok(());
+        };
+        self.watches.add_clause(codes, place)?;
+        if glue > 1 {
+            self.learnt = self.learnt.saturating_add(1);
+        }
+        if open == 0 {
+            self.refuted = Some(place);
+        }
+        if open == 1
+            && let Some(first) = codes.first()
+            && self.trail.value(*first) == Truth::Open
+        {
+            self.trail.assign(*first, place);
+        }
+        Ok(())
+    }
+
+    /// Takes in a clause that was derived, and its number. One whose number no hint can have is left out.
+    pub(crate) fn import(
+        &mut self,
+        alloc: Global,
+        number: u32,
+        clause: &Clause,
+    ) -> Result<(), AllocError> {
+        if number == 0 || number >= OWN {
+            return Ok(());
+        }
+        self.trail.back(&mut self.order, 0);
+        let mut codes = Vec::new(alloc);
+        fill(&mut codes, clause.literals())?;
+        if let Some(place) = self.next_own(alloc, &codes)? {
+            self.store.set_tag(place, number);
+            self.returned = self.returned.saturating_add(1);
+            return Ok(());
+        }
+        let glue = u32::try_from(codes.len()).unwrap_or(NONE);
+        self.attach(number, glue, codes.as_mut_slice())
+    }
+
+    /// The next line of the last batch, where it has these literals.
+    fn next_own(&self, alloc: Global, codes: &[u32]) -> Result<Option<u32>, AllocError> {
+        let Some(place) = self.pending.get(self.returned) else {
+            return Ok(None);
+        };
+        let known = self.store.literals(*place);
+        if known.len() != codes.len() {
+            return Ok(None);
+        }
+        let mut known = known.to_vec(alloc)?;
+        known.sort_unstable();
+        if known.as_slice() == codes {
+            return Ok(Some(*place));
+        }
+        Ok(None)
+    }
+
+    /// Propagates until nothing follows any more. Where a clause is false, it is answered.
+    pub(crate) fn propagate(&mut self, alloc: Global) -> Result<Option<u32>, AllocError> {
+        if self.refuted.is_some() {
+            return Ok(self.refuted);
+        }
+        let conflict = propagate(alloc, &mut self.store, &mut self.trail, &mut self.watches)?;
+        if self.trail.level() == 0 {
+            self.refuted = conflict;
+        }
+        Ok(conflict)
+    }
+
+    /// The numbers of the cube's literals, each once.
+    pub(crate) fn cube_codes(
+        &mut self,
+        alloc: Global,
+        cube: &[Lit],
+    ) -> Result<Vec<u32>, AllocError> {
+        let mut codes = Vec::new(alloc);
+        for literal in cube {
+            let code = code_of(literal);
+            if !self.marks.has(variable_of(code)) {
+                self.marks.mark(variable_of(code))?;
+                codes.push(code)?;
+            }
+        }
+        self.marks.clear();
+        Ok(codes)
+    }
+
+    /// Begins a level, with this literal where it has no value yet.
+    pub(crate) fn decide(&mut self, code: u32) -> Result<(), AllocError> {
+        self.trail.open_level()?;
+        if self.trail.value(code) == Truth::Open {
+            self.trail.assign(code, NONE);
+        }
+        Ok(())
+    }
+}

@@ -1,0 +1,55 @@
+//! Probing: what follows at level 0 because a variable can't be true alone.
+
+use crate::engine::Engine;
+use crate::trail::Truth;
+use std::alloc::{AllocError, Global};
+
+impl Engine {
+    /// The variable to probe next, as its positive literal.
+    fn next_probe(&mut self) -> Option<u32> {
+        self.probes_left = self.probes_left.saturating_sub(1);
+        let code = self.probes.get(self.probe_place).copied();
+        self.probe_place = match code {
+            Some(_) => self.probe_place.saturating_add(1),
+            None => 0,
+        };
+        code
+    }
+
+    /// Makes this literal true alone. What follows isn't kept as phases: they would be those of many different cases.
+    fn propagate_alone(&mut self, alloc: Global, code: u32) -> Result<Option<u32>, AllocError> {
+        self.trail.set_keeps_phases(false);
+        self.decide(code)?;
+        let conflict = self.propagate(alloc)?;
+        self.trail.set_keeps_phases(true);
+        Ok(conflict)
+    }
+
+    /// Makes the next variable true alone, and takes that back unless a clause has become false, which is answered.
+    fn probe_next(&mut self, alloc: Global) -> Result<Option<u32>, AllocError> {
+        let Some(code) = self.next_probe() else {
+            return Ok(None);
+        };
+        if self.trail.value(code) != Truth::Open {
+            return Ok(None);
+        }
+        let conflict = self.propagate_alone(alloc, code)?;
+        if conflict.is_some() {
+            self.probes_left = self.probes.len().saturating_add(1);
+        } else {
+            self.trail.back(&mut self.order, 0);
+        }
+        Ok(conflict)
+    }
+
+    /// Probes the variables that are left, until a clause has become false, which is answered.
+    pub(crate) fn probe(&mut self, alloc: Global) -> Result<Option<u32>, AllocError> {
+        for _ in 0..self.probes_left {
+            let conflict = self.probe_next(alloc)?;
+            if conflict.is_some() {
+                return Ok(conflict);
+            }
+        }
+        Ok(None)
+    }
+}

@@ -1,0 +1,218 @@
+//! Values of variables, in the order in which they came.
+
+use crate::codes::{NONE, negated, number_at, variable_of};
+use crate::order::Order;
+use std::alloc::{AllocError, Global};
+
+/// The value of a literal.
+#[derive(Clone, Copy, Debug, PartialEq, Eq)]
+pub(crate) enum Truth {
+    /// None yet.
+    Open,
+    /// True.
+    True,
+    /// False.
+    False,
+}
+
+/// What is kept of a variable: the level at which it got its value, the clause that gave it, the place on the trail, and
+/// the value that it had last.
+#[derive(Clone, Copy, Debug)]
+struct Note {
+    level: u32,
+    reason: u32,
+    place: u32,
+    phase: bool,
+}
+
+fn no_note() -> Note {
+    Note {
+        level: 0,
+        reason: NONE,
+        place: 0,
+        phase: false,
+    }
+}
+
+/// The literals that are true, in order, with their levels and reasons.
+#[derive(Debug, Drop)]
+pub(crate) struct Trail {
+    values: Vec<Truth>,
+    notes: Vec<Note>,
+    literals: Vec<u32>,
+    top: usize,
+    head: usize,
+    limits: Vec<usize>,
+    keeps_phases: bool,
+}
+
+fn put(values: &mut [Truth], code: u32, value: Truth) {
+    if let Some(entry) = values.get_mut(code as usize) {
+        *entry = value;
+    }
+}
+
+impl Trail {
+    /// The empty trail over this many variables.
+    pub(crate) fn new(alloc: Global, variables: u32) -> Result<Trail, AllocError> {
+        let count = variables as usize;
+        Ok(Trail {
+            values: vec![in alloc; Truth::Open; 2 * count]?,
+            notes: vec![in alloc; no_note(); count]?,
+            literals: vec![in alloc; 0; count]?,
+            top: 0,
+            head: 0,
+            limits: Vec::new(alloc),
+            keeps_phases: true,
+        })
+    }
+
+    /// The literal's value.
+    pub(crate) fn value(&self, code: u32) -> Truth {
+        match self.values.get(code as usize) {
+            Some(value) => *value,
+            None => Truth::True,
+        }
+    }
+
+    fn note(&self, variable: usize) -> Note {
+        match self.notes.get(variable) {
+            Some(note) => *note,
+            None => no_note(),
+        }
+    }
+
+    /// The level at which the variable got its value.
+    pub(crate) fn level_of(&self, variable: usize) -> u32 {
+        self.note(variable).level
+    }
+
+    /// The clause that gave the variable its value.
+    pub(crate) fn reason_of(&self, variable: usize) -> u32 {
+        self.note(variable).reason
+    }
+
+    /// Puts another clause that gives the variable its value in the place of the one so far.
+    pub(crate) fn set_reason(&mut self, variable: usize, reason: u32) {
+        if let Some(note) = self.notes.get_mut(variable) {
+            note.reason = reason;
+        }
+    }
+
+    /// The variable's place on the trail.
+    pub(crate) fn place_of(&self, variable: usize) -> usize {
+        self.note(variable).place as usize
+    }
+
+    /// The literal at this place.
+    pub(crate) fn literal(&self, place: usize) -> u32 {
+        number_at(&self.literals, place)
+    }
+
+    /// How many literals are true.
+    pub(crate) fn len(&self) -> usize {
+        self.top
+    }
+
+    /// How many literals can be true.
+    pub(crate) fn most(&self) -> usize {
+        self.literals.len()
+    }
+
+    /// How many decisions there are.
+    pub(crate) fn level(&self) -> usize {
+        self.limits.len()
+    }
+
+    /// Begins a level.
+    pub(crate) fn open_level(&mut self) -> Result<(), AllocError> {
+        self.limits.push(self.top)?;
+        Ok(())
+    }
+
+    /// Makes the literal true.
+    pub(crate) fn assign(&mut self, code: u32, reason: u32) {
+        if self.top >= self.literals.len() {
+            return;
+        }
+        put(self.values.as_mut_slice(), code, Truth::True);
+        put(self.values.as_mut_slice(), negated(code), Truth::False);
+        let level = u32::try_from(self.limits.len()).unwrap_or(NONE);
+        let place = u32::try_from(self.top).unwrap_or(NONE);
+        let keeps_phases = self.keeps_phases;
+        if let Some(note) = self.notes.get_mut(variable_of(code)) {
+            note.level = level;
+            note.reason = reason;
+            note.place = place;
+            if keeps_phases {
+                note.phase = code % 2 == 0;
+            }
+        }
+        self.literals[self.top] = code;
+        self.top += 1;
+    }
+
+    /// Whether values that come from now on count as the last ones of their variables.
+    pub(crate) fn set_keeps_phases(&mut self, keeps_phases: bool) {
+        self.keeps_phases = keeps_phases;
+    }
+
+    /// The next literal that wasn't propagated yet.
+    pub(crate) fn take_next(&mut self) -> Option<u32> {
+        if self.head >= self.top {
+            return None;
+        }
+        let code = number_at(&self.literals, self.head);
+        self.head += 1;
+        Some(code)
+    }
+
+    fn unassign(&mut self, order: &mut Order, code: u32) {
+        put(self.values.as_mut_slice(), code, Truth::Open);
+        put(self.values.as_mut_slice(), negated(code), Truth::Open);
+        order.insert(code / 2);
+    }
+
+    fn shorten(&mut self, order: &mut Order, length: usize) {
+        for place in length..self.top {
+            let code = number_at(&self.literals, place);
+            self.unassign(order, code);
+        }
+        self.top = length;
+        self.head = length;
+    }
+
+    /// Takes back all levels above this one. The variables that lose their value may be decided again.
+    pub(crate) fn back(&mut self, order: &mut Order, level: usize) {
+        let Some(limit) = self.limits.get(level) else {
+            return;
+        };
+        let limit = *limit;
+        self.limits.truncate(level);
+        self.shorten(order, limit);
+    }
+
+    /// Takes back all, level 0 too.
+    pub(crate) fn reset(&mut self, order: &mut Order) {
+        self.limits.clear();
+        self.shorten(order, 0);
+    }
+
+    /// The literal of this variable with the value that the variable had last.
+    pub(crate) fn with_phase(&self, positive: u32) -> u32 {
+        if self.note(variable_of(positive)).phase {
+            positive
+        } else {
+            negated(positive)
+        }
+    }
+
+    /// The variables' values: false where there is none.
+    pub(crate) fn values(&self, alloc: Global) -> Result<Vec<bool>, AllocError> {
+        let mut values = Vec::with_capacity(alloc, self.notes.len())?;
+        for variable in 0..self.notes.len() {
+            values.push(self.values.get(2 * variable).copied() == Some(Truth::True))?;
+        }
+        Ok(values)
+    }
+}
