@@ -1,0 +1,5 @@
+pub mod FullTrees
+pub mod LevelSteps
+pub mod MatchVariables
+pub mod Orders
+pub mod CubeTrees

@@ -1,0 +1,4 @@
+pub mod Cubes
+pub mod Laws
+pub mod Levels
+pub mod Order

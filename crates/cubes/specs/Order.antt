@@ -1,0 +1,31 @@
+-- Which pairs are branched on first, and on which variables. Pairs are named by their places in the list, from 0.
+use Rattle.std.specs.Prelude.{ℕ, ◌-◌, Bool, ◌&&◌, ◌||◌, ◌==◌, nat_lt, List, length}
+use Rattle.std.specs.List.{range_with_len}
+use Rattle.std.specs.List.Sorted.{IsPermutation, IsSortedBy}
+use Rattle.callorder.specs.Programs.{MpiProgram}
+use Rattle.candidates.specs.Pairs.{pairs_of, pair_at, with_taker}
+use Rattle.formulas.specs.declared.facts.Fact.TheVariants.{Matched as matched}
+use Rattle.formulas.specs.declared.facts.Meaning.TheVariants.{OfFact as fact}
+use Rattle.formulas.specs.Numbering.{variable_of}
+
+-- how many pairs have the taker of this one
+abbrev pub choices : List (ℕ × ℕ) → ℕ → ℕ
+choices pairs k = length (with_taker pairs (pair_at pairs k).1)
+
+-- the pair with more choices comes first, and of two with as many the one with the smaller number
+abbrev pub comes_first : List (ℕ × ℕ) → ℕ → ℕ → Bool
+comes_first pairs i j =
+    nat_lt (choices pairs j) (choices pairs i) || (choices pairs i == choices pairs j && nat_lt i j)
+
+-- each pair once, and none behind one that it comes before
+pub record IsBranchingOrder (pairs : List (ℕ × ℕ)) (order : List ℕ) : Type 0 where
+  pub each_once : IsPermutation (range_with_len 0 (length pairs)) order
+  pub in_order : IsSortedBy (comes_first pairs) order
+
+-- the number of pairs with other takers, and that of the pair
+abbrev pub rank_of : List (ℕ × ℕ) → ℕ → ℕ × ℕ
+rank_of pairs k = (length pairs - choices pairs k, k)
+
+-- the variable that says of a pair that it is matched
+abbrev pub match_variable : MpiProgram → ℕ → ℕ
+match_variable p k = let pair = pair_at (pairs_of p) k in variable_of p (fact (matched pair.0 pair.1))

@@ -1,0 +1,89 @@
+//! The split of a formula into cubes.
+
+ghost use Rattle.std.specs.Prelude.{◌≡◌, ◌<◌, ◌≤◌, ◌↔◌, IfOk, length, map};
+ghost use Rattle.std.specs.List.{All};
+ghost use Rattle.candidates.specs.Pairs.{pairs_of};
+ghost use Rattle.formulas.specs.Numbering.{formula_of};
+ghost use Rattle.cubes.specs.Order.{match_variable};
+ghost use Rattle.cubes.specs.Cubes.{IsCubeTree};
+
+use crate::fault::CubeFault;
+use crate::levels::full_tree;
+use crate::order::branching_order;
+use encode::Encoded;
+use formulas::{Fact, Meaning};
+use std::alloc::{AllocError, Global};
+use tables::Variables;
+use trees::Tree;
+
+/// The greatest depth of a tree of cubes.
+pub const GREATEST_DEPTH: u32 = 15;
+
+/// The variable that says that the pair of this number, from 0, is matched.
+fn match_variable(table: &Variables, pairs: &[(usize, usize)], number: usize) -> u32
+    requires pairs { pairs.now ≡ pairs_of table.now }
+    requires there { number < length pairs.now }
+    ensures { result ≡ match_variable table.now number }
+{
+    let (send, taker) = pairs[number];
+    let meaning = Meaning::OfFact(Fact::Matched(send, taker));
+    table.literal(&meaning, true).variable()
+}
+
+/// The match variables of the pairs with these numbers, from 0.
+fn match_variables(
+    alloc: Global,
+    table: &Variables,
+    pairs: &[(usize, usize)],
+    numbers: &[usize],
+) -> Result<Vec<u32>, AllocError>
+    requires pairs { pairs.now ≡ pairs_of table.now }
+    requires there { All (λ k. k < length pairs.now) numbers.now }
+    ensures { IfOk result (λ variables. variables.items ≡ map (match_variable table.now) numbers.now) }
+{
+    let mut variables = Vec::new(alloc);
+    for number in numbers {
+        variables.push(match_variable(table, pairs, *number))?;
+    }
+    Ok(variables)
+}
+
+/// How many variables the formula has.
+fn count_variables(encoded: &Encoded, table: &Variables) -> u32
+    requires { table.now ≡ encoded.now.program }
+    ensures same { result ≡ encoded.now.formula.variables }
+    ensures are { encoded.now.formula ≡ formula_of encoded.now.program }
+    ensures most { result ≤ 2147483647 }
+{
+    let _count = table.count();
+    encoded.formula().variables()
+}
+
+fn cube_tree(alloc: Global, encoded: &Encoded, depth: u32) -> Result<Tree, AllocError>
+    requires { depth ≤ GREATEST_DEPTH }
+    ensures { IfOk result (λ tree. IsCubeTree encoded.now depth tree) }
+{
+    let table = encoded.variables(alloc)?;
+    let pairs = encoded.pairs();
+    let order = branching_order(alloc, pairs)?;
+    let levels = order.len().min(depth as usize);
+    let variables = match_variables(alloc, &table, pairs.as_slice(), &order[..levels])?;
+    full_tree(alloc, count_variables(encoded, &table), &variables)
+}
+
+/// The full tree that branches at each depth on the match variable of one pair, those pairs first whose
+/// takers have most pairs. Its depth is `depth`, or the number of pairs where these are fewer. Nodes
+/// are numbered level by level, the one for true before the one for false. The only refusal beside
+/// want of memory is [`CubeFault::TooMany`], exactly where `depth` is above [`GREATEST_DEPTH`].
+pub fn split(alloc: Global, encoded: &Encoded, depth: u32) -> Result<Tree, CubeFault>
+    ensures tree { IfOk result (λ tree. IsCubeTree encoded.now depth tree) }
+    ensures too_many { result ≡ Err CubeFault.TooMany ↔ GREATEST_DEPTH < depth }
+{
+    if depth > GREATEST_DEPTH {
+        return Err(CubeFault::TooMany);
+    }
+    match cube_tree(alloc, encoded, depth) {
+        Ok(tree) => Ok(tree),
+        Err(AllocError) => Err(CubeFault::Memory),
+    }
+}

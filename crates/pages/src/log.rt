@@ -1,0 +1,166 @@
+//! Logs of proof lines.
+
+ghost use Rattle.std.specs.Prelude.{◌≡◌, ◌+◌, ◌++◌, ◌∷◌, [], ◌≤◌, ◌<◌, ◌^◌, drop, length, IfOk, OnOk, OnErr, slice_get, vec_capacity, vec_len};
+ghost use Rattle.std.specs.Option.{option_map};
+
+use crate::lines::Lines;
+use crate::page::{LINES_PER_PAGE, Page, copied, page_of, shared};
+use refutations::{Line, LineList};
+use std::alloc::{AllocError, Global};
+use std::marker::Model;
+use std::mem;
+
+/// The largest length of a log. Memory ends long before, but only with a limit are the sums of
+/// lengths known to fit.
+const LARGEST_LENGTH: usize = usize::MAX / 2;
+
+/// A list of proof lines to which lines are appended. It keeps full pages of 256 lines, which it
+/// shares with the lists that it hands out, and the fewer than 256 lines after them.
+///
+/// It has fewer than 2^63 lines; more are refused as want of memory, which comes long before.
+#[derive(Debug, Drop)]
+pub struct Log {
+    pages: Vec<Page>,
+    last: Vec<Line>,
+}
+
+impl Model for Log {
+    ghost use Rattle.std.specs.Prelude.{◌++◌, List};
+    ghost use Rattle.refutations.specs.Proofs.{ProofLine};
+    ghost use Rattle.pages.specs.Pages.{joined, IsPaged};
+    ghost use Rattle.pages.specs.declared.page.TheConstants.{LINES_PER_PAGE};
+
+    ghost Value = { List ProofLine };
+
+    ghost view = { λ log. joined log.pages.items ++ log.last.items };
+
+    ghost invariant = { λ log. IsPaged LINES_PER_PAGE log.pages.items log.last.items };
+}
+
+/// The log of these lines, of which none is copied.
+pub(crate) fn paged(alloc: Global, lines: Vec<Line>) -> Result<Log, AllocError>
+    ensures { IfOk result (λ log. log ≡ lines.items) }
+{
+    let mut log = Log::new(alloc);
+    for line in lines {
+        log.push(alloc, line)?;
+    }
+    Ok(log)
+}
+
+/// Appends a page and those after it, for which there is room.
+fn push_pages(pages: &mut Vec<Page>, page: Page, later: &mut Vec<Page>)
+    requires { vec_len pages.old + vec_len later.old + 1 ≤ vec_capacity pages.old }
+    ensures { pages.new.items ≡ pages.old.items ++ page ∷ later.old.items }
+{
+    pages.push(page).unwrap();
+    pages.append(later).unwrap();
+}
+
+impl Log {
+    /// A log without lines. Takes no memory.
+    pub fn new(alloc: Global) -> Log
+        ensures { result ≡ [] }
+    {
+        Log {
+            pages: Vec::new(alloc),
+            last: Vec::new(alloc),
+        }
+    }
+
+    /// How many lines it has. Takes no memory.
+    pub fn len(&self) -> usize
+        ensures same { result ≡ length self.now }
+        ensures small { result < 2 ^ 63 }
+    {
+        self.pages.len() * LINES_PER_PAGE + self.last.len()
+    }
+
+    /// The line at this place, counted from 0, in constant time and without memory; there is none from
+    /// the length on.
+    pub fn get(&self, place: usize) -> Option<&Line>
+        ensures { option_map (λ line. line.now) result ≡ slice_get self.now place }
+    {
+        match self.pages.get(place / LINES_PER_PAGE) {
+            Some(page) => page.get(place % LINES_PER_PAGE),
+            None => self.last.get(place - self.pages.len() * LINES_PER_PAGE),
+        }
+    }
+
+    /// Appends one line. Where memory runs out, lines may be lost.
+    fn push(&mut self, alloc: Global, line: Line) -> Result<(), AllocError>
+        requires { length self.old + 1 < 2 ^ 63 }
+        ensures { OnOk result (self.new ≡ self.old ++ line ∷ []) }
+    {
+        self.last.push(line)?;
+        if self.last.len() < LINES_PER_PAGE {
+            return Ok(());
+        }
+        let last = mem::replace(&mut self.last, Vec::new(alloc));
+        let Ok(page) = Page::new(alloc, last) else {
+            return Err(AllocError);
+        };
+        self.pages.push(page)?;
+        Ok(())
+    }
+
+    /// Appends these lines, of which none is copied. Where memory runs out, the log stays as it was.
+    pub fn append(&mut self, alloc: Global, mut lines: Vec<Line>) -> Result<(), AllocError>
+        ensures appended { OnOk result (self.new ≡ self.old ++ lines.items) }
+        ensures unchanged { OnErr result (self.new ≡ self.old) }
+    {
+        if lines.len() > LARGEST_LENGTH - self.len() {
+            return Err(AllocError);
+        }
+        let room = LINES_PER_PAGE - self.last.len();
+        if lines.len() < room {
+            self.last.append(&mut lines)?;
+            return Ok(());
+        }
+        let later = paged(alloc, lines.split_off(room)?)?;
+        let Log {
+            pages: mut later,
+            last,
+        } = later;
+        self.pages.reserve(later.len() + 1)?;
+        let page = page_of(alloc, &mut self.last, &mut lines)?;
+        push_pages(&mut self.pages, page, &mut later);
+        self.last = last;
+        Ok(())
+    }
+
+    /// The lines after the first `from` ones, as they are now. Full pages are shared, so this takes
+    /// time in proportion to the pages; at most 255 lines are copied.
+    pub fn after(&self, alloc: Global, from: usize) -> Result<Lines, AllocError>
+        requires { from ≤ length self.now }
+        ensures { IfOk result (λ lines. lines ≡ drop from self.now) }
+    {
+        let page = from / LINES_PER_PAGE;
+        if page < self.pages.len() {
+            let pages = shared(alloc, &self.pages, page)?;
+            let last = copied(alloc, &self.last, 0)?;
+            return Ok(Lines::make(Log { pages, last }, from % LINES_PER_PAGE));
+        }
+        let start = from - self.pages.len() * LINES_PER_PAGE;
+        let last = copied(alloc, &self.last, start)?;
+        Ok(Lines::make(
+            Log {
+                pages: Vec::new(alloc),
+                last,
+            },
+            0,
+        ))
+    }
+}
+
+impl LineList for Log {
+    ghost lines = { λ list. list };
+
+    fn len(&self) -> usize {
+        self.len()
+    }
+
+    fn get(&self, place: usize) -> Option<&Line> {
+        self.get(place)
+    }
+}

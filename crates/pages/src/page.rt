@@ -1,0 +1,105 @@
+//! Shared pages.
+
+ghost use Rattle.std.specs.Prelude.{◌≡◌, ◌≤◌, ◌++◌, [], drop, length, IfOk, IfErr, OnOk, OnErr, slice_get};
+ghost use Rattle.std.specs.Option.{option_map};
+
+use refutations::Line;
+use std::alloc::{AllocError, Global};
+use std::marker::Model;
+use std::mem;
+use std::sync::Arc;
+
+/// How many lines a full page has.
+pub(crate) const LINES_PER_PAGE: usize = 256;
+
+/// Lines that several owners may share.
+#[derive(Debug, Drop)]
+pub(crate) struct Page {
+    lines: Arc<Vec<Line>>,
+}
+
+impl Model for Page {
+    ghost use Rattle.std.specs.Prelude.{List};
+    ghost use Rattle.std.specs.Arc.{arc_value};
+    ghost use Rattle.refutations.specs.Proofs.{ProofLine};
+
+    ghost Value = { List ProofLine };
+
+    ghost view = { λ page. (arc_value page.lines).items };
+}
+
+impl Page {
+    /// A page of these lines, which come back where memory runs out.
+    pub(crate) fn new(alloc: Global, lines: Vec<Line>) -> Result<Page, Vec<Line>>
+        ensures made { IfOk result (λ page. page ≡ lines.items) }
+        ensures back { IfErr result (λ back. back ≡ lines) }
+    {
+        match Arc::new(alloc, lines) {
+            Ok(lines) => Ok(Page { lines }),
+            Err(failed) => Err(failed.value),
+        }
+    }
+
+    /// The line at this place of the page.
+    pub(crate) fn get(&self, place: usize) -> Option<&Line>
+        ensures { option_map (λ line. line.now) result ≡ slice_get self.now place }
+    {
+        self.lines.get(place)
+    }
+
+    /// The same page once more. Copies no line.
+    pub(crate) fn share(&self) -> Result<Page, AllocError>
+        ensures { IfOk result (λ page. page ≡ self.now) }
+    {
+        let lines = Arc::try_clone(&self.lines)?;
+        Ok(Page { lines })
+    }
+}
+
+/// The page of these lines and the others after them, both of which are moved out. Where memory
+/// runs out, the first ones are put back.
+pub(crate) fn page_of(
+    alloc: Global,
+    first: &mut Vec<Line>,
+    others: &mut Vec<Line>,
+) -> Result<Page, AllocError>
+    ensures made { IfOk result (λ page. page ≡ first.old.items ++ others.old.items) }
+    ensures moved { OnOk result (first.new.items ≡ []) }
+    ensures unchanged { OnErr result (first.new.items ≡ first.old.items) }
+{
+    let before = first.len();
+    first.reserve_exact(others.len())?;
+    first.append(others)?;
+    match Page::new(alloc, mem::replace(first, Vec::new(alloc))) {
+        Ok(page) => Ok(page),
+        Err(mut lines) => {
+            lines.truncate(before);
+            *first = lines;
+            Err(AllocError)
+        }
+    }
+}
+
+/// The same pages once more, from this place on. Copies no line.
+pub(crate) fn shared(alloc: Global, pages: &[Page], from: usize) -> Result<Vec<Page>, AllocError>
+    requires { from ≤ length pages.now }
+    ensures { IfOk result (λ shared. shared.items ≡ drop from pages.now) }
+{
+    let mut shared = Vec::new(alloc);
+    for page in &pages[from..] {
+        shared.push(page.share()?)?;
+    }
+    Ok(shared)
+}
+
+/// Copies of the lines from this place on.
+pub(crate) fn copied(alloc: Global, lines: &[Line], from: usize) -> Result<Vec<Line>, AllocError>
+    requires { from ≤ length lines.now }
+    ensures { IfOk result (λ copied. copied.items ≡ drop from lines.now) }
+{
+    let mut copied = Vec::new(alloc);
+    for line in &lines[from..] {
+        copied.push(line.copy(alloc)?)?;
+    }
+    Ok(copied)
+}

@@ -1,0 +1,3 @@
+pub mod Laws
+pub mod Preorders
+pub mod Trees

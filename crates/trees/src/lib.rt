@@ -1,0 +1,20 @@
+//! Trees of cubes, which grow by splits of leaves.
+//!
+//! Nodes are numbered from 0, the root. `specs/Trees.antt` says how trees grow and which tree hangs
+//! below a node, `specs/Laws.antt` what holds of every one.
+#![tactic(auto)]
+
+mod fault;
+mod laws;
+mod proof_tree;
+mod tree;
+
+pub use fault::SplitFault;
+pub use laws::{
+    closed_leaves_refute, one_leaf_for_each_assignment, paths_are_within, splits_are_sound,
+    splits_change_one_leaf,
+};
+pub use tree::{GREATEST_DEPTH, Kind, MOST_NODES, Tree};
+
+#[cfg(test)]
+mod tests;
