@@ -12,7 +12,7 @@ use Rattle.encode.specs.Encodings.{EncodedProgram}
 use Rattle.trees.specs.Trees.{TreeState}
 use Rattle.cubes.specs.Cubes.{IsCubeTree}
 use Rattle.cubes.specs.Levels.{full_tree}
-use Rattle.cubes.specs.Order.{IsBranchingOrder, match_variable}
+use Rattle.cubes.specs.Order.{IsBranchingOrder, AreBranchingVariables, match_variable}
 use Rattle.cubes.proofs.MatchVariables.{match_variables_within}
 
 -- one match variable more
@@ -64,4 +64,18 @@ cube_tree_made encoded depth tree p pairs order lent variables lent_variables le
           ap (λ (t : TreeState). t.nodes) tree_is
           ∙ ap full_tree (lent_variables_are ∙ made ∙ ap (map (match_variable p)) numbers)
           ∙ ap (λ (q : MpiProgram). full_tree (map (match_variable q) (take depth order))) p_is;
+    }
+
+-- all numbers of an order are those of pairs, where these are what was read of the pairs and the order
+pub order_there : (pairs slice : List (ℕ × ℕ)) (order lent : List ℕ) → IsBranchingOrder pairs order → lent ≡ order → slice ≡ pairs → All (λ k. k < length slice) lent
+order_there pairs slice order lent is lent_is slice_is =
+    subst (λ (ps : List (ℕ × ℕ)). All (λ k. k < length ps) lent) (sym slice_is)
+    (subst (λ (ns : List ℕ). All (λ k. k < length pairs) ns) (sym lent_is) (order_within pairs order is))
+
+pub branching_variables_are : (q p : MpiProgram) (pairs : List (ℕ × ℕ)) (order lent variables : List ℕ) → IsBranchingOrder pairs order → pairs ≡ pairs_of q → p ≡ q → lent ≡ order → variables ≡ map (match_variable p) lent → AreBranchingVariables q variables
+branching_variables_are q p pairs order lent variables is pairs_are p_is lent_is made =
+    record {
+      order = order;
+      is_order = subst (λ (ps : List (ℕ × ℕ)). IsBranchingOrder ps order) pairs_are is;
+      variables_are = made ∙ ap (λ (r : MpiProgram). map (match_variable r) lent) p_is ∙ ap (map (match_variable q)) lent_is;
     }

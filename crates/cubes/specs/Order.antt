@@ -1,5 +1,5 @@
 -- Which pairs are branched on first, and on which variables. Pairs are named by their places in the list, from 0.
-use Rattle.std.specs.Prelude.{ℕ, ◌-◌, Bool, ◌&&◌, ◌||◌, ◌==◌, nat_lt, List, length}
+use Rattle.std.specs.Prelude.{◌≡◌, ℕ, ◌-◌, Bool, ◌&&◌, ◌||◌, ◌==◌, nat_lt, List, length, map}
 use Rattle.std.specs.List.{range_with_len}
 use Rattle.std.specs.List.Sorted.{IsPermutation, IsSortedBy}
 use Rattle.callorder.specs.Programs.{MpiProgram}
@@ -29,3 +29,9 @@ rank_of pairs k = (length pairs - choices pairs k, k)
 -- the variable that says of a pair that it is matched
 abbrev pub match_variable : MpiProgram → ℕ → ℕ
 match_variable p k = let pair = pair_at (pairs_of p) k in variable_of p (fact (matched pair.0 pair.1))
+
+-- the match variables of all pairs, in the order of the pairs
+pub record AreBranchingVariables (p : MpiProgram) (variables : List ℕ) : Type 0 where
+  pub order : List ℕ
+  pub is_order : IsBranchingOrder (pairs_of p) order
+  pub variables_are : variables ≡ map (match_variable p) order

@@ -12,7 +12,7 @@ mod splitting;
 
 pub use fault::CubeFault;
 pub use laws::{full_tree_size, match_variables_are_within, one_branching_order};
-pub use splitting::{GREATEST_DEPTH, split};
+pub use splitting::{GREATEST_DEPTH, branching_variables, split};
 
 #[cfg(test)]
 mod tests;

@@ -4,7 +4,7 @@ ghost use Rattle.std.specs.Prelude.{◌≡◌, ◌<◌, ◌≤◌, ◌↔◌, If
 ghost use Rattle.std.specs.List.{All};
 ghost use Rattle.candidates.specs.Pairs.{pairs_of};
 ghost use Rattle.formulas.specs.Numbering.{formula_of};
-ghost use Rattle.cubes.specs.Order.{match_variable};
+ghost use Rattle.cubes.specs.Order.{match_variable, AreBranchingVariables};
 ghost use Rattle.cubes.specs.Cubes.{IsCubeTree};
 
 use crate::fault::CubeFault;
@@ -69,6 +69,17 @@ fn cube_tree(alloc: Global, encoded: &Encoded, depth: u32) -> Result<Tree, Alloc
     let levels = order.len().min(depth as usize);
     let variables = match_variables(alloc, &table, pairs.as_slice(), &order[..levels])?;
     full_tree(alloc, count_variables(encoded, &table), &variables)
+}
+
+/// The match variables of all pairs, those of the pairs first whose takers have most pairs, and of two pairs whose takers have
+/// as many that of the smaller number first. It is the order in which [`split`] branches. The only error is want of memory.
+pub fn branching_variables(alloc: Global, encoded: &Encoded) -> Result<Vec<u32>, AllocError>
+    ensures { IfOk result (λ variables. AreBranchingVariables encoded.now.program variables.items) }
+{
+    let table = encoded.variables(alloc)?;
+    let pairs = encoded.pairs();
+    let order = branching_order(alloc, pairs)?;
+    match_variables(alloc, &table, pairs.as_slice(), &order)
 }
 
 /// The full tree that branches at each depth on the match variable of one pair, those pairs first whose
