@@ -1,2 +1,11 @@
-pub mod Reasons
+pub mod Answering
+pub mod Assembling
+pub mod Derivations
+pub mod Hints
+pub mod Histories
+pub mod Legal
 pub mod Limits
+pub mod OpenLeaves
+pub mod Sizes
+pub mod SmallestReasons
+pub mod Soundness

@@ -1,157 +1,475 @@
-//! The pool.
+//! The pool, and its calls.
 
-ghost use Rattle.std.specs.Prelude.{◌≡◌, ◌↔◌, ◌++◌, ◌∷◌, [], OnOk, OnErr, IfOk, IsNone, IsSome, IsTrue};
-ghost use Rattle.semantics.specs.Machine.{IsStuckRun};
-ghost use Rattle.pool.specs.PoolStates.{with_schedule, IsSmallest, IsAssembled, with_reason};
+ghost use Rattle.std.specs.Prelude.{◌≡◌, ◌↔◌, ◌≤◌, ◌<◌, ◌+◌, ◌++◌, ◌∷◌, [], vec_len, vec_capacity, None, Some, ℕ, length, map, replicate, IfOk, IfErr, OnOk, OnErr, IsTrue, IsSome, Err};
+ghost use Rattle.std.specs.Option.{option_map};
+ghost use Rattle.trees.specs.Trees.{HasNoRoom, IsLeaf, path_at, split_at};
+ghost use Rattle.pool.specs.Counts.{open_count};
+ghost use Rattle.pool.specs.Reasons.{IsSmallest};
+ghost use Rattle.pool.specs.States.{opening, noted, next_number, first_of, with_reason, leave_item, IsOpen, IsClosedBy, IsVariable, IsPublished, published, IsFetched, fetched, IsClosed, closed, IsSplit, after_split, IsFound, after_found, IsAssembled, IsUndecided, IsSound};
+ghost use Rattle.pool.specs.Refusals.{IsSplitFault};
+ghost use Rattle.refutations.specs.Refutations.{Accepts};
 
+use crate::assembly::{AssembleFault, refutation_of, schedule_of_run};
+use crate::entry::{
+    CloseFault, Deed, Entry, FetchFault, FoundFault, PathFault, PublishFault, SplitFault,
+};
+use crate::extend::extend;
 use crate::why::{Why, smallest};
+use batches::Batch;
 use callorder::Program;
-use prooflog::{Evidence, Schedule};
+use clauses::{Formula, Lit};
+use encode::Encoded;
+use pages::{Lines, Log};
+use prooflog::{Evidence, Refutation};
+use refutations::{PartialAssignment, clause_at, refutes};
 use semantics::{End, ReplayFault, Step, replay};
 use std::alloc::{AllocError, Global};
 use std::marker::Model;
-
-/// Why a schedule isn't kept.
-#[derive(Clone, Copy, Debug, PartialEq, Eq)]
-pub enum FoundFault {
-    /// Memory ran out.
-    Memory,
-    /// The schedule isn't a run of the program that ends stuck.
-    NotStuck,
-}
-
-/// Why there is no evidence.
-#[derive(Clone, Copy, Debug, PartialEq, Eq)]
-pub enum AssembleFault {
-    /// Memory ran out.
-    Memory,
-    /// No schedule was found, and something is left open.
-    Open,
-}
+use trees::{GREATEST_DEPTH, MOST_NODES, Tree};
 
 /// How far the search is.
 #[derive(Clone, Copy, Debug, PartialEq, Eq)]
 pub struct Status {
     /// Whether a schedule was found.
     pub is_found: bool,
-    /// How many leaves of the search tree are open: as long as there is no tree, one.
+    /// How many leaves of the tree are open.
     pub open_leaves: u32,
-    /// The smallest reason that was noted so far.
+    /// The smallest reason for which a worker left so far.
     pub why: Option<Why>,
 }
 
-/// What a search over one program has found. A schedule that is kept is a run of the program that ends stuck.
-#[derive(Debug, Drop)]
+/// What the workers of a search over one program share. Each line of its log derives from the formula
+/// and the lines before it, each closed leaf is refuted by its clause, and a schedule that it keeps is a
+/// run of the program that ends stuck. Workers are numbered from 0; their calls stand in the history,
+/// in order, but for those that were refused for want of memory.
+#[derive(Drop)]
 pub struct Pool {
-    program: Program,
+    encoded: Encoded,
+    tree: Tree,
+    closed: Vec<u32>,
+    open_leaves: u32,
+    log: Log,
+    known: PartialAssignment,
     schedule: Option<Vec<Step>>,
     reasons: Vec<Why>,
+    history: Vec<Entry>,
 }
 
 impl Model for Pool {
-    ghost use Rattle.std.specs.Prelude.{IfSome};
+    ghost use Rattle.std.specs.Prelude.{◌≡◌, ◌+◌, length};
     ghost use Rattle.std.specs.Option.{option_map};
-    ghost use Rattle.semantics.specs.Machine.{IsStuckRun};
-    ghost use Rattle.pool.specs.PoolStates.{PoolState};
+    ghost use Rattle.pool.specs.Counts.{open_count};
+    ghost use Rattle.pool.specs.States.{Kept, IsSound, held_of};
 
-    ghost Value = { PoolState };
+    ghost Value = { Kept };
 
-    ghost view = { λ a. record { program = a.program; schedule = option_map (λ s. s.items) a.schedule; reasons = a.reasons.items } };
+    ghost view = { λ a. record { held = held_of a.encoded a.tree a.closed.items a.log (option_map (λ s. s.items) a.schedule) a.reasons.items; history = a.history.items } };
 
-    ghost invariant = { λ a. IfSome a.schedule (λ s. IsStuckRun a.program s.items) };
+    ghost invariant = { λ a. IsSound (held_of a.encoded a.tree a.closed.items a.log (option_map (λ s. s.items) a.schedule) a.reasons.items) × (a.open_leaves ≡ open_count a.tree.nodes a.closed.items) × (length a.known ≡ a.encoded.formula.variables + 1) };
+}
+
+/// Notes a call, for which there is room.
+fn note(history: &mut Vec<Entry>, worker: u32, deed: Deed)
+    requires { vec_len history.old + 1 ≤ vec_capacity history.old }
+    ensures { history.new.items ≡ history.old.items ++ (record { worker = worker; deed = deed }) ∷ [] }
+{
+    history.push_reserved(Entry { worker, deed });
+}
+
+/// How many leaves the tree has.
+fn leaves_of(tree: &Tree) -> u32
+    ensures { result ≡ open_count tree.now.nodes (replicate (length tree.now.nodes) 0) }
+{
+    let mut leaves = 0;
+    for node in 0..tree.len() {
+        if tree.is_leaf(node as u32) {
+            leaves += 1;
+        }
+    }
+    leaves
+}
+
+/// Splits a leaf for which there is room; the two new leaves are open.
+fn split_open(
+    alloc: Global,
+    tree: &mut Tree,
+    closed: &mut Vec<u32>,
+    leaf: u32,
+    variable: u32,
+) -> Result<(u32, u32), AllocError>
+    requires leaf { IsLeaf tree.old.nodes leaf }
+    requires room { HasNoRoom tree.old.nodes leaf → ⊥ }
+    requires from_one { 1 ≤ variable }
+    requires within { variable ≤ tree.old.variables }
+    ensures split { OnOk result (tree.new ≡ record tree.old { nodes = split_at tree.old.nodes leaf variable }) }
+    ensures open { OnOk result (closed.new.items ≡ closed.old.items ++ 0 ∷ 0 ∷ []) }
+    ensures numbers { IfOk result (λ below. below ≡ (length tree.old.nodes, length tree.old.nodes + 1)) }
+    ensures kept { OnErr result (tree.new ≡ tree.old) }
+    ensures unchanged { OnErr result (closed.new.items ≡ closed.old.items) }
+{
+    closed.reserve(2)?;
+    match tree.split_leaf(alloc, leaf, variable) {
+        Ok(below) => {
+            closed.push_reserved(0);
+            closed.push_reserved(0);
+            Ok(below)
+        }
+        Err(trees::SplitFault::Memory) => Err(AllocError),
+        Err(trees::SplitFault::TooMany) => unreachable!(),
+    }
+}
+
+fn add_reason(reasons: &mut Vec<Why>, why: Option<Why>) -> Result<(), AllocError>
+    ensures ok { OnOk result (reasons.new.items ≡ with_reason reasons.old.items why) }
+    ensures err { OnErr result (reasons.new.items ≡ reasons.old.items) }
+{
+    match why {
+        None => Ok(()),
+        Some(why) => {
+            reasons.push(why)?;
+            Ok(())
+        }
+    }
+}
+
+/// The first schedule stays.
+fn keep_first(schedule: &mut Option<Vec<Step>>, steps: Vec<Step>)
+    ensures { option_map (λ s. s.items) schedule.new ≡ Some (first_of (option_map (λ s. s.items) schedule.old) steps.items) }
+{
+    if schedule.is_none() {
+        *schedule = Some(steps);
+    }
 }
 
 impl Pool {
-    /// A pool over this program, in which nothing is found.
-    pub fn new(alloc: Global, program: Program) -> Self
-        ensures { result ≡ record { program = program; schedule = None; reasons = [] } }
+    /// The pool in which all leaves of the tree are open, and nothing else is.
+    pub fn new(alloc: Global, encoded: Encoded, tree: Tree) -> Result<Pool, AllocError>
+        requires { tree.variables ≡ encoded.formula.variables }
+        ensures { IfOk result (λ pool. pool ≡ opening encoded tree) }
     {
-        Pool {
-            program,
+        let _program = encoded.program();
+        let _variables = tree.variables();
+        let closed = vec![in alloc; 0u32; tree.len()]?;
+        let open_leaves = leaves_of(&tree);
+        let known = PartialAssignment::new(alloc, encoded.formula().variables())?;
+        Ok(Pool {
+            encoded,
+            tree,
+            closed,
+            open_leaves,
+            log: Log::new(alloc),
+            known,
             schedule: None,
             reasons: Vec::new(alloc),
-        }
+            history: Vec::new(alloc),
+        })
     }
 
     /// The program.
     pub fn program(&self) -> &Program
-        ensures { result.now ≡ self.now.program }
+        ensures { result.now ≡ self.now.held.program }
     {
-        &self.program
+        self.encoded.program()
     }
 
-    /// Keeps the first schedule that is a run of the program that ends stuck; later ones change nothing. A schedule
-    /// that isn't such a run is refused. Workers count from 0.
-    pub fn found(&mut self, alloc: Global, worker: u32, steps: Vec<Step>) -> Result<(), FoundFault>
-        ensures kept { OnOk result (self.new ≡ with_schedule self.old steps.items) }
-        ensures stuck { OnOk result (IsStuckRun self.old.program steps.items) }
-        ensures not_stuck { result ≡ Err FoundFault.NotStuck → IsStuckRun self.old.program steps.items → ⊥ }
-        ensures unchanged { OnErr result (self.new ≡ self.old) }
+    /// The formula of the program.
+    pub fn formula(&self) -> &Formula
+        ensures { result.now ≡ self.now.held.formula }
     {
-        let _ = worker;
-        match replay(alloc, &self.program, &steps) {
-            Ok(End::Stuck) => {
-                if self.schedule.is_none() {
-                    self.schedule = Some(steps);
-                }
-                Ok(())
-            }
-            Err(ReplayFault::Memory) => Err(FoundFault::Memory),
-            _ => Err(FoundFault::NotStuck),
+        self.encoded.formula()
+    }
+
+    /// The program with its formula.
+    pub fn encoded(&self) -> &Encoded
+        ensures program { result.now.program ≡ self.now.held.program }
+        ensures formula { result.now.formula ≡ self.now.held.formula }
+    {
+        &self.encoded
+    }
+
+    /// The calls so far, in order, but for those that were answered with want of memory.
+    pub fn history(&self) -> &[Entry]
+        ensures calls { result.now ≡ self.now.history }
+        ensures sound { IsSound self.now.held }
+    {
+        self.history.as_slice()
+    }
+
+    fn is_open(&self, leaf: u32) -> bool
+        ensures open { IsTrue result ↔ IsOpen self.now.held leaf }
+        ensures within { IsTrue result → leaf < length self.now.held.tree.nodes }
+    {
+        match self.closed.get(leaf as usize) {
+            Some(0) => self.tree.is_leaf(leaf),
+            _ => false,
         }
     }
 
-    /// Notes why a worker, counted from 0, leaves: no reason is noted where it is done.
-    pub fn leave(&mut self, worker: u32, why: Option<Why>) -> Result<(), AllocError>
-        ensures noted { OnOk result (self.new ≡ with_reason self.old why) }
-        ensures unchanged { OnErr result (self.new ≡ self.old) }
+    fn is_closed_by(&self, leaf: u32, number: u32) -> bool
+        requires { leaf < length self.now.held.tree.nodes }
+        ensures { IsTrue result ↔ IsClosedBy self.now.held leaf number }
     {
-        let _ = worker;
-        match why {
-            None => Ok(()),
-            Some(why) => {
-                self.reasons.push(why)?;
-                Ok(())
-            }
+        match clause_at(self.encoded.formula(), &self.log, number) {
+            Some(literals) => refutes(self.tree.path(leaf), literals),
+            None => false,
         }
     }
 
-    /// How far the search is. Takes no memory.
+    fn has_no_room(&self, leaf: u32) -> bool
+        requires { leaf < length self.now.held.tree.nodes }
+        ensures { IsTrue result ↔ HasNoRoom self.now.held.tree.nodes leaf }
+    {
+        self.tree.len() + 2 > MOST_NODES || self.tree.path(leaf).len() + 1 > GREATEST_DEPTH
+    }
+
+    fn is_variable(&self, variable: u32) -> bool
+        ensures { IsTrue result ↔ IsVariable self.now.held variable }
+    {
+        1 <= variable && variable <= self.encoded.formula().variables()
+    }
+
+    fn next_number(&self) -> u32
+        ensures { result ≡ next_number self.now.held }
+    {
+        let clauses = self.encoded.formula().clauses();
+        (clauses.len() + self.log.len() + 1) as u32
+    }
+
+    /// How far the search is. Takes no memory, and no time by the number of leaves.
     pub fn status(&self) -> Status
-        ensures found { IsTrue result.is_found ↔ IsSome self.now.schedule }
-        ensures open { result.open_leaves ≡ 1 }
-        ensures why { IsSmallest self.now.reasons result.why }
+        ensures found { IsTrue result.is_found ↔ IsSome self.now.held.schedule }
+        ensures open { result.open_leaves ≡ open_count self.now.held.tree.nodes self.now.held.closed }
+        ensures why { IsSmallest self.now.held.reasons result.why }
     {
         Status {
             is_found: self.schedule.is_some(),
-            open_leaves: 1,
+            open_leaves: self.open_leaves,
             why: smallest(&self.reasons),
         }
     }
 
-    /// The evidence: the schedule that was found. Where none was, a leaf is open.
-    pub fn assemble(&self, alloc: Global) -> Result<Evidence, AssembleFault>
-        ensures evidence { IfOk result (λ evidence. IsAssembled self.now evidence) }
-        ensures open { (result ≡ Err AssembleFault.Open) ↔ IsNone self.now.schedule }
+    /// The literals from an open leaf up to the root.
+    pub fn path(&self, alloc: Global, leaf: u32) -> Result<Vec<Lit>, PathFault>
+        ensures path { IfOk result (λ path. path.items ≡ path_at self.now.held.tree.nodes leaf) }
+        ensures open { IfOk result (λ _. IsOpen self.now.held leaf) }
+        ensures not_open { result ≡ Err PathFault.NotOpen ↔ (IsOpen self.now.held leaf → ⊥) }
     {
-        let Some(steps) = &self.schedule else {
-            return Err(AssembleFault::Open);
-        };
-        match Vec::from_slice(alloc, steps) {
-            Err(_) => Err(AssembleFault::Memory),
-            Ok(copy) => Ok(Evidence::Schedule(within_limits(&self.program, copy))),
+        if !self.is_open(leaf) {
+            return Err(PathFault::NotOpen);
+        }
+        match Vec::from_slice(alloc, self.tree.path(leaf)) {
+            Ok(path) => Ok(path),
+            Err(AllocError) => Err(PathFault::Memory),
         }
     }
-}
 
-/// The schedule of these steps: a stuck run of a program is within the limits of schedules.
-fn within_limits(program: &Program, steps: Vec<Step>) -> Schedule
-    requires { IsStuckRun program.now steps.items }
-    ensures { result ≡ steps.items }
-{
-    let _calls = program.calls();
-    match Schedule::make(steps) {
-        Ok(schedule) => schedule,
-        Err(_) => unreachable!(),
+    /// The schedule that was found, or else the refutation of the formula by all lines of the log and the
+    /// tree, which there is where all leaves are closed.
+    pub fn assemble(&self, alloc: Global) -> Result<Evidence, AssembleFault>
+        ensures evidence { IfOk result (λ evidence. IsAssembled self.now.held evidence) }
+        ensures open { result ≡ Err AssembleFault.Open ↔ IsUndecided self.now.held }
+    {
+        if let Some(steps) = &self.schedule {
+            return match Vec::from_slice(alloc, steps) {
+                Ok(steps) => Ok(Evidence::Schedule(schedule_of_run(self.program(), steps))),
+                Err(AllocError) => Err(AssembleFault::Memory),
+            };
+        }
+        if self.open_leaves > 0 {
+            return Err(AssembleFault::Open);
+        }
+        match self.refutation(alloc) {
+            Ok(refutation) => Ok(Evidence::Refutation(refutation)),
+            Err(AllocError) => Err(AssembleFault::Memory),
+        }
+    }
+
+    fn refutation(&self, alloc: Global) -> Result<Refutation, AllocError>
+        requires { (leaf : ℕ) → IsOpen self.now.held leaf → ⊥ }
+        ensures variables { IfOk result (λ claim. claim.variables ≡ self.now.held.formula.variables) }
+        ensures clauses { IfOk result (λ claim. claim.clauses ≡ length self.now.held.formula.clauses) }
+        ensures lines { IfOk result (λ claim. claim.lines ≡ self.now.held.log) }
+        ensures accepted { IfOk result (λ claim. Accepts self.now.held.formula claim.lines claim.nodes) }
+    {
+        let formula = self.encoded.formula();
+        refutation_of(
+            alloc,
+            formula,
+            &self.log,
+            &self.tree,
+            self.closed.as_slice(),
+        )
+    }
+
+    /// Appends the lines of a batch to the log, each `Own` hint as the number of the batch's line at that
+    /// place, and answers the number of the first line; for an empty batch, that of the next line. The
+    /// check of the lines takes no time by the size of the formula or the log. A batch of more than
+    /// 2,000,000,000 lines is refused as want of memory, which comes long before.
+    pub fn publish(
+        &mut self,
+        alloc: Global,
+        worker: u32,
+        batch: &Batch,
+    ) -> Result<u32, PublishFault>
+        ensures reply { IsPublished self.old.held batch.now.lines.items result }
+        ensures pool { self.new ≡ published self.old worker batch.now.lines.items result }
+    {
+        if self.history.reserve(1).is_err() {
+            return Err(PublishFault::Memory);
+        }
+        let base = self.next_number();
+        let count = batch.lines.len();
+        let formula = self.encoded.formula();
+        let lines = batch.lines.as_slice();
+        match extend(alloc, &mut self.known, formula, &mut self.log, base, lines) {
+            Ok(()) => {
+                note(&mut self.history, worker, Deed::Publish(count, Ok(base)));
+                Ok(base)
+            }
+            Err(PublishFault::Memory) => Err(PublishFault::Memory),
+            Err(PublishFault::NotDerived(place)) => {
+                let reply = Err(PublishFault::NotDerived(place));
+                note(&mut self.history, worker, Deed::Publish(count, reply));
+                Err(PublishFault::NotDerived(place))
+            }
+            Err(PublishFault::Full) => {
+                let reply = Err(PublishFault::Full);
+                note(&mut self.history, worker, Deed::Publish(count, reply));
+                Err(PublishFault::Full)
+            }
+        }
+    }
+
+    /// The lines of the log after the first `from` ones.
+    pub fn fetch(&mut self, alloc: Global, worker: u32, from: usize) -> Result<Lines, FetchFault>
+        ensures reply { IsFetched self.old.held from result }
+        ensures pool { self.new ≡ fetched self.old worker from result }
+    {
+        if self.history.reserve(1).is_err() {
+            return Err(FetchFault::Memory);
+        }
+        if self.log.len() < from {
+            let reply = Err(FetchFault::PastEnd);
+            note(&mut self.history, worker, Deed::Fetch(from, reply));
+            return Err(FetchFault::PastEnd);
+        }
+        let Ok(lines) = self.log.after(alloc, from) else {
+            return Err(FetchFault::Memory);
+        };
+        note(
+            &mut self.history,
+            worker,
+            Deed::Fetch(from, Ok(lines.len())),
+        );
+        Ok(lines)
+    }
+
+    /// Closes an open leaf by the clause or line of this number, all of whose literals are negations of
+    /// literals on the leaf's path.
+    pub fn close(&mut self, worker: u32, leaf: u32, number: u32) -> Result<(), CloseFault>
+        ensures reply { IsClosed self.old.held leaf number result }
+        ensures pool { self.new ≡ closed self.old worker leaf number result }
+    {
+        if self.history.reserve(1).is_err() {
+            return Err(CloseFault::Memory);
+        }
+        if !self.is_open(leaf) {
+            let reply = Err(CloseFault::NotOpen);
+            note(&mut self.history, worker, Deed::Close(leaf, number, reply));
+            return Err(CloseFault::NotOpen);
+        }
+        if !self.is_closed_by(leaf, number) {
+            let reply = Err(CloseFault::NotRefuted);
+            note(&mut self.history, worker, Deed::Close(leaf, number, reply));
+            return Err(CloseFault::NotRefuted);
+        }
+        self.closed[leaf as usize] = number;
+        self.open_leaves -= 1;
+        note(&mut self.history, worker, Deed::Close(leaf, number, Ok(())));
+        Ok(())
+    }
+
+    /// Why a leaf isn't split on a variable, want of memory aside.
+    fn split_fault(&self, leaf: u32, variable: u32) -> Option<SplitFault>
+        ensures { IsSplitFault self.now.held leaf variable result }
+    {
+        if !self.is_open(leaf) {
+            return Some(SplitFault::NotOpen);
+        }
+        if self.has_no_room(leaf) {
+            return Some(SplitFault::Full);
+        }
+        if !self.is_variable(variable) {
+            return Some(SplitFault::NoVariable);
+        }
+        None
+    }
+
+    /// Splits an open leaf on a variable of the formula, from 1, and answers the numbers of the two new
+    /// leaves: the first has the variable true, the second false.
+    pub fn split_leaf(
+        &mut self,
+        alloc: Global,
+        worker: u32,
+        leaf: u32,
+        variable: u32,
+    ) -> Result<(u32, u32), SplitFault>
+        ensures reply { IsSplit self.old.held leaf variable result }
+        ensures pool { self.new ≡ after_split self.old worker leaf variable result }
+    {
+        if self.history.reserve(1).is_err() {
+            return Err(SplitFault::Memory);
+        }
+        match self.split_fault(leaf, variable) {
+            None => {}
+            Some(fault) => {
+                let deed = Deed::Split(leaf, variable, Err(fault));
+                note(&mut self.history, worker, deed);
+                return Err(fault);
+            }
+        }
+        let Ok(below) = split_open(alloc, &mut self.tree, &mut self.closed, leaf, variable) else {
+            return Err(SplitFault::Memory);
+        };
+        self.open_leaves += 1;
+        let deed = Deed::Split(leaf, variable, Ok(below));
+        note(&mut self.history, worker, deed);
+        Ok(below)
+    }
+
+    /// Notes why a worker leaves, which is `None` where it is done.
+    pub fn leave(&mut self, worker: u32, why: Option<Why>) -> Result<(), AllocError>
+        ensures ok { OnOk result (self.new ≡ noted self.old (leave_item worker why)) }
+        ensures err { OnErr result (self.new ≡ self.old) }
+    {
+        self.history.reserve(1)?;
+        add_reason(&mut self.reasons, why)?;
+        note(&mut self.history, worker, Deed::Leave(why));
+        Ok(())
+    }
+
+    /// Keeps the first schedule that is a run of the program that ends stuck; later ones change the
+    /// history alone.
+    pub fn found(&mut self, alloc: Global, worker: u32, steps: Vec<Step>) -> Result<(), FoundFault>
+        ensures reply { IsFound self.old.held steps.items result }
+        ensures pool { self.new ≡ after_found self.old worker steps.items result }
+    {
+        if self.history.reserve(1).is_err() {
+            return Err(FoundFault::Memory);
+        }
+        let count = steps.len();
+        match replay(alloc, self.encoded.program(), &steps) {
+            Ok(End::Stuck) => {
+                keep_first(&mut self.schedule, steps);
+                note(&mut self.history, worker, Deed::Found(count, Ok(())));
+                Ok(())
+            }
+            Err(ReplayFault::Memory) => Err(FoundFault::Memory),
+            _ => {
+                let reply = Err(FoundFault::NotStuck);
+                note(&mut self.history, worker, Deed::Found(count, reply));
+                Err(FoundFault::NotStuck)
+            }
+        }
     }
 }

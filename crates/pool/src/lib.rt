@@ -1,8 +1,28 @@
-//! The pool: keeps the first schedule that is a stuck run of its program, and why workers left.
+//! What the workers of one search share: the program with its formula, a tree of cubes with a clause
+//! for each closed leaf, a log of proof lines, the schedule that was found, why workers left, and the
+//! history of all calls.
+//!
+//! Workers, nodes and places of lines count from 0, variables and clauses from 1; the lines of the log
+//! are numbered after the formula's clauses. `specs/States.antt` says what each call is answered, and
+//! what it makes of the pool.
 #![tactic(auto)]
 
+mod assembly;
+mod entry;
+mod events;
+mod extend;
 mod keep;
+mod laws;
+mod share;
 mod why;
 
-pub use keep::{AssembleFault, FoundFault, Pool, Status};
+pub use assembly::{AssembleFault, schedule_of_run};
+pub use entry::{
+    CloseFault, Deed, Entry, FetchFault, FoundFault, Item, PathFault, PublishFault, SplitFault,
+};
+pub use events::{Event, Reply, run};
+pub use extend::MOST_LINES;
+pub use keep::{Pool, Status};
+pub use laws::{closed_pools_refute, leaves_cover, runs_are_legal, runs_stay_sound};
+pub use share::Share;
 pub use why::Why;

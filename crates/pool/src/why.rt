@@ -1,7 +1,7 @@
 //! Why no answer is known.
 
 ghost use Rattle.std.specs.Prelude.{◌≡◌, Some};
-ghost use Rattle.pool.specs.PoolStates.{why_number, why_word, smaller_of, IsSmallest};
+ghost use Rattle.pool.specs.Reasons.{why_number, why_word, smaller_of, IsSmallest};
 
 use std::fmt;
 

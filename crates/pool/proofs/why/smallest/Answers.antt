@@ -1,7 +1,7 @@
 use Rattle.std.proofs.Common.{◌+◌, Some, take, ap, sym, subst, ◌∙◌}
 use Rattle.pool.specs.declared.why.Why.{Why}
-use Rattle.pool.specs.PoolStates.{IsSmallest}
-use Rattle.pool.proofs.Reasons.{smallest_more, smallest_begun}
+use Rattle.pool.specs.Reasons.{IsSmallest}
+use Rattle.pool.proofs.SmallestReasons.{smallest_more, smallest_begun}
 use Rattle.pool.proofs.why.smallest.Goals as goal
 use Rattle.pool.proofs.why.smallest.Goals.{in-Some, in-None}
 

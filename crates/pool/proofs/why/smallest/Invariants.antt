@@ -1,5 +1,5 @@
 use Rattle.std.proofs.Common.{take}
-use Rattle.pool.specs.PoolStates.{IsSmallest}
+use Rattle.pool.specs.Reasons.{IsSmallest}
 use Rattle.pool.proofs.why.smallest.Given as goal
 
 abbrev pub invariant-loop-why : goal.invariant-loop-why

@@ -4,7 +4,7 @@ use Rattle.std.specs.Prelude.{All, nat_le}
 use Rattle.std.proofs.lemmas.List.{take_more}
 use Rattle.std.proofs.lemmas.List.Elements.{Contains-push, Contains-append_left, All-push}
 use Rattle.pool.specs.declared.why.Why.{Why}
-use Rattle.pool.specs.PoolStates.{why_number, smaller_of, IsSmallest}
+use Rattle.pool.specs.Reasons.{why_number, smaller_of, IsSmallest}
 
 smaller_cases : (one other : Why) → ((smaller_of one other ≡ one) × (why_number one ≤ why_number other)) ⊎ ((smaller_of one other ≡ other) × (why_number other ≤ why_number one))
 smaller_cases one other = by_test (nat_le (why_number one) (why_number other)) refl

@@ -1,0 +1,15 @@
+use Rattle.std.proofs.Common.{sym, subst}
+use Rattle.clauses.specs.Clauses.{Conjunction}
+use Rattle.refutations.specs.Refutations.{AreDerived}
+use Rattle.pool.specs.States.{Kept, IsOpen}
+use Rattle.pool.proofs.Assembling.{all_refuted, refuted_as}
+use Rattle.pool.proofs.keep.Pool.refutation.Goals as goal
+
+pub refutation_of-requires-clause-derived : goal.refutation_of-requires-clause-derived
+refutation_of-requires-clause-derived c =
+    subst (λ (f : Conjunction). AreDerived f c.self.inside.log) (sym c.formula-formula.ensures.same) c.self.invariant.0.derived
+
+pub refutation_of-requires-clause-refuted : goal.refutation_of-requires-clause-refuted
+refutation_of-requires-clause-refuted c =
+    refuted_as c.self.inside.encoded.formula c.formula-formula.result.now c.self.inside.log c.self.inside.tree.nodes c.self.inside.closed.items c.as_slice.result.now c.formula-formula.ensures.same c.as_slice.ensures.value
+    (all_refuted _ c.self.invariant.0 (λ leaf is. c.requires leaf (subst (λ (k : Kept). IsOpen k.held leaf) c.self.view_is is)))

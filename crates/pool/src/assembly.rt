@@ -1,0 +1,97 @@
+//! Evidence from what a pool has.
+
+ghost use Rattle.std.specs.Prelude.{◌≡◌, ◌≤◌, IfOk, IsTrue, length};
+ghost use Rattle.std.specs.List.{list_all};
+ghost use Rattle.semantics.specs.Machine.{IsStuckRun};
+ghost use Rattle.refutations.specs.Derivations.{clauses_before};
+ghost use Rattle.refutations.specs.Refutations.{AreDerived, Accepts};
+ghost use Rattle.prooflog.specs.Refutations.{is_line_in_range};
+ghost use Rattle.trees.specs.Laws.{AreLeavesRefuted};
+
+use callorder::Program;
+use clauses::Formula;
+use pages::Log;
+use prooflog::{MakeRefutationFault, Refutation, Schedule};
+use refutations::Line;
+use semantics::Step;
+use std::alloc::{AllocError, Global};
+use thiserror::Error;
+use trees::Tree;
+
+/// Why there is no evidence.
+#[derive(Clone, Copy, Debug, PartialEq, Eq, Error)]
+pub enum AssembleFault {
+    /// Memory ran out.
+    #[error("memory")]
+    Memory,
+    /// No schedule was found, and a leaf is open.
+    #[error("open")]
+    Open,
+}
+
+/// The schedule of a run of the program that ends stuck. Each such run is within the limits of schedules.
+pub fn schedule_of_run(program: &Program, steps: Vec<Step>) -> Schedule
+    requires { IsStuckRun program.now steps.items }
+    ensures { result ≡ steps.items }
+{
+    let _calls = program.calls();
+    match Schedule::make(steps) {
+        Ok(schedule) => schedule,
+        Err(_steps) => unreachable!(),
+    }
+}
+
+fn copied(alloc: Global, line: &Line) -> Result<Line, AllocError>
+    ensures same { IfOk result (λ copy. copy ≡ line.now) }
+    ensures in_range { IsTrue (is_line_in_range line.now) }
+{
+    let _literals = line.literals();
+    let _hints = line.hints();
+    line.copy(alloc)
+}
+
+fn lines_of(alloc: Global, log: &Log) -> Result<Vec<Line>, AllocError>
+    ensures lines { IfOk result (λ lines. lines.items ≡ log.now) }
+    ensures in_range { IfOk result (λ _. IsTrue (list_all is_line_in_range log.now)) }
+{
+    let mut lines = Vec::with_capacity(alloc, log.len())?;
+    for place in 0..log.len() {
+        let Some(line) = log.get(place) else {
+            unreachable!()
+        };
+        lines.push(copied(alloc, line)?)?;
+    }
+    Ok(lines)
+}
+
+/// The refutation of a log and a tree all of whose leaves are closed by these clauses, which is within
+/// the limits of refutations.
+pub(crate) fn refutation_of(
+    alloc: Global,
+    formula: &Formula,
+    log: &Log,
+    tree: &Tree,
+    closed: &[u32],
+) -> Result<Refutation, AllocError>
+    requires few_clauses { length formula.now.clauses ≤ 4000000 }
+    requires few_lines { length log.now ≤ 1000000 }
+    requires variables { tree.now.variables ≡ formula.now.variables }
+    requires many { length closed.now ≡ length tree.now.nodes }
+    requires derived { AreDerived formula.now log.now }
+    requires refuted { AreLeavesRefuted tree.now.nodes (clauses_before formula.now log.now) closed.now }
+    ensures variables { IfOk result (λ claim. claim.variables ≡ formula.now.variables) }
+    ensures clauses { IfOk result (λ claim. claim.clauses ≡ length formula.now.clauses) }
+    ensures lines { IfOk result (λ claim. claim.lines ≡ log.now) }
+    ensures accepted { IfOk result (λ claim. Accepts formula.now claim.lines claim.nodes) }
+{
+    let _limits = tree.variables();
+    let nodes = tree.proof_tree(alloc, closed)?;
+    let _numbered = nodes.nodes();
+    let lines = lines_of(alloc, log)?;
+    let clauses = formula.clauses().len() as u32;
+    match Refutation::make(alloc, formula.variables(), clauses, lines, nodes) {
+        Ok(refutation) => Ok(refutation),
+        Err(MakeRefutationFault::Memory) => Err(AllocError),
+        Err(MakeRefutationFault::TooLarge) => unreachable!(),
+    }
+}

@@ -1,0 +1,5 @@
+//! Tests of pools.
+#![tactic(auto)]
+
+#[cfg(test)]
+mod tests;

@@ -1,0 +1,371 @@
+//! Pools over a program whose formula has the clauses `1`, `-1 -2` and `2`, and one over a program that gets stuck.
+//! Calls stand in texts, a call a row; in the texts `/` stands for the end of a line.
+
+ghost use Rattle.std.specs.Prelude.{◌≡◌, IfOk};
+
+use batches::{Batch, BatchLine, Hint};
+use callorder::Program;
+use calltext::read;
+use candidates::pairs;
+use clauses::{Clause, LARGEST_VARIABLE, Lit};
+use encode::{Encoded, encode};
+use nonovertake::earlier;
+use pages::Lines;
+use pool::{Event, Pool, Reply, Why, run};
+use prooflog::write_evidence;
+use semantics::Step;
+use std::alloc::Global;
+use std::process::Abort;
+use std::test::Fail;
+use std::thread::Threads;
+use trees::Tree;
+
+/// A program without deadlock.
+const BUFFERED: &str = "ranks 1/policy any/rank 0/bsend 0 1/";
+
+/// A program that is stuck once its receive is issued.
+const LONE_RECEIVE: &str = "ranks 1/policy any/rank 0/recv 0 1/";
+
+/// The formula of this program.
+fn encoded(rt: &(impl Threads + Sync), alloc: Global, text: &str) -> Result<Encoded, Fail> {
+    let text = text.replace(alloc, '/', "\n")?;
+    let source = read(alloc, text.as_bytes())?;
+    let program = Program::resolve(alloc, &source)?;
+    let pairs = pairs(alloc, &program)?;
+    let earlier = earlier(rt, alloc, &program, &pairs)?;
+    match encode(alloc, program, pairs, &earlier) {
+        Ok(encoded) => Ok(encoded),
+        Err(refused) => Err(Fail::from(refused.fault)),
+    }
+}
+
+/// A tree of one leaf.
+fn one_node(alloc: Global, encoded: &Encoded) -> Result<Tree, Fail>
+    ensures { IfOk result (λ tree. tree.variables ≡ encoded.now.formula.variables) }
+{
+    let variables = encoded.formula().variables();
+    if variables > LARGEST_VARIABLE {
+        return Err(Fail::from("too many variables"));
+    }
+    Ok(Tree::new(alloc, variables)?)
+}
+
+/// The pool over this program after these calls, and the replies.
+fn pool_after(
+    rt: &(impl Threads + Sync),
+    alloc: Global,
+    program: &str,
+    events: &[Event],
+) -> Result<(Pool, Vec<Reply>), Fail> {
+    let encoded = encoded(rt, alloc, program)?;
+    let tree = one_node(alloc, &encoded)?;
+    Ok(run(alloc, encoded, tree, events)?)
+}
+
+fn line(alloc: Global, literals: &[Lit], hints: &[Hint]) -> Result<BatchLine, Fail> {
+    Ok(BatchLine {
+        clause: Clause::make(alloc, literals)?,
+        hints: Vec::from_slice(alloc, hints)?,
+    })
+}
+
+/// So many empty clauses, each by all clauses of the formula.
+fn empty_clauses(alloc: Global, count: u32) -> Result<Batch, Fail> {
+    let hints = [Hint::Known(1), Hint::Known(3), Hint::Known(2)];
+    let mut lines = Vec::new(alloc);
+    for _ in 0..count {
+        lines.push(line(alloc, &[], &hints)?)?;
+    }
+    Ok(Batch { lines })
+}
+
+/// The clause `-2`, and the empty clause by it.
+fn two_lines(alloc: Global) -> Result<Batch, Fail> {
+    let literal = Lit::make(2, false).ok_or("no literal")?;
+    let mut lines = Vec::new(alloc);
+    lines.push(line(alloc, &[literal], &[Hint::Known(1), Hint::Known(2)])?)?;
+    lines.push(line(alloc, &[], &[Hint::Own(0), Hint::Known(3)])?)?;
+    Ok(Batch { lines })
+}
+
+/// The same, and a line whose hint names no clause.
+fn three_lines(alloc: Global) -> Result<Batch, Fail> {
+    let mut batch = two_lines(alloc)?;
+    let last = line(alloc, &[], &[Hint::Own(4_294_967_295)])?;
+    batch.lines.push(last)?;
+    Ok(batch)
+}
+
+/// So many steps, each of which issues the next call of rank 0.
+fn issues(alloc: Global, count: u32) -> Result<Vec<Step>, Fail> {
+    let mut steps = Vec::new(alloc);
+    for _ in 0..count {
+        steps.push(Step::Issue {
+            rank: 0,
+            buffered: false,
+        })?;
+    }
+    Ok(steps)
+}
+
+/// The call of a row: its name, the worker, and two numbers.
+fn event_of(alloc: Global, row: &str) -> Result<Event, Fail> {
+    let (name, numbers) = row.split_once(' ').ok_or("no worker")?;
+    let (worker, numbers) = numbers.split_once(' ').ok_or("no first number")?;
+    let (one, other) = numbers.split_once(' ').ok_or("no second number")?;
+    event(alloc, name, worker.parse()?, one.parse()?, other.parse()?)
+}
+
+fn event(alloc: Global, name: &str, worker: u32, one: u32, other: u32) -> Result<Event, Fail> {
+    match name {
+        "empty" => published(worker, empty_clauses(alloc, one)),
+        "two" => published(worker, two_lines(alloc)),
+        "three" => published(worker, three_lines(alloc)),
+        "found" => found(worker, issues(alloc, one)),
+        _ => Ok(plain_event(name, worker, one, other)),
+    }
+}
+
+fn published(worker: u32, batch: Result<Batch, Fail>) -> Result<Event, Fail> {
+    let batch = batch?;
+    Ok(Event::Publish { worker, batch })
+}
+
+fn found(worker: u32, steps: Result<Vec<Step>, Fail>) -> Result<Event, Fail> {
+    let steps = steps?;
+    Ok(Event::Found { worker, steps })
+}
+
+fn plain_event(name: &str, worker: u32, one: u32, other: u32) -> Event {
+    match name {
+        "fetch" => Event::Fetch {
+            worker,
+            from: one as usize,
+        },
+        "close" => Event::Close {
+            worker,
+            leaf: one,
+            number: other,
+        },
+        "split" => Event::Split {
+            worker,
+            leaf: one,
+            variable: other,
+        },
+        _ => Event::Leave {
+            worker,
+            why: why_of(name),
+        },
+    }
+}
+
+fn why_of(name: &str) -> Option<Why> {
+    match name {
+        "full" => Some(Why::Full),
+        "left" => Some(Why::Left),
+        _ => None,
+    }
+}
+
+fn events_of(alloc: Global, rows: &str) -> Result<Vec<Event>, Fail> {
+    let mut events = Vec::new(alloc);
+    for row in rows.split('/') {
+        events.push(event_of(alloc, row)?)?;
+    }
+    Ok(events)
+}
+
+/// How many lines there are, and the hints of the last one.
+fn lines_text(alloc: Global, lines: &Lines) -> Result<String, Fail> {
+    let count = lines.len();
+    match lines.get(count.saturating_sub(1)) {
+        None => Ok(format!(in alloc; "no lines")?),
+        Some(last) => {
+            let hints = last.hints();
+            Ok(format!(in alloc; "{count} lines to {hints:?}")?)
+        }
+    }
+}
+
+fn reply_text(alloc: Global, reply: &Reply) -> Result<String, Fail> {
+    match reply {
+        Reply::Fetch(Ok(lines)) => lines_text(alloc, lines),
+        other => Ok(format!(in alloc; "{other:?}")?),
+    }
+}
+
+/// The replies from this one on, each with a `/` behind it.
+fn replies_text(alloc: Global, replies: &[Reply], from: usize) -> Result<String, Fail> {
+    let mut text = String::new(alloc);
+    for reply in replies.iter().skip(from) {
+        text.push_str(reply_text(alloc, reply)?.as_str())?;
+        text.push('/')?;
+    }
+    Ok(text)
+}
+
+/// The evidence of a pool, or why there is none.
+fn evidence_text(alloc: Global, pool: &Pool) -> Result<String, Fail> {
+    match pool.assemble(alloc) {
+        Ok(evidence) => {
+            let written = write_evidence(alloc, &evidence)?;
+            Ok(String::from_utf8(written)?.replace(alloc, '\n', "/")?)
+        }
+        Err(fault) => Ok(format!(in alloc; "{fault}")?),
+    }
+}
+
+fn literals_text(alloc: Global, literals: &[Lit]) -> Result<String, Fail> {
+    let mut text = String::new(alloc);
+    for literal in literals {
+        let sign = if literal.is_positive() { "" } else { "-" };
+        let variable = literal.variable();
+        text.push_str(format!(in alloc; " {sign}{variable}")?.as_str())?;
+    }
+    Ok(text)
+}
+
+/// The path of leaf 1, or why it is not told.
+fn path_text(alloc: Global, pool: &Pool) -> Result<String, Fail> {
+    match pool.path(alloc, 1) {
+        Ok(path) => literals_text(alloc, path.as_slice()),
+        Err(fault) => Ok(format!(in alloc; " {fault}")?),
+    }
+}
+
+/// How far the search is, and the path of leaf 1.
+fn status_text(alloc: Global, pool: &Pool) -> Result<String, Fail> {
+    let status = pool.status();
+    let path = path_text(alloc, pool)?;
+    Ok(format!(in alloc; "{status:?}{path}")?)
+}
+
+/// The replies from this one on, the status, and the evidence.
+fn told(
+    rt: &(impl Threads + Sync),
+    alloc: Global,
+    program: &str,
+    rows: &str,
+    from: usize,
+) -> Result<(String, String, String), Fail> {
+    let events = events_of(alloc, rows)?;
+    let (pool, replies) = pool_after(rt, alloc, program, events.as_slice())?;
+    let replies = replies_text(alloc, replies.as_slice(), from)?;
+    let status = status_text(alloc, &pool)?;
+    Ok((replies, status, evidence_text(alloc, &pool)?))
+}
+
+/// Whether these calls of a new pool over this program are answered so from a reply on, and the status, the path of leaf 1
+/// and the evidence are these.
+fn assert_told(
+    rt: &(impl Threads + Sync + Abort),
+    alloc: Global,
+    program: &str,
+    rows: &str,
+    from: usize,
+    wanted: (&str, &str, &str),
+) -> Result<(), Fail> {
+    let (replies, status, evidence) = told(rt, alloc, program, rows, from)?;
+    assert_eq!(rt; replies.as_str(), wanted.0);
+    assert_eq!(rt; status.as_str(), wanted.1);
+    assert_eq!(rt; evidence.as_str(), wanted.2);
+    Ok(())
+}
+
+#[test]
+fn one_leaf(rt: HostRuntime) -> Result<(), Fail> {
+    let rows =
+        "empty 0 1 0/empty 0 1 0/fetch 1 0 0/fetch 1 2 0/fetch 1 3 0/close 0 0 5/close 0 0 5";
+    let replies =
+        "Publish(Ok(4))/Publish(Ok(5))/2 lines to [1, 3, 2]/no lines/Fetch(Err(PastEnd))/Close(Ok(()))/Close(Err(NotOpen))/";
+    let status = "Status { is_found: false, open_leaves: 0, why: None } not open";
+    let evidence = "evidence 1/refutation 2 3/line : 1 3 2/line : 1 3 2/tree/leaf 5/";
+    assert_told(
+        &rt,
+        rt.alloc(),
+        BUFFERED,
+        rows,
+        0,
+        (replies, status, evidence),
+    )
+}
+
+#[test]
+fn two_leaves(rt: HostRuntime) -> Result<(), Fail> {
+    let rows = "two 0 0 0/fetch 1 1 0/split 1 0 2/close 1 1 3/close 1 1 4/close 0 2 3/split 0 1 2";
+    let replies =
+        "Publish(Ok(4))/1 lines to [4, 3]/Split(Ok((1, 2)))/Close(Err(NotRefuted))/Close(Ok(()))/Close(Ok(()))/Split(Err(NotOpen))/";
+    let status = "Status { is_found: false, open_leaves: 0, why: None } not open";
+    let evidence = "evidence 1/refutation 2 3/line -2 : 1 2/line : 4 3/tree/split 2/leaf 4/leaf 3/";
+    assert_told(
+        &rt,
+        rt.alloc(),
+        BUFFERED,
+        rows,
+        0,
+        (replies, status, evidence),
+    )
+}
+
+#[test]
+fn refusals(rt: HostRuntime) -> Result<(), Fail> {
+    let rows =
+        "three 0 0 0/empty 0 0 0/split 0 0 3/split 0 0 0/split 0 1 1/close 0 0 0/found 0 0 0/left 0 0 0/full 1 0 0/done 2 0 0/split 1 0 2";
+    let replies =
+        "Publish(Err(NotDerived(2)))/Publish(Ok(4))/Split(Err(NoVariable))/Split(Err(NoVariable))/Split(Err(NotOpen))/Close(Err(NotRefuted))/Found(Err(NotStuck))/Leave/Leave/Leave/Split(Ok((1, 2)))/";
+    let status = "Status { is_found: false, open_leaves: 2, why: Some(Full) } 2";
+    assert_told(
+        &rt,
+        rt.alloc(),
+        BUFFERED,
+        rows,
+        0,
+        (replies, status, "open"),
+    )
+}
+
+#[test]
+fn a_schedule(rt: HostRuntime) -> Result<(), Fail> {
+    let rows = "found 0 0 0/found 1 1 0/found 2 2 0/left 0 0 0";
+    let replies = "Found(Err(NotStuck))/Found(Ok(()))/Found(Err(NotStuck))/Leave/";
+    let status = "Status { is_found: true, open_leaves: 1, why: Some(Left) } not open";
+    let evidence = "evidence 1/schedule/issue 0/";
+    assert_told(
+        &rt,
+        rt.alloc(),
+        LONE_RECEIVE,
+        rows,
+        0,
+        (replies, status, evidence),
+    )
+}
+
+/// 5,000 lines and 1,000 calls more, and then these calls.
+fn long_rows(alloc: Global, last: &str) -> Result<String, Fail> {
+    let mut rows = String::from_str(alloc, "empty 0 5000 0")?;
+    for _ in 0..1_000 {
+        rows.push_str("/fetch 1 4999 0")?;
+    }
+    rows.push_str(last)?;
+    Ok(rows)
+}
+
+/// No answer changes where the log and the history are long.
+#[test]
+fn a_long_search(rt: HostRuntime) -> Result<(), Fail> {
+    let alloc = rt.alloc();
+    let last =
+        "/two 2 0 0/fetch 1 5000 0/fetch 1 5003 0/split 3 0 1/close 3 2 5005/close 3 2 5006/close 3 2 1/found 4 0 0/full 5 0 0";
+    let replies =
+        "1 lines to [1, 3, 2]/Publish(Ok(5004))/2 lines to [5004, 3]/Fetch(Err(PastEnd))/Split(Ok((1, 2)))/Close(Ok(()))/Close(Err(NotOpen))/Close(Err(NotOpen))/Found(Err(NotStuck))/Leave/";
+    let status = "Status { is_found: false, open_leaves: 1, why: Some(Full) } 1";
+    let rows = long_rows(alloc, last)?;
+    assert_told(
+        &rt,
+        alloc,
+        BUFFERED,
+        rows.as_str(),
+        1_000,
+        (replies, status, "open"),
+    )
+}
