@@ -1,0 +1,5 @@
+//! Tests of shared pools.
+#![tactic(auto)]
+
+#[cfg(test)]
+mod tests;

@@ -1,0 +1,19 @@
+use Rattle.std.proofs.Common.{◌≡◌, Err, ◌∙◌, true≢false, refl, sym, ap, subst}
+use Rattle.pool.specs.declared.entry.FoundFault.TheVariants.{Memory}
+use Rattle.pool.specs.States.{after_found, IsFound}
+use Rattle.sharedpool.proofs.Legal.{ready, locked_more, found_noted, found_step}
+use Rattle.sharedpool.proofs.locked.Locked.found_as.Goals as goal
+
+pub note-requires : goal.note-requires
+note-requires g c = ready _ _ _ _ _ _ _ _ _ c.requires.cell c.self.invariant c.seat.invariant refl
+
+pub invariant_of-self-2 : goal.invariant_of-self-2
+invariant_of-self-2 g c =
+    let answered : c.found-reply.result ≡ Err Memory → ⊥ = λ e. absurd (true≢false (sym (c.wants_memory_to_find.ensures.1 e) ∙ c.if-wants_memory_to_find.false)) in
+    let reply = c.found-reply.ensures in
+    let h = c.self.inside.pool in
+    let worker = c.seat.inside.worker in
+    let result = c.found-reply.result in
+    locked_more _ _ _ _ _ _ _ _ _ _ c.self.invariant c.note.ensures
+    (reply.pool ∙ ap (λ steps. after_found h worker steps result) c.requires.steps ∙ found_noted h worker g.S.Given.steps result answered)
+    (found_step h.held worker g.S.Given.steps result answered (subst (λ steps. IsFound h.held steps result) c.requires.steps reply.reply))

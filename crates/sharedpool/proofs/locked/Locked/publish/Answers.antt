@@ -1,0 +1,23 @@
+use Rattle.std.proofs.Common.{◌≡◌, Err, ◌∙◌, true≢false, refl, sym, subst}
+use Rattle.pool.specs.declared.entry.PublishFault.TheVariants.{Memory}
+use Rattle.sharedpool.specs.Seats.{Chair, IsRefusedOver}
+use Rattle.sharedpool.proofs.Growth.{refused_call}
+use Rattle.sharedpool.proofs.Legal.{ready, locked_more, publish_noted, publish_step}
+use Rattle.sharedpool.proofs.locked.Locked.publish.Goals as goal
+
+pub note-requires : goal.note-requires
+note-requires g c = ready _ _ _ _ _ _ _ _ _ c.requires c.self.invariant c.seat.invariant refl
+
+pub invariant_of-self-2 : goal.invariant_of-self-2
+invariant_of-self-2 g c =
+    let answered : c.publish-reply.result ≡ Err Memory → ⊥ = λ e. absurd (true≢false (sym (c.wants_memory_to_publish.ensures.1 e) ∙ c.if-wants_memory_to_publish.false)) in
+    let reply = c.publish-reply.ensures in
+    locked_more _ _ _ _ _ _ _ _ _ _ c.self.invariant c.note.ensures
+    (reply.pool ∙ publish_noted c.self.inside.pool c.seat.inside.worker c.args.batch.now.lines.items c.publish-reply.result answered)
+    (publish_step c.self.inside.pool.held c.seat.inside.worker c.args.batch.now.lines.items c.publish-reply.result answered reply.reply)
+
+pub returns-clause-not_derived : goal.returns-clause-not_derived
+returns-clause-not_derived g c place is =
+    let batch = c.args.batch.now.lines.items in
+    subst (λ (s : Chair). IsRefusedOver g.B.Room.opening.formula s.mine batch place) c.seat.view_is
+    (refused_call _ _ _ _ _ _ _ _ _ _ batch c.publish-reply.result c.self.invariant c.seat.invariant c.note.ensures c.publish-reply.ensures.reply place is)

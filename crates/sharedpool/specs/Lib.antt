@@ -1,0 +1,3 @@
+pub mod Nothing
+pub mod Seats
+pub mod Views

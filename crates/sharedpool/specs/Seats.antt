@@ -1,0 +1,162 @@
+-- What the lock and the seats hold, and what a call adds to a seat.
+use Rattle.std.specs.Prelude.{◌≡◌, ℕ, ◌+◌, ◌<◌, ◌≤◌, drop, true, List, [], ◌∷◌, ◌++◌, length, map, All, Option, Some, slice_get, Result, Ok, Err}
+use Rattle.std.specs.List.{range_with_len}
+use Rattle.atomic_table.specs.Seated.{TableId}
+use Rattle.atomic_table.specs.declared.shared.Seat.{Seat}
+use Rattle.crossbeam_utils.specs.declared.atomic.seq_cell.Doing.{Doing}
+use Rattle.crossbeam_utils.specs.Seq.{cell_view}
+use Rattle.batches.specs.declared.BatchLine.{BatchLine}
+use Rattle.clauses.specs.Clauses.{Conjunction}
+use Rattle.refutations.specs.Proofs.{ProofLine}
+use Rattle.refutations.specs.Refutations.{AreDerived}
+use Rattle.semantics.specs.declared.state.Step.{Step}
+use Rattle.pool.specs.declared.entry.Deed.{Deed}
+use Rattle.pool.specs.declared.entry.Deed.TheVariants.{Publish, Fetch, Close, Split, Found, Leave}
+use Rattle.pool.specs.declared.entry.Item.{Item}
+use Rattle.pool.specs.declared.entry.PublishFault.{PublishFault}
+use Rattle.pool.specs.declared.entry.FetchFault.{FetchFault}
+use Rattle.pool.specs.declared.entry.CloseFault.{CloseFault}
+use Rattle.pool.specs.declared.entry.SplitFault.{SplitFault}
+use Rattle.pool.specs.declared.entry.FoundFault.{FoundFault}
+use Rattle.pool.specs.declared.entry.PublishFault.TheVariants as publish
+use Rattle.pool.specs.declared.entry.FetchFault.TheVariants as fetch
+use Rattle.pool.specs.declared.entry.CloseFault.TheVariants as close
+use Rattle.pool.specs.declared.entry.SplitFault.TheVariants as split
+use Rattle.pool.specs.declared.entry.FoundFault.TheVariants as found
+use Rattle.pool.specs.declared.why.Why.{Why}
+use Rattle.pool.specs.Replies.{resolved_lines, FailsAt}
+use Rattle.pool.specs.States.{Held, Kept, IsSound, IsLegal, IsRun, after_all, publish_item, fetch_item, close_item, split_item, found_item, leave_item}
+use Rattle.sharedpool.specs.declared.room.View.{View}
+use Rattle.sharedpool.specs.Views.{knower, sitting, items_of, AllBelow}
+
+abbrev pub Token : Type 0
+Token = Seat (List ℕ) (Doing (List ℕ) View)
+
+-- a seat: its worker, and the items of its calls in order
+pub record Chair : Type 0 where
+  pub worker : ℕ
+  pub mine : List Item
+
+-- what is under the lock: the pool, how many seats were made, and the items of all calls in order
+pub record Shared : Type 0 where
+  pub pool : Kept
+  pub workers : ℕ
+  pub items : List Item
+
+-- the pass is one of this cell, and its list is that of this worker
+pub record IsSeat (table : TableId) (worker : ℕ) (pass : Token) : Type 0 where
+  pub of : pass.table_id ≡ table
+  pub free : pass.me.1 ≡ []
+  pub knows : cell_view pass ≡ sitting worker (cell_view pass).mine
+
+-- the keeper's items are the history of the pool, which goes from the opening pool to this one
+pub record IsLocked (table : TableId) (opening : Held) (pool : Kept) (workers : ℕ) (keeper : Token) : Type 0 where
+  pub of : keeper.table_id ≡ table
+  pub knows : cell_view keeper ≡ knower workers (cell_view keeper).all
+  pub some_worker : 1 ≤ workers
+  pub sound : IsSound opening
+  pub legal : IsLegal opening (cell_view keeper).all pool
+
+-- a keeper and the seat of the item's worker, both of this cell
+pub record AreReady (table : TableId) (keeper seat : Token) (item : Item) : Type 0 where
+  pub keeper_of : keeper.table_id ≡ table
+  pub seat_of : seat.table_id ≡ table
+  pub free : seat.me.1 ≡ []
+  pub keeps : (cell_view keeper).keeps ≡ true
+  pub sits : (cell_view seat).sits ≡ true
+  pub worker : (cell_view seat).worker ≡ item.entry.worker
+
+-- the item is added to the lists of a keeper and of a seat, which was its worker's items so far
+pub record AreNoted (keeper keeper_after seat seat_after : Token) (item : Item) : Type 0 where
+  pub keeper_of : keeper_after.table_id ≡ keeper.table_id
+  pub seat_of : seat_after.table_id ≡ seat.table_id
+  pub free : seat_after.me.1 ≡ []
+  pub all : cell_view keeper_after ≡ knower (cell_view keeper).workers ((cell_view keeper).all ++ item ∷ [])
+  pub told : cell_view seat_after ≡ sitting (cell_view seat).worker ((cell_view seat).mine ++ item ∷ [])
+  pub mine : (cell_view seat).mine ≡ items_of (cell_view seat).worker (cell_view keeper).all
+
+-- ---- the seat after each call. Want of memory leaves it as it was
+
+-- the seat after a call that is in the history
+abbrev pub told : Chair → Item → Chair
+told seat item = record seat { mine = seat.mine ++ item ∷ [] }
+
+abbrev pub told_publish : Chair → List BatchLine → Result ℕ PublishFault → Chair
+told_publish seat batch (Ok base) = told seat (publish_item seat.worker batch (Ok base))
+told_publish seat batch (Err publish.Memory) = seat
+told_publish seat batch (Err (publish.NotDerived place)) = told seat (publish_item seat.worker batch (Err (publish.NotDerived place)))
+told_publish seat batch (Err publish.Full) = told seat (publish_item seat.worker batch (Err publish.Full))
+
+abbrev pub told_fetch : Chair → ℕ → Result (List ProofLine) FetchFault → Chair
+told_fetch seat from (Ok lines) = told seat (fetch_item seat.worker from (Ok lines))
+told_fetch seat from (Err fetch.Memory) = seat
+told_fetch seat from (Err fetch.PastEnd) = told seat (fetch_item seat.worker from (Err fetch.PastEnd))
+
+abbrev pub told_close : Chair → ℕ → ℕ → Result (Unit {0}) CloseFault → Chair
+told_close seat leaf number (Ok _) = told seat (close_item seat.worker leaf number (Ok tt))
+told_close seat leaf number (Err close.Memory) = seat
+told_close seat leaf number (Err close.NotOpen) = told seat (close_item seat.worker leaf number (Err close.NotOpen))
+told_close seat leaf number (Err close.NotRefuted) = told seat (close_item seat.worker leaf number (Err close.NotRefuted))
+
+abbrev pub told_split : Chair → ℕ → ℕ → Result (ℕ × ℕ) SplitFault → Chair
+told_split seat leaf variable (Ok nodes) = told seat (split_item seat.worker leaf variable (Ok nodes))
+told_split seat leaf variable (Err split.Memory) = seat
+told_split seat leaf variable (Err split.NotOpen) = told seat (split_item seat.worker leaf variable (Err split.NotOpen))
+told_split seat leaf variable (Err split.Full) = told seat (split_item seat.worker leaf variable (Err split.Full))
+told_split seat leaf variable (Err split.NoVariable) = told seat (split_item seat.worker leaf variable (Err split.NoVariable))
+
+abbrev pub told_found : Chair → List Step → Result (Unit {0}) FoundFault → Chair
+told_found seat steps (Ok _) = told seat (found_item seat.worker steps (Ok tt))
+told_found seat steps (Err found.Memory) = seat
+told_found seat steps (Err found.NotStuck) = told seat (found_item seat.worker steps (Err found.NotStuck))
+
+-- a leave that is answered
+abbrev pub told_leave : Chair → Option Why → Chair
+told_leave seat why = told seat (leave_item seat.worker why)
+
+-- ---- what a reply says of the pool, whatever others did before
+
+-- some calls with replies that may be given lead from the opening pool to one of which this holds, and those of this
+-- seat's worker among them are, in order, the seat's list
+abbrev pub HoldsOver : Held → Chair → (Held → Type 0) → Type 0
+HoldsOver opening seat holds = (items : List Item) × IsRun opening items × (seat.mine ≡ items_of seat.worker items) × holds (after_all opening items)
+
+-- the log holds the lines of one call at their place
+abbrev pub HoldsAt : Conjunction → List ProofLine → Deed → List ProofLine → Type 0
+HoldsAt formula log (Publish count (Ok base)) lines =
+    (before after : List ProofLine) × (log ≡ before ++ (lines ++ after)) × (base ≡ length formula.clauses + length before + 1)
+HoldsAt formula log (Publish count (Err fault)) lines = Unit {0}
+HoldsAt formula log (Fetch from (Ok count)) lines = (after : List ProofLine) × (drop from log ≡ lines ++ after)
+HoldsAt formula log (Fetch from (Err fault)) lines = Unit {0}
+HoldsAt formula log (Close leaf number reply) lines = Unit {0}
+HoldsAt formula log (Split leaf variable reply) lines = Unit {0}
+HoldsAt formula log (Found count reply) lines = Unit {0}
+HoldsAt formula log (Leave why) lines = Unit {0}
+
+-- the log holds the lines of all these calls
+abbrev pub AllHeld : Conjunction → List ProofLine → List Item → Type 0
+AllHeld formula log [] = Unit {0}
+AllHeld formula log (item ∷ items) = HoldsAt formula log item.entry.deed item.lines × AllHeld formula log items
+
+-- over a derivation from the formula that holds all lines of the seat's list, the batch's line at this place is the
+-- first that doesn't derive
+abbrev pub IsRefusedOver : Conjunction → List Item → List BatchLine → ℕ → Type 0
+IsRefusedOver formula mine batch place =
+    (log : List ProofLine) × AreDerived formula log × AllHeld formula log mine
+    × FailsAt formula log (resolved_lines (length formula.clauses + length log + 1) batch) place
+
+-- ---- the end
+
+-- seat k is that of worker k
+abbrev pub AreNumbered : List Chair → Type 0
+AreNumbered seats = (k : ℕ) (seat : Chair) → k < length seats → slice_get seats k ≡ Some seat → seat.worker ≡ k
+
+-- There is one legal history. Its items of each worker, in order, are that worker's seat's list, and there are no others. The
+-- counts are how many entries each worker has
+pub record IsFinished (opening : Held) (seats : List Chair) (pool : Kept) (counts : List ℕ) : Type 0 where
+  pub items : List Item
+  pub legal : IsLegal opening items pool
+  pub numbered : AreNumbered seats
+  pub lists : All (λ (seat : Chair). seat.mine ≡ items_of seat.worker items) seats
+  pub others : AllBelow (length seats) items
+  pub counts_are : counts ≡ map (λ worker. length (items_of worker items)) (range_with_len 0 (length seats))

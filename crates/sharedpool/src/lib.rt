@@ -1,0 +1,23 @@
+//! A pool under a lock, with a seat for each worker.
+//!
+//! A seat's list has the items of all calls that were made with it: what was asked, what was answered,
+//! and the lines and steps that were given or taken. Contracts alone see it. `finish` takes all seats
+//! back and hands the pool out, and its contract says that there is one history of calls and replies,
+//! which the pool's rules allow from the pool that was put under the lock to the one that is handed
+//! out, and of which each seat's list is its worker's part.
+//!
+//! A pass of a cell beside the lock keeps each list. The cell's rule is that one pass at most knows all
+//! items, and that the list of each worker's pass is that worker's part of them.
+//!
+//! Workers count from 0.
+#![tactic(auto)]
+
+mod locked;
+mod note;
+mod room;
+mod seat;
+mod shared;
+
+pub use room::{Cell, Room, Token};
+pub use seat::Seat;
+pub use shared::{FinishFault, SharedPool, open_room};

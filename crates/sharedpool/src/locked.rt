@@ -1,0 +1,334 @@
+//! What the lock holds: the pool, and the pass that knows all items.
+
+ghost use Rattle.std.specs.Prelude.{◌≡◌, ◌==◌, ◌↔◌, ◌≤◌, ℕ, [], Err, IsTrue, OnOk, OnErr, length};
+ghost use Rattle.std.specs.List.{count_by};
+ghost use Rattle.pool.specs.States.{IsLegal, IsSound, IsPublished, IsFetched, IsClosed, IsSplit, IsFound};
+ghost use Rattle.crossbeam_utils.specs.Seq.{cell_view};
+ghost use Rattle.sharedpool.specs.Views.{knower, items_of, AllBelow};
+ghost use Rattle.sharedpool.specs.Seats.{HoldsOver, IsRefusedOver, told_publish, told_fetch, told_close, told_split, told_found, told_leave};
+
+use crate::note::note;
+use crate::room::{Cell, Compares, Given, Room, Token, WithSeat};
+use crate::seat::Seat;
+use batches::Batch;
+use clauses::Lit;
+use pages::Lines;
+use pool::{
+    AssembleFault, CloseFault, Entry, FetchFault, FoundFault, PathFault, Pool, PublishFault,
+    SplitFault, Status, Why,
+};
+use prooflog::Evidence;
+use semantics::Step;
+use std::alloc::{AllocError, Global};
+use std::marker::{Brand, Model, PhantomData};
+use std::sync::Wait;
+
+/// The pool with the keeper, the pass that knows the items of all its calls.
+#[derive(Drop)]
+pub(crate) struct Locked<B: Room> {
+    pool: Pool,
+    workers: u32,
+    keeper: Token,
+    room: PhantomData<B>,
+}
+
+impl<B: Room> Model for Locked<B> {
+    ghost use Rattle.crossbeam_utils.specs.Seq.{cell_view};
+    ghost use Rattle.sharedpool.specs.Seats.{Shared, IsLocked};
+
+    ghost Value = { Shared };
+
+    ghost view = { λ s. record { pool = s.pool; workers = s.workers; items = (cell_view s.keeper).all } };
+
+    ghost invariant = { λ s. IsLocked B.table B.opening s.pool s.workers s.keeper };
+}
+
+fn wants_memory_to_publish(reply: &Result<u32, PublishFault>) -> bool
+    ensures { IsTrue result ↔ (reply.now ≡ Err PublishFault.Memory) }
+{
+    match reply {
+        Err(PublishFault::Memory) => true,
+        _ => false,
+    }
+}
+
+fn wants_memory_to_fetch(reply: &Result<Lines, FetchFault>) -> bool
+    ensures { IsTrue result ↔ (reply.now ≡ Err FetchFault.Memory) }
+{
+    match reply {
+        Err(FetchFault::Memory) => true,
+        _ => false,
+    }
+}
+
+fn wants_memory_to_close(reply: &Result<(), CloseFault>) -> bool
+    ensures { IsTrue result ↔ (reply.now ≡ Err CloseFault.Memory) }
+{
+    match reply {
+        Err(CloseFault::Memory) => true,
+        _ => false,
+    }
+}
+
+fn wants_memory_to_split(reply: &Result<(u32, u32), SplitFault>) -> bool
+    ensures { IsTrue result ↔ (reply.now ≡ Err SplitFault.Memory) }
+{
+    match reply {
+        Err(SplitFault::Memory) => true,
+        _ => false,
+    }
+}
+
+fn wants_memory_to_find(reply: &Result<(), FoundFault>) -> bool
+    ensures { IsTrue result ↔ (reply.now ≡ Err FoundFault.Memory) }
+{
+    match reply {
+        Err(FoundFault::Memory) => true,
+        _ => false,
+    }
+}
+
+/// How many of these entries are of this worker.
+fn entries_of(history: &[Entry], worker: u32) -> usize
+    ensures { result ≡ count_by (λ entry. entry.worker == worker) history.now }
+{
+    history
+        .iter()
+        .filter(|entry| entry.worker == worker)
+        .count()
+}
+
+impl<B: Room> Locked<B> {
+    /// A pool without a history, with the keeper that made the seats.
+    pub(crate) fn new(pool: Pool, workers: u32, keeper: Token) -> Self
+        requires keeper { (keeper.table_id ≡ B.table) × (cell_view keeper ≡ knower workers []) }
+        requires fresh { (pool.history ≡ []) × (pool.held ≡ B.opening) }
+        requires some_worker { 1 ≤ workers }
+    {
+        let _history = pool.history();
+        Locked {
+            pool,
+            workers,
+            keeper,
+            room: PhantomData,
+        }
+    }
+
+    /// How many seats were made.
+    pub(crate) fn workers(&self) -> u32
+        ensures made { result ≡ self.now.workers }
+        ensures some_worker { 1 ≤ result }
+    {
+        self.workers
+    }
+
+    /// Takes a seat in, whose list is its worker's items.
+    pub(crate) fn take_in<R: Wait>(&mut self, rt: &R, cell: &Cell, seat: Seat<B>)
+        requires { cell.now.table.shared.table_id ≡ B.table }
+        ensures same { self.new ≡ self.old }
+        ensures mine { seat.mine ≡ items_of seat.worker self.old.items }
+        ensures others { AllBelow self.old.workers self.old.items }
+    {
+        let Seat {
+            worker: _,
+            pass,
+            room: _,
+        } = seat;
+        cell.join_pass::<WithSeat>(&mut self.keeper, pass);
+        cell.load_as::<Compares, R>(rt, &mut self.keeper);
+    }
+
+    /// How many entries of the history are of this worker.
+    pub(crate) fn count_of(&self, worker: u32) -> usize
+        ensures { result ≡ length (items_of worker self.now.items) }
+    {
+        entries_of(self.pool.history(), worker)
+    }
+
+    /// The pool, whose history is legal.
+    pub(crate) fn into_pool(self) -> Pool
+        ensures same { result ≡ self.pool }
+        ensures legal { IsLegal B.opening self.items result }
+    {
+        let Locked {
+            pool,
+            workers: _,
+            keeper: _,
+            room: _,
+        } = self;
+        pool
+    }
+
+    pub(crate) fn status(&self) -> Status {
+        self.pool.status()
+    }
+
+    pub(crate) fn path(&self, alloc: Global, leaf: u32) -> Result<Vec<Lit>, PathFault> {
+        self.pool.path(alloc, leaf)
+    }
+
+    pub(crate) fn assemble(&self, alloc: Global) -> Result<Evidence, AssembleFault> {
+        self.pool.assemble(alloc)
+    }
+
+    /// A batch by the worker of this seat.
+    pub(crate) fn publish<R: Wait>(
+        &mut self,
+        rt: &R,
+        alloc: Global,
+        cell: &Cell,
+        seat: &mut Seat<B>,
+        batch: &Batch,
+    ) -> Result<u32, PublishFault>
+        requires { cell.now.table.shared.table_id ≡ B.table }
+        ensures seat { seat.new ≡ told_publish seat.old batch.now.lines.items result }
+        ensures reply { (result ≡ Err PublishFault.Memory → ⊥) → HoldsOver B.opening seat.old (λ h. IsPublished h batch.now.lines.items result) }
+        ensures not_derived { (place : ℕ) → result ≡ Err (PublishFault.NotDerived place) → IsRefusedOver B.opening.formula seat.old.mine batch.now.lines.items place }
+    {
+        let worker = seat.worker;
+        let reply = self.pool.publish(alloc, worker, batch);
+        if wants_memory_to_publish(&reply) {
+            return Err(PublishFault::Memory);
+        }
+        let keeper = &mut self.keeper;
+        let pass = &mut seat.pass;
+        note::<Brand, _, _, R>(rt, cell, keeper, pass, worker, batch, &reply);
+        reply
+    }
+
+    /// A fetch by the worker of this seat.
+    pub(crate) fn fetch<R: Wait>(
+        &mut self,
+        rt: &R,
+        alloc: Global,
+        cell: &Cell,
+        seat: &mut Seat<B>,
+        from: usize,
+    ) -> Result<Lines, FetchFault>
+        requires { cell.now.table.shared.table_id ≡ B.table }
+        ensures seat { seat.new ≡ told_fetch seat.old from result }
+        ensures reply { (result ≡ Err FetchFault.Memory → ⊥) → HoldsOver B.opening seat.old (λ h. IsFetched h from result) }
+    {
+        let worker = seat.worker;
+        let reply = self.pool.fetch(alloc, worker, from);
+        if wants_memory_to_fetch(&reply) {
+            return Err(FetchFault::Memory);
+        }
+        let keeper = &mut self.keeper;
+        let pass = &mut seat.pass;
+        note::<Brand, _, _, R>(rt, cell, keeper, pass, worker, &from, &reply);
+        reply
+    }
+
+    /// A close by the worker of this seat.
+    pub(crate) fn close<R: Wait>(
+        &mut self,
+        rt: &R,
+        cell: &Cell,
+        seat: &mut Seat<B>,
+        leaf: u32,
+        number: u32,
+    ) -> Result<(), CloseFault>
+        requires { cell.now.table.shared.table_id ≡ B.table }
+        ensures seat { seat.new ≡ told_close seat.old leaf number result }
+        ensures reply { (result ≡ Err CloseFault.Memory → ⊥) → HoldsOver B.opening seat.old (λ h. IsClosed h leaf number result) }
+    {
+        let worker = seat.worker;
+        let reply = self.pool.close(worker, leaf, number);
+        if wants_memory_to_close(&reply) {
+            return Err(CloseFault::Memory);
+        }
+        let call = (leaf, number);
+        let keeper = &mut self.keeper;
+        let pass = &mut seat.pass;
+        note::<Brand, _, _, R>(rt, cell, keeper, pass, worker, &call, &reply);
+        reply
+    }
+
+    /// A split by the worker of this seat.
+    pub(crate) fn split_leaf<R: Wait>(
+        &mut self,
+        rt: &R,
+        alloc: Global,
+        cell: &Cell,
+        seat: &mut Seat<B>,
+        leaf: u32,
+        variable: u32,
+    ) -> Result<(u32, u32), SplitFault>
+        requires { cell.now.table.shared.table_id ≡ B.table }
+        ensures seat { seat.new ≡ told_split seat.old leaf variable result }
+        ensures reply { (result ≡ Err SplitFault.Memory → ⊥) → HoldsOver B.opening seat.old (λ h. IsSplit h leaf variable result) }
+    {
+        let worker = seat.worker;
+        let reply = self.pool.split_leaf(alloc, worker, leaf, variable);
+        if wants_memory_to_split(&reply) {
+            return Err(SplitFault::Memory);
+        }
+        let call = (leaf, variable);
+        let keeper = &mut self.keeper;
+        let pass = &mut seat.pass;
+        note::<Brand, _, _, R>(rt, cell, keeper, pass, worker, &call, &reply);
+        reply
+    }
+
+    /// A schedule by the worker of this seat.
+    pub(crate) fn found<R: Wait>(
+        &mut self,
+        rt: &R,
+        alloc: Global,
+        cell: &Cell,
+        seat: &mut Seat<B>,
+        steps: Vec<Step>,
+    ) -> Result<(), FoundFault>
+        requires { cell.now.table.shared.table_id ≡ B.table }
+        ensures seat { seat.new ≡ told_found seat.old steps.items result }
+        ensures reply { (result ≡ Err FoundFault.Memory → ⊥) → HoldsOver B.opening seat.old (λ h. IsFound h steps.items result) }
+    {
+        self.found_as::<Brand, R>(rt, alloc, cell, seat, steps)
+    }
+
+    /// The same for steps that have a name: the pool takes them before the item is noted.
+    fn found_as<S: Given, R: Wait>(
+        &mut self,
+        rt: &R,
+        alloc: Global,
+        cell: &Cell,
+        seat: &mut Seat<B>,
+        steps: Vec<Step>,
+    ) -> Result<(), FoundFault>
+        requires cell { cell.now.table.shared.table_id ≡ B.table }
+        requires steps { steps.items ≡ S.steps }
+        ensures seat { seat.new ≡ told_found seat.old S.steps result }
+        ensures reply { (result ≡ Err FoundFault.Memory → ⊥) → HoldsOver B.opening seat.old (λ h. IsFound h S.steps result) }
+    {
+        let worker = seat.worker;
+        let reply = self.pool.found(alloc, worker, steps);
+        if wants_memory_to_find(&reply) {
+            return Err(FoundFault::Memory);
+        }
+        let keeper = &mut self.keeper;
+        let pass = &mut seat.pass;
+        note::<Brand, _, _, R>(rt, cell, keeper, pass, worker, &(), &reply);
+        reply
+    }
+
+    /// A leave by the worker of this seat.
+    pub(crate) fn leave<R: Wait>(
+        &mut self,
+        rt: &R,
+        cell: &Cell,
+        seat: &mut Seat<B>,
+        why: Option<Why>,
+    ) -> Result<(), AllocError>
+        requires { cell.now.table.shared.table_id ≡ B.table }
+        ensures ok { OnOk result (seat.new ≡ told_leave seat.old why) }
+        ensures err { OnErr result (seat.new ≡ seat.old) }
+    {
+        let worker = seat.worker;
+        self.pool.leave(worker, why)?;
+        let keeper = &mut self.keeper;
+        let pass = &mut seat.pass;
+        note::<Brand, _, _, R>(rt, cell, keeper, pass, worker, &why, &());
+        Ok(())
+    }
+}

@@ -1,0 +1,28 @@
+//! One item is added to the lists of the keeper and of a seat.
+
+ghost use Rattle.sharedpool.specs.Seats.{AreReady, AreNoted};
+
+use crate::room::{Adds, Blank, Cell, Named, Token, WithSeat};
+use std::mem;
+use std::sync::Wait;
+
+/// Adds an item to the keeper's list and to the seat's, which was its worker's items so far. The worker,
+/// the call and its reply are passed for contracts alone: the caller picks the item from them.
+pub(crate) fn note<J: Named, C, A, R: Wait>(
+    rt: &R,
+    cell: &Cell,
+    keeper: &mut Token,
+    seat: &mut Token,
+    worker: u32,
+    call: &C,
+    reply: &A,
+)
+    requires { AreReady cell.now.table.shared.table_id keeper.old seat.old J.item }
+    ensures { AreNoted keeper.old keeper.new seat.old seat.new J.item }
+{
+    let blank = cell.split_pass::<Blank>(keeper);
+    let mine = mem::replace(seat, blank);
+    cell.join_pass::<WithSeat>(keeper, mine);
+    cell.load_as::<Adds<J>, R>(rt, keeper);
+    *seat = cell.split_pass::<WithSeat>(keeper);
+}

@@ -1,0 +1,144 @@
+//! The cell beside the lock: what its passes know, and how that is cut and joined.
+
+use atomic_table::{Join, Split};
+use crossbeam_utils::atomic::seq_cell::{Pass, RuledSeqCell};
+use crossbeam_utils::rule::{Outcome, Protocol};
+use pool::Item;
+use std::collections::LinkedList;
+use std::marker::{Brand, PhantomData};
+
+/// Names one shared pool: its cell, and the pool that it began with. The call that opens a room picks
+/// both, for [`Brand`].
+pub trait Room {
+    ghost use Rattle.atomic_table.specs.Seated.{TableId};
+    ghost use Rattle.pool.specs.States.{Held};
+
+    ghost table: { TableId };
+
+    ghost opening: { Held };
+}
+
+impl Room for Brand {
+    ghost use Rattle.sharedpool.specs.Nothing.{no_table, no_pool};
+
+    ghost table = { no_table };
+
+    ghost opening = { no_pool };
+}
+
+/// Names the item that one call adds.
+pub trait Named {
+    ghost use Rattle.pool.specs.declared.entry.Item.{Item};
+
+    ghost item: { Item };
+}
+
+impl Named for Brand {
+    ghost use Rattle.sharedpool.specs.Nothing.{no_item};
+
+    ghost item = { no_item };
+}
+
+/// Names the steps that one call is given.
+pub trait Given {
+    ghost use Rattle.std.specs.Prelude.{List};
+    ghost use Rattle.semantics.specs.declared.state.Step.{Step};
+
+    ghost steps: { List Step };
+}
+
+impl Given for Brand {
+    ghost use Rattle.std.specs.Prelude.{[]};
+
+    ghost steps = { [] };
+}
+
+/// What a pass knows: the keeper's how many seats were made and all items, a seat's its worker and that
+/// worker's items. No value of it is made.
+pub struct View {
+    pub keeps: bool,
+    pub workers: u64,
+    pub all: LinkedList<Item>,
+    pub sits: bool,
+    pub worker: u64,
+    pub mine: LinkedList<Item>,
+}
+
+/// The rule of the cell, whose one word never changes.
+pub struct Seated;
+
+impl Protocol<[u64; 1], View> for Seated {
+    ghost use Rattle.std.specs.Prelude.{[]};
+    ghost use Rattle.sharedpool.specs.Views.{knower, Kept};
+
+    ghost holds = { λ words views. Kept words views };
+
+    ghost first = { knower 0 [] };
+}
+
+/// The item is added to both lists of a keeper that has a seat joined.
+pub struct Adds<J: Named> {
+    of: PhantomData<J>,
+}
+
+impl<J: Named> Outcome<[u64; 1], View> for Adds<J> {
+    ghost use Rattle.sharedpool.specs.Views.{Added};
+
+    ghost then = { Added J.item };
+}
+
+/// The keeper compares a seat's list with all items, and the seat is spent.
+pub struct Compares;
+
+impl Outcome<[u64; 1], View> for Compares {
+    ghost use Rattle.sharedpool.specs.Views.{Compared};
+
+    ghost then = { Compared };
+}
+
+/// A new seat, for the next worker.
+pub struct NextSeat;
+
+impl Split<View> for NextSeat {
+    ghost use Rattle.sharedpool.specs.Views.{one_more, next_seat};
+
+    ghost left = { one_more };
+
+    ghost right = { next_seat };
+}
+
+/// A pass that knows nothing.
+pub struct Blank;
+
+impl Split<View> for Blank {
+    ghost use Rattle.sharedpool.specs.Views.{nobody};
+
+    ghost left = { λ v. v };
+
+    ghost right = { λ v. nobody };
+}
+
+/// The keeper with a seat joined, and the two apart again.
+pub struct WithSeat;
+
+impl Split<View> for WithSeat {
+    ghost use Rattle.sharedpool.specs.Views.{keeper_of, seat_of};
+
+    ghost left = { keeper_of };
+
+    ghost right = { seat_of };
+}
+
+impl Join<View> for WithSeat {
+    ghost use Rattle.sharedpool.specs.Views.{with_seat, nobody};
+
+    ghost both = { with_seat };
+
+    ghost spent = { nobody };
+}
+
+/// The cell of a room.
+pub type Cell = RuledSeqCell<[u64; 1], View, Seated, 1>;
+
+/// A pass of the cell.
+pub type Token = Pass<[u64; 1], View>;

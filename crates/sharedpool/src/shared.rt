@@ -1,0 +1,269 @@
+//! The pool that workers share.
+
+ghost use Rattle.std.specs.Prelude.{◌≡◌, ◌≤◌, ◌<◌, ℕ, All, Err, IfErr, IfOk, OnOk, OnErr, IsTrue, [], length, map};
+ghost use Rattle.std.specs.List.{range_with_len};
+ghost use Rattle.crossbeam_utils.specs.Seq.{cell_view};
+ghost use Rattle.semantics.specs.Machine.{IsStuckRun};
+ghost use Rattle.pool.specs.States.{IsPublished, IsFetched, IsClosed, IsSplit, IsFound};
+ghost use Rattle.sharedpool.specs.Views.{knower, items_of, AllBelow};
+ghost use Rattle.sharedpool.specs.Seats.{AreNumbered, HoldsOver, IsFinished, IsRefusedOver, told_publish, told_fetch, told_close, told_split, told_found, told_leave};
+
+use crate::locked::Locked;
+use crate::room::{Cell, NextSeat, Room, Token};
+use crate::seat::Seat;
+use batches::Batch;
+use clauses::Lit;
+use pages::Lines;
+use pool::{
+    AssembleFault, CloseFault, FetchFault, FoundFault, PathFault, Pool, PublishFault, Share,
+    SplitFault, Status, Why,
+};
+use prooflog::Evidence;
+use semantics::Step;
+use std::alloc::{AllocError, Global};
+use std::marker::PhantomData;
+use std::sync::{Mutex, Wait};
+use thiserror::Error;
+
+/// A pool under one lock, which workers call with their seats.
+#[derive(Drop)]
+pub struct SharedPool<B: Room> {
+    cell: Cell,
+    lock: Mutex<Locked<B>>,
+    ghost tied: { cell.table.shared.table_id ≡ B.table },
+}
+
+/// Why a shared pool isn't given back.
+#[derive(Clone, Copy, Debug, PartialEq, Eq, Error)]
+pub enum FinishFault {
+    /// Memory ran out.
+    #[error("memory")]
+    Memory,
+    /// The seats aren't all that were made, in the order of their workers.
+    #[error("seat missing")]
+    Missing,
+}
+
+/// A cell and its first pass, whose table is the name of a room.
+pub fn open_room(alloc: Global) -> Result<(Cell, Token), AllocError>
+    ensures { IfOk result (λ r. (r.1.table_id ≡ r.0.table.shared.table_id) × (cell_view r.1 ≡ knower 0 [])) }
+{
+    Cell::ruled(alloc, [0])
+}
+
+/// A seat for each worker, numbered from 0.
+fn make_seats<B: Room>(
+    alloc: Global,
+    cell: &Cell,
+    mut keeper: Token,
+    workers: u32,
+) -> Result<(Token, Vec<Seat<B>>), AllocError>
+    requires { (cell.now.table.shared.table_id ≡ B.table) × (keeper.table_id ≡ B.table) × (cell_view keeper ≡ knower 0 []) }
+    ensures keeper { IfOk result (λ r. (r.0.table_id ≡ B.table) × (cell_view r.0 ≡ knower workers [])) }
+    ensures many { IfOk result (λ r. length r.1.items ≡ workers) }
+    ensures numbered { IfOk result (λ r. AreNumbered r.1.items) }
+    ensures empty { IfOk result (λ r. All (λ seat. seat.mine ≡ []) r.1.items) }
+{
+    let mut seats = Vec::new(alloc);
+    for worker in 0..workers {
+        seats.reserve(1)?;
+        let pass = cell.split_pass::<NextSeat>(&mut keeper);
+        seats.push_reserved(Seat {
+            worker,
+            pass,
+            room: PhantomData,
+        });
+    }
+    Ok((keeper, seats))
+}
+
+/// Whether the seats are all that were made, in order.
+fn are_all<B: Room>(seats: &[Seat<B>], workers: u32) -> bool
+    ensures { IsTrue result → (length seats.now ≡ workers) × AreNumbered seats.now }
+{
+    for (place, seat) in seats.iter().enumerate() {
+        if seat.worker() as usize != place {
+            return false;
+        }
+    }
+    seats.len() == workers as usize
+}
+
+/// How many entries each worker has.
+fn counts<B: Room>(
+    alloc: Global,
+    locked: &Locked<B>,
+    workers: u32,
+) -> Result<Vec<usize>, AllocError>
+    ensures { IfOk result (λ counts. counts.items ≡ map (λ worker. length (items_of worker locked.now.items)) (range_with_len 0 workers)) }
+{
+    (0..workers)
+        .map(|worker| locked.count_of(worker))
+        .collect(alloc)
+}
+
+/// Takes all seats in. Each seat's list is its worker's items.
+fn take_all_in<R: Wait, B: Room>(
+    rt: &R,
+    cell: &Cell,
+    mut locked: Locked<B>,
+    seats: Vec<Seat<B>>,
+) -> Locked<B>
+    requires { cell.now.table.shared.table_id ≡ B.table }
+    ensures same { result ≡ locked }
+    ensures mine { All (λ seat. seat.mine ≡ items_of seat.worker locked.items) seats.items }
+    ensures others { 0 < length seats.items → AllBelow locked.workers locked.items }
+{
+    for seat in seats {
+        locked.take_in(rt, cell, seat);
+    }
+    locked
+}
+
+impl<B: Room> SharedPool<B> {
+    /// A pool without a history under a lock, and a seat for each worker, in order of their numbers. The
+    /// room is named after the cell and the pool. One to 64 workers.
+    pub fn new(
+        alloc: Global,
+        cell: Cell,
+        keeper: Token,
+        pool: Pool,
+        workers: u32,
+    ) -> Result<(SharedPool<B>, Vec<Seat<B>>), AllocError>
+        requires room { (cell.table.shared.table_id ≡ B.table) × (keeper.table_id ≡ B.table) × (cell_view keeper ≡ knower 0 []) }
+        requires fresh { (pool.history ≡ []) × (pool.held ≡ B.opening) }
+        requires some_worker { 1 ≤ workers }
+        requires few_workers { workers ≤ 64 }
+        ensures many { IfOk result (λ r. length r.1.items ≡ workers) }
+        ensures numbered { IfOk result (λ r. AreNumbered r.1.items) }
+        ensures empty { IfOk result (λ r. All (λ seat. seat.mine ≡ []) r.1.items) }
+    {
+        let (keeper, seats) = make_seats(alloc, &cell, keeper, workers)?;
+        let lock = Mutex::new(Locked::new(pool, workers, keeper));
+        Ok((SharedPool { cell, lock }, seats))
+    }
+
+    /// The pool, and how many entries each worker has in its history. The seats are all that were made, in
+    /// order of their workers, or they are handed back with the shared pool.
+    pub fn finish<R: Wait>(
+        self,
+        rt: &R,
+        alloc: Global,
+        seats: Vec<Seat<B>>,
+    ) -> Result<(Pool, Vec<usize>), (FinishFault, SharedPool<B>, Vec<Seat<B>>)>
+        ensures finished { IfOk result (λ r. IsFinished B.opening seats.items r.0 r.1.items) }
+        ensures program { IfOk result (λ r. r.0.held.program ≡ B.opening.program) }
+        ensures formula { IfOk result (λ r. r.0.held.formula ≡ B.opening.formula) }
+        ensures back { IfErr result (λ r. r.2 ≡ seats) }
+    {
+        let SharedPool { cell, lock } = self;
+        let locked = lock.into_inner();
+        let workers = locked.workers();
+        if !are_all(&seats, workers) {
+            let lock = Mutex::new(locked);
+            return Err((FinishFault::Missing, SharedPool { cell, lock }, seats));
+        }
+        let Ok(counts) = counts(alloc, &locked, workers) else {
+            let lock = Mutex::new(locked);
+            return Err((FinishFault::Memory, SharedPool { cell, lock }, seats));
+        };
+        let locked = take_all_in(rt, &cell, locked, seats);
+        Ok((locked.into_pool(), counts))
+    }
+}
+
+impl<B: Room> Share for SharedPool<B> {
+    type Seat = Seat<B>;
+
+    fn publish<R: Wait>(
+        &self,
+        rt: &R,
+        alloc: Global,
+        seat: &mut Seat<B>,
+        batch: &Batch,
+    ) -> Result<u32, PublishFault>
+        ensures seat { seat.new ≡ told_publish seat.old batch.now.lines.items result }
+        ensures reply { (result ≡ Err PublishFault.Memory → ⊥) → HoldsOver B.opening seat.old (λ h. IsPublished h batch.now.lines.items result) }
+        ensures not_derived { (place : ℕ) → result ≡ Err (PublishFault.NotDerived place) → IsRefusedOver B.opening.formula seat.old.mine batch.now.lines.items place }
+    {
+        self.lock
+            .lock(rt)
+            .publish(rt, alloc, &self.cell, seat, batch)
+    }
+
+    fn fetch<R: Wait>(
+        &self,
+        rt: &R,
+        alloc: Global,
+        seat: &mut Seat<B>,
+        from: usize,
+    ) -> Result<Lines, FetchFault>
+        ensures seat { seat.new ≡ told_fetch seat.old from result }
+        ensures reply { (result ≡ Err FetchFault.Memory → ⊥) → HoldsOver B.opening seat.old (λ h. IsFetched h from result) }
+    {
+        self.lock.lock(rt).fetch(rt, alloc, &self.cell, seat, from)
+    }
+
+    fn close<R: Wait>(
+        &self,
+        rt: &R,
+        seat: &mut Seat<B>,
+        leaf: u32,
+        number: u32,
+    ) -> Result<(), CloseFault>
+        ensures seat { seat.new ≡ told_close seat.old leaf number result }
+        ensures reply { (result ≡ Err CloseFault.Memory → ⊥) → HoldsOver B.opening seat.old (λ h. IsClosed h leaf number result) }
+    {
+        self.lock.lock(rt).close(rt, &self.cell, seat, leaf, number)
+    }
+
+    fn split_leaf<R: Wait>(
+        &self,
+        rt: &R,
+        alloc: Global,
+        seat: &mut Seat<B>,
+        leaf: u32,
+        variable: u32,
+    ) -> Result<(u32, u32), SplitFault>
+        ensures seat { seat.new ≡ told_split seat.old leaf variable result }
+        ensures reply { (result ≡ Err SplitFault.Memory → ⊥) → HoldsOver B.opening seat.old (λ h. IsSplit h leaf variable result) }
+    {
+        self.lock
+            .lock(rt)
+            .split_leaf(rt, alloc, &self.cell, seat, leaf, variable)
+    }
+
+    fn found<R: Wait>(
+        &self,
+        rt: &R,
+        alloc: Global,
+        seat: &mut Seat<B>,
+        steps: Vec<Step>,
+    ) -> Result<(), FoundFault>
+        ensures seat { seat.new ≡ told_found seat.old steps.items result }
+        ensures reply { (result ≡ Err FoundFault.Memory → ⊥) → HoldsOver B.opening seat.old (λ h. IsFound h steps.items result) }
+        ensures stuck { OnOk result (IsStuckRun B.opening.program steps.items) }
+        ensures not_stuck { result ≡ Err FoundFault.NotStuck → IsStuckRun B.opening.program steps.items → ⊥ }
+    {
+        self.lock.lock(rt).found(rt, alloc, &self.cell, seat, steps)
+    }
+
+    fn leave<R: Wait>(&self, rt: &R, seat: &mut Seat<B>, why: Option<Why>) -> Result<(), AllocError>
+        ensures ok { OnOk result (seat.new ≡ told_leave seat.old why) }
+        ensures err { OnErr result (seat.new ≡ seat.old) }
+    {
+        self.lock.lock(rt).leave(rt, &self.cell, seat, why)
+    }
+
+    fn status<R: Wait>(&self, rt: &R) -> Status {
+        self.lock.lock(rt).status()
+    }
+
+    fn path<R: Wait>(&self, rt: &R, alloc: Global, leaf: u32) -> Result<Vec<Lit>, PathFault> {
+        self.lock.lock(rt).path(alloc, leaf)
+    }
+
+    fn assemble<R: Wait>(&self, rt: &R, alloc: Global) -> Result<Evidence, AssembleFault> {
+        self.lock.lock(rt).assemble(alloc)
+    }
+}
