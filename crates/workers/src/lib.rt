@@ -1,0 +1,16 @@
+//! What one worker of a search does: it takes cubes, searches below each, and tells a share of the pool what it found.
+//!
+//! Workers, cubes and places of lines count from 0, variables and clauses from 1; a cube has the number of its leaf.
+//! A worker takes whatever its share replies: it promises nothing but that it is safe.
+#![tactic(auto)]
+
+mod branching;
+mod gate;
+mod numbers;
+mod queue;
+mod stop;
+mod worker;
+
+pub use gate::Gate;
+pub use queue::{Cubes, Queue};
+pub use worker::work;

@@ -1,0 +1,134 @@
+//! Why a worker can't go on.
+
+ghost use Rattle.std.specs.Prelude.{◌≡◌};
+ghost use Rattle.workers.specs.Reasons.{IsReason};
+ghost use Rattle.pool.specs.declared.why.Why.TheVariants as why;
+ghost use Rattle.pool.specs.declared.entry.PublishFault.TheVariants as publish;
+ghost use Rattle.pool.specs.declared.entry.FetchFault.TheVariants as fetch;
+ghost use Rattle.pool.specs.declared.entry.CloseFault.TheVariants as close;
+ghost use Rattle.pool.specs.declared.entry.SplitFault.TheVariants as split;
+ghost use Rattle.pool.specs.declared.entry.FoundFault.TheVariants as found;
+ghost use Rattle.pool.specs.declared.entry.PathFault.TheVariants as path;
+ghost use Rattle.cdcl.specs.declared.solver.SolveFault.TheVariants as solve;
+ghost use Rattle.extract.specs.declared.schedule.ExtractFault.TheVariants as extract_faults;
+
+use cdcl::SolveFault;
+use extract::ExtractFault;
+use pool::{CloseFault, FetchFault, FoundFault, PathFault, PublishFault, SplitFault, Why};
+use std::alloc::AllocError;
+
+/// Why a worker stops before its cubes are done: for want of memory, since the log is full, or since something was
+/// refused that an honest share takes.
+#[derive(Clone, Copy, Debug, PartialEq, Eq)]
+pub(crate) struct Stop {
+    pub(crate) why: Why,
+}
+
+impl From<AllocError> for Stop {
+    ghost from_gives = { λ _ stop. stop.why ≡ why.Memory };
+
+    fn from(_: AllocError) -> Stop {
+        Stop { why: Why::Memory }
+    }
+}
+
+impl From<PublishFault> for Stop {
+    ghost from_gives = { λ fault stop. IsReason (fault ≡ publish.Memory) (fault ≡ publish.Full) stop.why };
+
+    fn from(fault: PublishFault) -> Stop {
+        let why = match fault {
+            PublishFault::Memory => Why::Memory,
+            PublishFault::Full => Why::Full,
+            PublishFault::NotDerived(_) => Why::Left,
+        };
+        Stop { why }
+    }
+}
+
+impl From<FetchFault> for Stop {
+    ghost from_gives = { λ fault stop. IsReason (fault ≡ fetch.Memory) ⊥ stop.why };
+
+    fn from(fault: FetchFault) -> Stop {
+        let why = match fault {
+            FetchFault::Memory => Why::Memory,
+            FetchFault::PastEnd => Why::Left,
+        };
+        Stop { why }
+    }
+}
+
+impl From<CloseFault> for Stop {
+    ghost from_gives = { λ fault stop. IsReason (fault ≡ close.Memory) ⊥ stop.why };
+
+    fn from(fault: CloseFault) -> Stop {
+        let why = match fault {
+            CloseFault::Memory => Why::Memory,
+            CloseFault::NotOpen => Why::Left,
+            CloseFault::NotRefuted => Why::Left,
+        };
+        Stop { why }
+    }
+}
+
+impl From<SplitFault> for Stop {
+    ghost from_gives = { λ fault stop. IsReason (fault ≡ split.Memory) ⊥ stop.why };
+
+    fn from(fault: SplitFault) -> Stop {
+        let why = match fault {
+            SplitFault::Memory => Why::Memory,
+            SplitFault::NotOpen => Why::Left,
+            SplitFault::Full => Why::Left,
+            SplitFault::NoVariable => Why::Left,
+        };
+        Stop { why }
+    }
+}
+
+impl From<FoundFault> for Stop {
+    ghost from_gives = { λ fault stop. IsReason (fault ≡ found.Memory) ⊥ stop.why };
+
+    fn from(fault: FoundFault) -> Stop {
+        let why = match fault {
+            FoundFault::Memory => Why::Memory,
+            FoundFault::NotStuck => Why::Left,
+        };
+        Stop { why }
+    }
+}
+
+impl From<PathFault> for Stop {
+    ghost from_gives = { λ fault stop. IsReason (fault ≡ path.Memory) ⊥ stop.why };
+
+    fn from(fault: PathFault) -> Stop {
+        let why = match fault {
+            PathFault::Memory => Why::Memory,
+            PathFault::NotOpen => Why::Left,
+        };
+        Stop { why }
+    }
+}
+
+impl From<SolveFault> for Stop {
+    ghost from_gives = { λ fault stop. IsReason (fault ≡ solve.Memory) ⊥ stop.why };
+
+    fn from(fault: SolveFault) -> Stop {
+        let why = match fault {
+            SolveFault::Memory => Why::Memory,
+            SolveFault::Spent => Why::Left,
+            SolveFault::Foreign => Why::Left,
+        };
+        Stop { why }
+    }
+}
+
+impl From<ExtractFault> for Stop {
+    ghost from_gives = { λ fault stop. IsReason (fault ≡ extract_faults.Memory) ⊥ stop.why };
+
+    fn from(fault: ExtractFault) -> Stop {
+        let why = match fault {
+            ExtractFault::Memory => Why::Memory,
+            ExtractFault::NoSchedule => Why::Left,
+        };
+        Stop { why }
+    }
+}

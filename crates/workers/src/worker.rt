@@ -1,0 +1,269 @@
+//! One worker.
+
+use crate::branching::branching_variable;
+use crate::gate::Gate;
+use crate::numbers::{line_number, number_of};
+use crate::queue::Cubes;
+use crate::stop::Stop;
+use batches::{Batch, Hint};
+use cdcl::{Found, Solver};
+use clauses::{Assignment, Lit};
+use cubes::branching_variables;
+use encode::Encoded;
+use extract::schedule_of;
+use pages::Lines;
+use pool::{Share, SplitFault, Status, Why};
+use std::alloc::{AllocError, Global};
+use std::sync::Wait;
+
+/// How many conflicts one search counts at most.
+const MOST_CONFLICTS: u64 = 2_000;
+
+/// What comes after a search below a cube.
+enum Next {
+    /// The cube is done: it is closed, or split, or a schedule was found below it.
+    Another,
+    /// The cube is searched on.
+    Same,
+}
+
+/// What a worker knows, and what it may still do.
+#[derive(Drop)]
+struct Worker<'e> {
+    alloc: Global,
+    encoded: &'e Encoded,
+    solver: Solver<'e>,
+    /// The variables that cubes are split on, those that come first first.
+    variables: Vec<u32>,
+    /// How many lines of the log the solver was told.
+    seen: usize,
+    /// How many conflicts may still be counted.
+    left: u64,
+}
+
+/// Whether there is nothing more to search for: a schedule was found, or no leaf is open.
+fn is_over(status: &Status) -> bool {
+    status.is_found || status.open_leaves == 0
+}
+
+/// The cube that isn't done, or else the next one, before which the gate is called; none where there is none now.
+fn cube_after<C: Cubes, G: Gate>(
+    current: Option<u32>,
+    cubes: &mut C,
+    gate: &G,
+    worker: u32,
+) -> Option<u32> {
+    if current.is_some() {
+        return current;
+    }
+    let cube = cubes.take()?;
+    gate.before(worker, cube);
+    Some(cube)
+}
+
+/// Puts a cube in; that there is no room for it counts as want of memory.
+fn put<C: Cubes>(cubes: &mut C, cube: u32) -> Result<(), Stop> {
+    match cubes.put(cube) {
+        Ok(()) => Ok(()),
+        Err(_cube) => Err(Stop { why: Why::Memory }),
+    }
+}
+
+impl<'e> Worker<'e> {
+    fn new(alloc: Global, encoded: &'e Encoded, budget: u32) -> Result<Worker<'e>, AllocError> {
+        let variables = branching_variables(alloc, encoded)?;
+        let solver = Solver::new(alloc, encoded.formula(), &variables)?;
+        Ok(Worker {
+            alloc,
+            encoded,
+            solver,
+            variables,
+            seen: 0,
+            left: u64::from(budget),
+        })
+    }
+
+    /// Tells the solver these lines, which stand in the log after those that it was told.
+    fn import(&mut self, lines: &Lines) -> Result<(), Stop> {
+        let clauses = self.encoded.formula().len();
+        for place in 0..lines.len() {
+            let Some(line) = lines.get(place) else {
+                unreachable!()
+            };
+            let number = line_number(clauses, self.seen.saturating_add(place));
+            self.solver.import(self.alloc, number, line.clause())?;
+        }
+        self.seen = self.seen.saturating_add(lines.len());
+        Ok(())
+    }
+
+    /// Searches below the path for at most [`MOST_CONFLICTS`] conflicts, and at most those that are left.
+    fn search(&mut self, path: &[Lit]) -> Result<Found, Stop> {
+        let budget = self.left.min(MOST_CONFLICTS);
+        let found = self.solver.search(self.alloc, path, budget)?;
+        self.left = self.left.saturating_sub(self.solver.conflicts());
+        Ok(found)
+    }
+
+    /// Publishes the lines of a cube that is refuted, and closes it by the clause that refutes it.
+    fn close<S: Share, R: Wait>(
+        &self,
+        rt: &R,
+        shared: &S,
+        seat: &mut S::Seat,
+        cube: u32,
+        batch: &Batch,
+        last: Hint,
+    ) -> Result<(), Stop> {
+        let base = shared.publish(rt, self.alloc, seat, batch)?;
+        shared.close(rt, seat, cube, number_of(base, last))?;
+        Ok(())
+    }
+
+    /// Hands in the schedule that the assignment tells.
+    fn tell<S: Share, R: Wait>(
+        &self,
+        rt: &R,
+        shared: &S,
+        seat: &mut S::Seat,
+        assignment: &Assignment,
+    ) -> Result<(), Stop> {
+        let steps = schedule_of(self.alloc, self.encoded, assignment)?;
+        shared.found(rt, self.alloc, seat, steps)?;
+        Ok(())
+    }
+
+    /// Splits a cube with this path, and puts both halves in; searches it on where there is no variable to split on, or no
+    /// room in the tree.
+    fn split<S: Share, C: Cubes, R: Wait>(
+        &self,
+        rt: &R,
+        shared: &S,
+        seat: &mut S::Seat,
+        cubes: &mut C,
+        cube: u32,
+        path: &[Lit],
+    ) -> Result<Next, Stop> {
+        let count = self.encoded.formula().variables();
+        let Some(variable) = branching_variable(path, &self.variables, count) else {
+            return Ok(Next::Same);
+        };
+        match shared.split_leaf(rt, self.alloc, seat, cube, variable) {
+            Ok((if_true, if_false)) => {
+                put(cubes, if_true)?;
+                put(cubes, if_false)?;
+                Ok(Next::Another)
+            }
+            Err(SplitFault::Full) => Ok(Next::Same),
+            Err(fault) => Err(Stop::from(fault)),
+        }
+    }
+
+    /// One search below a cube, with all lines that the log has by now.
+    fn step<S: Share, C: Cubes, R: Wait>(
+        &mut self,
+        rt: &R,
+        shared: &S,
+        seat: &mut S::Seat,
+        cubes: &mut C,
+        cube: u32,
+    ) -> Result<Next, Stop> {
+        let lines = shared.fetch(rt, self.alloc, seat, self.seen)?;
+        self.import(&lines)?;
+        let path = shared.path(rt, self.alloc, cube)?;
+        match self.search(&path)? {
+            Found::Closed(batch, last) => {
+                self.close(rt, shared, seat, cube, &batch, last)?;
+                Ok(Next::Another)
+            }
+            Found::Model(assignment) => {
+                self.tell(rt, shared, seat, &assignment)?;
+                Ok(Next::Another)
+            }
+            Found::Budget(batch) => {
+                shared.publish(rt, self.alloc, seat, &batch)?;
+                if self.left == 0 {
+                    return Err(Stop { why: Why::Budget });
+                }
+                self.split(rt, shared, seat, cubes, cube, &path)
+            }
+        }
+    }
+
+    /// Searches below one cube after another, until the search is over or there is no cube.
+    fn run<S: Share, C: Cubes, G: Gate, R: Wait>(
+        &mut self,
+        rt: &R,
+        shared: &S,
+        seat: &mut S::Seat,
+        cubes: &mut C,
+        gate: &G,
+        worker: u32,
+    ) -> Result<(), Stop> {
+        let mut current = None;
+        for _ in rt.forever() {
+            if is_over(&shared.status(rt)) {
+                return Ok(());
+            }
+            let Some(cube) = cube_after(current, cubes, gate, worker) else {
+                return Ok(());
+            };
+            current = match self.step(rt, shared, seat, cubes, cube)? {
+                Next::Another => None,
+                Next::Same => Some(cube),
+            };
+        }
+        unreachable!()
+    }
+}
+
+/// Why the worker leaves; none where it is done.
+fn reason<S: Share, C: Cubes, G: Gate, R: Wait>(
+    rt: &R,
+    alloc: Global,
+    encoded: &Encoded,
+    shared: &S,
+    seat: &mut S::Seat,
+    cubes: &mut C,
+    gate: &G,
+    worker: u32,
+    budget: u32,
+) -> Option<Why> {
+    let Ok(mut search) = Worker::new(alloc, encoded, budget) else {
+        return Some(Why::Memory);
+    };
+    match search.run(rt, shared, seat, cubes, gate, worker) {
+        Ok(()) => None,
+        Err(stop) => Some(stop.why),
+    }
+}
+
+/// Searches below one cube after another, and tells the share what it found: lines, a clause for each cube that is refuted,
+/// the two halves of a cube that took too long, and the schedule of an assignment that satisfies the formula. `encoded` is the
+/// program that is shared, with its formula. The gate is called before each cube with this number of the worker.
+///
+/// A search counts at most 2,000 conflicts, and all of them at most as many as the budget; after each the cube is closed,
+/// split or, where the tree has no room, searched on. A cube is split on the match variable that comes first in the branching
+/// order and isn't on its path; where all are on it, on the formula's first variable that isn't.
+///
+/// The worker leaves with no reason once a schedule was found, no leaf is open or no cube is left. It
+/// leaves with [`Why::Budget`] once the budget is used up and the cube is open, with [`Why::Full`] where the log is full, with
+/// [`Why::Memory`] where memory ran out or a cube had no room, and with [`Why::Left`] where something was refused that an
+/// honest share takes. The answer is that of its last call, by which it leaves. It goes on as long as the share and the cubes
+/// let it.
+pub fn work<S: Share, C: Cubes, G: Gate, R: Wait>(
+    rt: &R,
+    alloc: Global,
+    encoded: &Encoded,
+    shared: &S,
+    seat: &mut S::Seat,
+    cubes: &mut C,
+    gate: &G,
+    worker: u32,
+    budget: u32,
+) -> Result<(), AllocError> {
+    let why = reason(
+        rt, alloc, encoded, shared, seat, cubes, gate, worker, budget,
+    );
+    shared.leave(rt, seat, why)
+}

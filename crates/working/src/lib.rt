@@ -1,0 +1,5 @@
+//! Tests of a worker, over a pool under a lock.
+#![tactic(auto)]
+
+#[cfg(test)]
+mod tests;

@@ -1,0 +1,284 @@
+//! In the programs' texts `/` stands for the end of a line.
+mod fake;
+
+use callorder::Program;
+use calltext::read;
+use candidates::pairs;
+use checker::{Verdict, verdict};
+use cubes::split;
+use encode::{Encoded, encode};
+use fake::{Fake, Lie};
+use nonovertake::earlier;
+use pool::{Pool, Share, Status, Why};
+use prooflog::{Evidence, write_evidence};
+use std::alloc::Global;
+use std::sync::atomic::{AtomicU64, Ordering};
+use std::sync::{Mutex, Wait};
+use std::test::Fail;
+use std::thread::Threads;
+use workers::{Cubes, Gate, Queue, work};
+
+/// More conflicts than any search here needs.
+const ENOUGH: u32 = 1_000_000;
+
+/// A program without deadlock.
+const RELAY: &str =
+    "ranks 3/policy none/rank 0/send 1 1/send 2 1/rank 1/send 2 1/recv 0 1/rank 2/recv * 1/recv 0 1/";
+
+/// Seven ranks that each send to one rank. It has no deadlock, but that takes more conflicts than one search counts.
+const SENDERS: &str =
+    "ranks 8/policy none/rank 0/recv * 1/recv * 1/recv * 1/recv * 1/recv * 1/recv * 1/recv * 1/rank 1/send 0 1/rank 2/send 0 1/rank 3/send 0 1/rank 4/send 0 1/rank 5/send 0 1/rank 6/send 0 1/rank 7/send 0 1/";
+
+/// A program and what is shown of it.
+const PROGRAMS: &str =
+    "ranks 2/policy any/rank 0/send 1 1/recv 1 1/rank 1/send 0 1/recv 0 1/ | deadlock
+ranks 2/policy all/rank 0/send 1 1/recv 1 1/rank 1/send 0 1/recv 0 1/ | no deadlock
+ranks 3/policy any/rank 0/send 1 1/rank 1/recv * 1/recv 0 1/rank 2/send 1 1/ | deadlock
+ranks 3/policy none/rank 0/send 1 1/send 2 1/rank 1/send 2 1/recv 0 1/rank 2/recv * 1/recv 0 1/ | no deadlock
+ranks 3/policy any/rank 0/send 1 1/send 2 1/rank 1/send 2 1/recv 0 1/rank 2/recv * 1/recv 0 1/ | deadlock
+ranks 1/policy any/rank 0/bsend 0 1/ | no deadlock
+ranks 1/policy any/rank 0/ | no deadlock";
+
+/// Counts the cubes.
+#[derive(Drop)]
+struct Counter {
+    cubes: AtomicU64,
+}
+
+impl Gate for Counter {
+    fn before(&self, _worker: u32, _cube: u32) {
+        self.cubes.fetch_add(1, Ordering::SeqCst);
+    }
+}
+
+/// Cubes with no room for more.
+#[derive(Drop)]
+struct Narrow {
+    cubes: Queue,
+}
+
+impl Cubes for Narrow {
+    fn take(&mut self) -> Option<u32> {
+        self.cubes.take()
+    }
+
+    fn put(&mut self, cube: u32) -> Result<(), u32> {
+        Err(cube)
+    }
+}
+
+/// What a search came to.
+#[derive(Clone, Copy, Debug, PartialEq, Eq)]
+struct Outcome {
+    status: Status,
+    is_refuted: bool,
+    /// How many cubes the worker took.
+    cubes: u64,
+}
+
+fn encoded(rt: &(impl Threads + Sync), alloc: Global, text: &str) -> Result<Encoded, Fail> {
+    let text = text.replace(alloc, '/', "\n")?;
+    let source = read(alloc, text.as_bytes())?;
+    let program = Program::resolve(alloc, &source)?;
+    let pairs = pairs(alloc, &program)?;
+    let earlier = earlier(rt, alloc, &program, &pairs)?;
+    match encode(alloc, program, pairs, &earlier) {
+        Ok(encoded) => Ok(encoded),
+        Err(refused) => Err(Fail::from(refused.fault)),
+    }
+}
+
+/// A share of the pool of a program with a tree of this depth.
+fn opened(
+    rt: &(impl Threads + Sync),
+    alloc: Global,
+    text: &str,
+    depth: u32,
+    lie: Lie,
+) -> Result<Fake, Fail> {
+    let encoded = encoded(rt, alloc, text)?;
+    let tree = split(alloc, &encoded, depth)?;
+    if tree.variables() != encoded.formula().variables() {
+        return Err(Fail::from("another formula"));
+    }
+    let pool = Mutex::new(Pool::new(alloc, encoded, tree)?);
+    Ok(Fake { pool, lie })
+}
+
+/// All open leaves, in the order of their numbers, of which a tree of depth 4 has none from 31 on.
+fn leaves(rt: &impl Wait, alloc: Global, share: &Fake) -> Result<Queue, Fail> {
+    let mut cubes = Queue::new(alloc);
+    for node in 0..31 {
+        let is_open = share.pool.lock(rt).path(alloc, node).is_ok();
+        if is_open && cubes.put(node).is_err() {
+            return Err(Fail::from("no memory"));
+        }
+    }
+    Ok(cubes)
+}
+
+/// Has one worker search over the share, and answers how many cubes it took.
+fn worked<R: Threads + Wait + Sync, C: Cubes>(
+    rt: &R,
+    alloc: Global,
+    text: &str,
+    share: &Fake,
+    cubes: &mut C,
+    budget: u32,
+) -> Result<u64, Fail> {
+    let encoded = encoded(rt, alloc, text)?;
+    let gate = Counter {
+        cubes: AtomicU64::new(0),
+    };
+    let mut seat = 0;
+    work(
+        rt, alloc, &encoded, share, &mut seat, cubes, &gate, 0, budget,
+    )?;
+    Ok(gate.cubes.load(Ordering::SeqCst))
+}
+
+/// Whether the share has a refutation.
+fn is_refuted(rt: &impl Wait, alloc: Global, share: &Fake) -> bool {
+    match share.assemble(rt, alloc) {
+        Ok(Evidence::Refutation(_refutation)) => true,
+        _ => false,
+    }
+}
+
+/// What one worker comes to that begins with a tree of this depth.
+fn searched<R: Threads + Wait + Sync>(
+    rt: &R,
+    alloc: Global,
+    text: &str,
+    depth: u32,
+    lie: Lie,
+    budget: u32,
+) -> Result<Outcome, Fail> {
+    let share = opened(rt, alloc, text, depth, lie)?;
+    let mut cubes = leaves(rt, alloc, &share)?;
+    let count = worked(rt, alloc, text, &share, &mut cubes, budget)?;
+    Ok(Outcome {
+        status: share.status(rt),
+        is_refuted: is_refuted(rt, alloc, &share),
+        cubes: count,
+    })
+}
+
+/// Why the worker leaves a share that lies.
+fn left_for<R: Threads + Wait + Sync>(
+    rt: &R,
+    alloc: Global,
+    lie: Lie,
+) -> Result<Option<Why>, Fail> {
+    let outcome = searched(rt, alloc, RELAY, 4, lie, ENOUGH)?;
+    Ok(outcome.status.why)
+}
+
+/// The text of the share's evidence.
+fn evidence_of(rt: &impl Wait, alloc: Global, share: &Fake) -> Result<Vec<u8>, Fail> {
+    let evidence = share.assemble(rt, alloc)?;
+    Ok(write_evidence(alloc, &evidence)?)
+}
+
+/// What the evidence that one worker comes to shows of a program.
+fn shown<R: Threads + Wait + Sync>(
+    rt: &R,
+    alloc: Global,
+    text: &str,
+) -> Result<&'static str, Fail> {
+    let share = opened(rt, alloc, text, 4, Lie::Nothing)?;
+    let mut cubes = leaves(rt, alloc, &share)?;
+    worked(rt, alloc, text, &share, &mut cubes, ENOUGH)?;
+    let evidence = evidence_of(rt, alloc, &share)?;
+    let text = text.replace(alloc, '/', "\n")?;
+    match verdict(rt, alloc, text.as_bytes(), evidence.as_slice()) {
+        Verdict::NoDeadlock => Ok("no deadlock"),
+        Verdict::Deadlock => Ok("deadlock"),
+        Verdict::Refused(_reason) => Ok("refused"),
+    }
+}
+
+#[test]
+fn programs_are_decided(rt: HostRuntime) -> Result<(), Fail> {
+    let alloc = rt.alloc();
+    for row in PROGRAMS.lines() {
+        let (text, expected) = row.split_once(" | ").ok_or("a row lacks a column")?;
+        assert_eq!(rt; shown(&rt, alloc, text)?, expected, "{text}");
+    }
+    Ok(())
+}
+
+#[test]
+fn the_first_in_is_the_first_out(rt: HostRuntime) -> Result<(), Fail> {
+    let mut cubes = Queue::new(rt.alloc());
+    assert_eq!(rt; cubes.take(), None);
+    for cube in [5, 0, 4_294_967_295] {
+        assert_eq!(rt; cubes.put(cube), Ok(()));
+    }
+    assert_eq!(rt; (cubes.take(), cubes.take()), (Some(5), Some(0)));
+    assert_eq!(rt; cubes.put(7), Ok(()));
+    assert_eq!(rt;
+        (cubes.take(), cubes.take()),
+        (Some(4_294_967_295), Some(7))
+    );
+    assert_eq!(rt; cubes.take(), None);
+    Ok(())
+}
+
+#[test]
+fn nothing_without_budget(rt: HostRuntime) -> Result<(), Fail> {
+    let outcome = searched(&rt, rt.alloc(), RELAY, 1, Lie::Nothing, 0)?;
+    assert!(rt; !outcome.status.is_found && !outcome.is_refuted);
+    assert_eq!(rt; outcome.status.open_leaves, 2);
+    assert_eq!(rt; outcome.status.why, Some(Why::Budget));
+    assert_eq!(rt; outcome.cubes, 1);
+    Ok(())
+}
+
+#[test]
+fn nothing_is_searched_after_a_schedule(rt: HostRuntime) -> Result<(), Fail> {
+    let text = "ranks 3/policy any/rank 0/send 1 1/rank 1/recv * 1/recv 0 1/rank 2/send 1 1/";
+    let outcome = searched(&rt, rt.alloc(), text, 4, Lie::Nothing, ENOUGH)?;
+    let left = outcome.status.open_leaves;
+    assert!(rt; outcome.status.is_found && left > 0);
+    assert_eq!(rt; outcome.cubes.saturating_add(u64::from(left)), 9);
+    Ok(())
+}
+
+#[test]
+fn refusals_are_left(rt: HostRuntime) -> Result<(), Fail> {
+    let alloc = rt.alloc();
+    for lie in [Lie::ForeignLine, Lie::NeverOpen, Lie::NeverDerived] {
+        assert_eq!(rt; left_for(&rt, alloc, lie)?, Some(Why::Left), "{lie:?}");
+    }
+    assert_eq!(rt; left_for(&rt, alloc, Lie::FullLog)?, Some(Why::Full));
+    assert_eq!(rt; left_for(&rt, alloc, Lie::NoMemory)?, Some(Why::Memory));
+    let outcome = searched(&rt, alloc, RELAY, 4, Lie::Forgetful, ENOUGH)?;
+    assert!(rt; !outcome.status.is_found);
+    Ok(())
+}
+
+#[test]
+fn halves_without_room_are_want_of_memory(rt: HostRuntime) -> Result<(), Fail> {
+    let alloc = rt.alloc();
+    let share = opened(&rt, alloc, SENDERS, 0, Lie::Nothing)?;
+    let cubes = leaves(&rt, alloc, &share)?;
+    let mut cubes = Narrow { cubes };
+    let count = worked(&rt, alloc, SENDERS, &share, &mut cubes, ENOUGH)?;
+    assert_eq!(rt; count, 1);
+    assert_eq!(rt; share.status(&rt).why, Some(Why::Memory));
+    Ok(())
+}
+
+#[test]
+fn long_searches_split_cubes(rt: HostRuntime) -> Result<(), Fail> {
+    let alloc = rt.alloc();
+    let split = searched(&rt, alloc, SENDERS, 0, Lie::Nothing, ENOUGH)?;
+    assert!(rt; split.is_refuted && split.cubes > 1);
+    let whole = searched(&rt, alloc, SENDERS, 0, Lie::NoRoom, ENOUGH)?;
+    assert!(rt; whole.is_refuted && whole.cubes == 1);
+    let cut = searched(&rt, alloc, SENDERS, 0, Lie::Nothing, 3_000)?;
+    assert!(rt; !cut.is_refuted && cut.cubes > 1);
+    assert_eq!(rt; cut.status.why, Some(Why::Budget));
+    Ok(())
+}
