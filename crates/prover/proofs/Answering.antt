@@ -1,49 +1,68 @@
--- What a pool's answer says of the program's text, after the walks.
-use Rattle.std.proofs.Common.{◌≡◌, ℕ, zero, suc, ◌<◌, ◌⊎◌, inl, inr, List, [], ◌∷◌, slice_index_or, Some, None, sym, ap, ◌∙◌, subst, arith}
-use Rattle.std.specs.Prelude.{IsNone, Contains}
+-- What an evidence, and the end of a search, say of the program's text.
+use Rattle.std.proofs.Common.{◌≡◌, ◌<◌, ◌⊎◌, inl, inr, ℕ, List, ap, subst, sym, ◌∙◌, length}
 use Rattle.callorder.specs.Programs.{MpiProgram}
 use Rattle.callorder.specs.Resolving.{IsTextOf}
-use Rattle.pool.specs.declared.why.Why.{Why}
-use Rattle.pool.specs.declared.why.Why.TheVariants as whys
-use Rattle.pool.specs.PoolStates.{PoolState, IsSmallest}
-use Rattle.semantics.specs.declared.state.Step.{Step}
-use Rattle.semantics.specs.Machine.{IsStuckRun, IsFinishedRun}
+use Rattle.clauses.specs.Clauses.{Conjunction}
+use Rattle.formulas.specs.Numbering.{formula_of}
+use Rattle.refutations.specs.Refutations.{Accepts}
+use Rattle.prooflog.specs.Refutations.{ClaimedRefutation}
+use Rattle.prooflog.specs.Grammar.{IsEvidenceText}
+use Rattle.prooflog.specs.declared.evidence.Evidence.{Evidence}
+use Rattle.prooflog.specs.declared.evidence.Evidence.TheVariants.{Schedule, Refutation}
+use Rattle.checker.specs.Verdicts.{IsNeverStuck, IsRefutedBy, Refutes, HasFormula}
+use Rattle.checker.proofs.Headlines.{refuted_are_never_stuck}
+use Rattle.pool.specs.States.{Held, IsAssembled}
 use Rattle.prover.specs.declared.answer.Answer.{Answer}
 use Rattle.prover.specs.declared.answer.Answer.TheVariants as answers
-use Rattle.prover.specs.Answers.{Answers}
-use Rattle.prover.specs.Searches.{AnswersPool, HasWalked}
+use Rattle.prover.specs.Answers.{CanFinish, FinishesIfUnknown}
+use Rattle.encode.specs.Encodings.{EncodedProgram}
+use Rattle.prover.specs.Searches.{HasFinishedRun, IsEvidenceOn, IsFormulaOf, IsOver}
 
--- a pool in which nothing was found
-abbrev pub fresh : MpiProgram → PoolState
-fresh p = record { program = p; schedule = None; reasons = [] }
+-- the text of a refutation of the program's formula, and what it says
+pub refuted : (text evidence : List ℕ) (p : MpiProgram) (claim : ClaimedRefutation) → IsTextOf text p → IsEvidenceText evidence (Refutation claim) → IsRefutedBy p claim
+    → IsNeverStuck text × Refutes text evidence
+refuted text evidence p claim is_text is_evidence by =
+    let refutes : Refutes text evidence = record { p = p; claim = claim; text = is_text; refutation = is_evidence; holds = by } in
+    (refuted_are_never_stuck text evidence refutes, refutes)
 
-alone : (why other : Why) (k : ℕ) → k < 1 → slice_index_or (other ∷ []) k why ≡ why → why ≡ other
-alone why other zero within at = sym at
-alone why other (suc k) within at = absurd (omega arith)
+-- what a pool assembles
+pub assembled : (held : Held) (evidence : Evidence) → IsOver held → IsAssembled held evidence → IsEvidenceOn held.program evidence
+assembled held (Schedule steps) over is = is.1
+assembled held (Refutation claim) over is =
+    record {
+      counts = record {
+        formula = over.within;
+        variables = is.variables ∙ ap (λ (f : Conjunction). f.variables) over.formula_is;
+        clauses = is.clauses ∙ ap (λ (f : Conjunction). length f.clauses) over.formula_is;
+      };
+      accepted = subst (λ (f : Conjunction). Accepts f claim.lines claim.nodes) over.formula_is is.accepted;
+    }
 
-only_one : (reasons : List Why) (why other : Why) → reasons ≡ other ∷ [] → Contains reasons why → why ≡ other
-only_one reasons why other is there =
-    let c : Contains (other ∷ []) why = subst (λ (r : List Why). Contains r why) is there in
-    alone why other c.0 c.1 c.2
+-- any answer to a program that can finish
+pub finishes : (budget : ℕ) (text : List ℕ) (answer : Answer) → (0 < budget → CanFinish text) → FinishesIfUnknown budget text answer
+finishes budget text (answers.Unknown why) can = inr can
+finishes budget text (answers.NoDeadlock evidence) can = tt
+finishes budget text (answers.Deadlock evidence) can = tt
+finishes budget text (answers.Refused reason) can = tt
 
-same_program : (p : MpiProgram) (new : PoolState) → HasWalked (fresh p) new → new.program ≡ p
-same_program p new (inl (steps, stuck, is)) = ap (λ (s : PoolState). s.program) is
-same_program p new (inr (steps, finished, is)) = ap (λ (s : PoolState). s.program) is
+pub can_finish : (text : List ℕ) (p : MpiProgram) → IsTextOf text p → HasFinishedRun p → CanFinish text
+can_finish text p is_text has = record { p = p; steps = has.0; text = is_text; finished = has.1 }
 
-unknown : (p : MpiProgram) (new : PoolState) (why : Why) → HasWalked (fresh p) new → IsNone new.schedule → IsSmallest new.reasons (Some why) ⊎ (new.reasons ≡ [])
-    → (why ≡ whys.Budget) × ((steps : List Step) × IsFinishedRun p steps)
-unknown p new why (inl (steps, stuck, is)) none reasons = let never : IsNone (Some steps) = subst (λ (s : PoolState). IsNone s.schedule) is none in absurd cc
-unknown p new why (inr (steps, finished, is)) none (inl smallest) =
-    (only_one new.reasons why whys.Budget (ap (λ (s : PoolState). s.reasons) is) smallest.0, (steps, finished))
-unknown p new why (inr (steps, finished, is)) none (inr empty) =
-    absurd (let both : whys.Budget ∷ [] ≡ [] = sym (ap (λ (s : PoolState). s.reasons) is) ∙ empty in cc)
+-- the formula that is made of the program of a text
+pub formula_made : (text : List ℕ) (p : MpiProgram) (encoded : EncodedProgram) → IsTextOf text p → encoded.program ≡ p → encoded.formula ≡ formula_of p → HasFormula p → IsFormulaOf text encoded
+formula_made text p encoded is_text same formula within =
+    record {
+      of = subst (IsTextOf text) (sym same) is_text;
+      formula_is = formula ∙ ap formula_of (sym same);
+      within = subst HasFormula (sym same) within;
+    }
 
--- the answer to a program's text is that of the pool after the walks
-pub answered : (program : List ℕ) (p : MpiProgram) (new : PoolState) (answer : Answer) → IsTextOf program p → HasWalked (fresh p) new → AnswersPool new answer → Answers program answer
-answered program p new (answers.NoDeadlock evidence) text walked none = none
-answered program p new (answers.Deadlock evidence) text walked (steps, schedule, stuck) =
-    record { p = p; steps = steps; text = text; schedule = schedule; stuck = subst (λ (q : MpiProgram). IsStuckRun q steps) (same_program p new walked) stuck }
-answered program p new (answers.Unknown why) text walked (inl memory) = inl memory
-answered program p new (answers.Unknown why) text walked (inr (none, reasons)) =
-    let u = unknown p new why walked none reasons in inr (u.0, p, u.1.0, text, u.1.1)
-answered program p new (answers.Refused reason) text walked none = absurd none
+-- a pool over that program and that formula
+pub over_made : (p : MpiProgram) (encoded : EncodedProgram) (held : Held) → encoded.program ≡ p → encoded.formula ≡ formula_of p → HasFormula p
+    → held.program ≡ encoded.program → held.formula ≡ encoded.formula → IsOver held
+over_made p encoded held same formula within program kept =
+    let is : held.program ≡ p = program ∙ same in
+    record {
+      formula_is = kept ∙ formula ∙ ap formula_of (sym is);
+      within = subst HasFormula (sym is) within;
+    }

@@ -1,5 +1,5 @@
 -- What the prover's answers say of a program's text.
-use Rattle.std.specs.Prelude.{◌≡◌, ◌≢◌, ◌⊎◌, ℕ, false, List}
+use Rattle.std.specs.Prelude.{◌≡◌, ◌≢◌, ◌⊎◌, ◌<◌, ℕ, false, List}
 use Rattle.callorder.specs.Programs.{MpiProgram}
 use Rattle.callorder.specs.Resolving.{IsTextOf}
 use Rattle.pool.specs.declared.why.Why.TheVariants as whys
@@ -9,22 +9,12 @@ use Rattle.formulas.specs.Numbering.{formula_of}
 use Rattle.prooflog.specs.FormulaText.{formula_text}
 use Rattle.checker.specs.declared.reason.Reason.{Reason}
 use Rattle.checker.specs.declared.reason.Reason.TheVariants as reasons
-use Rattle.checker.specs.Verdicts.{Shows, HasFormula, HasNoFormula, IsARefutation, IsReason, IsProgramReason, is_of_refutation}
+use Rattle.checker.specs.Verdicts.{IsNeverStuck, Refutes, Shows, HasFormula, HasNoFormula, IsARefutation, IsReason, IsProgramReason, is_of_refutation}
 use Rattle.prover.specs.declared.answer.Answer.{Answer}
 use Rattle.prover.specs.declared.answer.Answer.TheVariants as answers
 use Rattle.prover.specs.Telling.{told_run}
 use Rattle.prover.specs.declared.steps.Replayed.{Replayed}
 use Rattle.prover.specs.declared.steps.Replayed.TheVariants as replays
-
--- A deadlock comes with the text of an evidence that shows it. A program is refused for a fault of its own text, and
--- never for want of memory. Where no answer is known, the reason is want of memory; or the search is used up, and then
--- the text is a program's, of which some run ends with all ranks finished. That there is no deadlock isn't answered yet.
-abbrev pub Answers : List ℕ → Answer → Type 0
-Answers program (answers.NoDeadlock evidence) = ⊥
-Answers program (answers.Deadlock evidence) = Shows program evidence.items
-Answers program (answers.Unknown why) =
-    (why ≡ whys.Memory) ⊎ ((why ≡ whys.Budget) × (p : MpiProgram) × (steps : List Step) × IsTextOf program p × IsFinishedRun p steps)
-Answers program (answers.Refused reason) = IsProgramReason program reason × (reason ≢ reasons.Memory)
 
 -- A replay that ends stuck is one of a schedule that shows a deadlock, and tells its steps. Else it is told that the
 -- evidence is no schedule, or the first reason why it shows none.
@@ -43,3 +33,28 @@ pub record HasFormulaText (program text : List ℕ) : Type 0 where
 -- why a program's text has no formula's text: it is refused, or its program has no formula within the limits
 abbrev pub HasNoFormulaText : List ℕ → Reason → Type 0
 HasNoFormulaText program reason = IsProgramReason program reason ⊎ ((p : MpiProgram) × IsTextOf program p × HasNoFormula reason p)
+
+-- Where there is no deadlock, no run of the program ends stuck, and the evidence is the text of a refutation of its formula. A deadlock
+-- comes with the text of a schedule that is a run of the program that ends stuck. Each evidence is such that the checker accepts it, want of
+-- memory aside. A program is refused for a fault of its own text, or as one whose formula is beyond a limit, and never for want of memory. Where no
+-- answer is known, the reason is want of memory; or the text is a program's, whose formula is within the limits.
+abbrev pub Answers : List ℕ → Answer → Type 0
+Answers program (answers.NoDeadlock evidence) = IsNeverStuck program × Refutes program evidence.items
+Answers program (answers.Deadlock evidence) = Shows program evidence.items
+Answers program (answers.Unknown why) = (why ≡ whys.Memory) ⊎ ((p : MpiProgram) × IsTextOf program p × HasFormula p)
+Answers program (answers.Refused reason) = HasNoFormulaText program reason × (reason ≢ reasons.Memory)
+
+-- some run of the program ends with all ranks finished
+pub record CanFinish (program : List ℕ) : Type 0 where
+  pub p : MpiProgram
+  pub steps : List Step
+  pub text : IsTextOf program p
+  pub finished : IsFinishedRun p steps
+
+-- Where no answer is known for another reason than want of memory, and there was a budget to search with, some run of the program ends with
+-- all ranks finished.
+abbrev pub FinishesIfUnknown : ℕ → List ℕ → Answer → Type 0
+FinishesIfUnknown budget program (answers.Unknown why) = (why ≡ whys.Memory) ⊎ (0 < budget → CanFinish program)
+FinishesIfUnknown budget program (answers.NoDeadlock evidence) = Unit {0}
+FinishesIfUnknown budget program (answers.Deadlock evidence) = Unit {0}
+FinishesIfUnknown budget program (answers.Refused reason) = Unit {0}

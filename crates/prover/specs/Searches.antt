@@ -1,26 +1,32 @@
--- What the parts of a search do to its pool, and what is answered then.
-use Rattle.std.specs.Prelude.{◌≡◌, ◌⊎◌, List, [], Some, IsNone}
-use Rattle.pool.specs.declared.why.Why.TheVariants as whys
-use Rattle.pool.specs.PoolStates.{PoolState, IsSmallest, with_schedule, with_reason}
+-- What the parts of a search hand on.
+use Rattle.std.specs.Prelude.{◌≡◌, ℕ, List}
+use Rattle.callorder.specs.Programs.{MpiProgram}
+use Rattle.callorder.specs.Resolving.{IsTextOf}
 use Rattle.semantics.specs.declared.state.Step.{Step}
 use Rattle.semantics.specs.Machine.{IsStuckRun, IsFinishedRun}
-use Rattle.prooflog.specs.declared.evidence.Evidence.TheVariants.{Schedule}
-use Rattle.prooflog.specs.Grammar.{IsEvidenceText}
-use Rattle.prover.specs.declared.answer.Answer.{Answer}
-use Rattle.prover.specs.declared.answer.Answer.TheVariants as answers
+use Rattle.formulas.specs.Numbering.{formula_of}
+use Rattle.encode.specs.Encodings.{EncodedProgram}
+use Rattle.prooflog.specs.declared.evidence.Evidence.{Evidence}
+use Rattle.prooflog.specs.declared.evidence.Evidence.TheVariants.{Schedule, Refutation}
+use Rattle.checker.specs.Verdicts.{HasFormula, IsRefutedBy}
+use Rattle.pool.specs.States.{Held}
 
--- the pool has the program as before, and keeps a walk that ends stuck; or all walks ended finished, and that the search is used up
--- is the one reason that was noted
-abbrev pub HasWalked : PoolState → PoolState → Type 0
-HasWalked old new =
-    ((steps : List Step) × IsStuckRun old.program steps × (new ≡ with_schedule old steps))
-    ⊎ ((steps : List Step) × IsFinishedRun old.program steps × (new ≡ with_reason old (Some whys.Budget)))
+-- this is the program of the text with its formula, which is within the limits
+pub record IsFormulaOf (text : List ℕ) (encoded : EncodedProgram) : Type 0 where
+  pub of : IsTextOf text encoded.program
+  pub formula_is : encoded.formula ≡ formula_of encoded.program
+  pub within : HasFormula encoded.program
 
--- A deadlock comes with the text of a schedule that is a stuck run of the pool's program. Where no answer is known, the reason is want
--- of memory; or the pool has no schedule, and the reason is the smallest that was noted, or that the search was left.
-abbrev pub AnswersPool : PoolState → Answer → Type 0
-AnswersPool state (answers.NoDeadlock evidence) = ⊥
-AnswersPool state (answers.Deadlock evidence) = (steps : List Step) × IsEvidenceText evidence.items (Schedule steps) × IsStuckRun state.program steps
-AnswersPool state (answers.Unknown why) =
-    (why ≡ whys.Memory) ⊎ (IsNone state.schedule × (IsSmallest state.reasons (Some why) ⊎ (state.reasons ≡ [])))
-AnswersPool state (answers.Refused reason) = ⊥
+-- the formula is the program's, and within the limits
+pub record IsOver (held : Held) : Type 0 where
+  pub formula_is : held.formula ≡ formula_of held.program
+  pub within : HasFormula held.program
+
+-- the evidence is a stuck run of the program, or a refutation of its formula
+abbrev pub IsEvidenceOn : MpiProgram → Evidence → Type 0
+IsEvidenceOn p (Schedule steps) = IsStuckRun p steps
+IsEvidenceOn p (Refutation claim) = IsRefutedBy p claim
+
+-- some run of the program ends with all ranks finished
+abbrev pub HasFinishedRun : MpiProgram → Type 0
+HasFinishedRun p = (steps : List Step) × IsFinishedRun p steps

@@ -1,12 +1,33 @@
-//! The text of a program's formula.
+//! The formula of a program's text.
 
 ghost use Rattle.std.specs.Prelude.{IfOk, IfErr};
 ghost use Rattle.prover.specs.Answers.{HasFormulaText, HasNoFormulaText};
+ghost use Rattle.prover.specs.Searches.{IsFormulaOf};
 
 use checker::{Reason, formula_of, program_of};
+use encode::Encoded;
 use prooflog::write_formula;
 use std::alloc::Global;
 use std::thread::Threads;
+
+/// The program of a text, with its formula, or the first reason why there is none.
+pub(crate) fn encoded_of(
+    rt: &(impl Threads + Sync),
+    alloc: Global,
+    program: &[u8],
+) -> Result<Encoded, Reason>
+    ensures encoded { IfOk result (IsFormulaOf program.now) }
+    ensures reason { IfErr result (HasNoFormulaText program.now) }
+{
+    let program = match program_of(alloc, program) {
+        Ok(program) => program,
+        Err(reason) => return Err(reason),
+    };
+    match formula_of(rt, alloc, program) {
+        Ok(encoded) => Ok(encoded),
+        Err(reason) => Err(reason),
+    }
+}
 
 /// The text of the formula of a program's text: the line `formula V C`, with the numbers of its variables and clauses,
 /// and a line for each clause, the word `clause` and its literals. A program's text is refused as `verdict` refuses it;
@@ -19,11 +40,7 @@ pub fn formula_text(
     ensures text { IfOk result (λ text. HasFormulaText program.now text.items) }
     ensures reason { IfErr result (λ reason. HasNoFormulaText program.now reason) }
 {
-    let program = match program_of(alloc, program) {
-        Ok(program) => program,
-        Err(reason) => return Err(reason),
-    };
-    let encoded = match formula_of(rt, alloc, program) {
+    let encoded = match encoded_of(rt, alloc, program) {
         Ok(encoded) => encoded,
         Err(reason) => return Err(reason),
     };

@@ -6,13 +6,16 @@ mod explore;
 mod formula;
 mod manner;
 mod options;
+mod proving;
+mod search;
 mod steps;
 mod walk;
 
-pub use answer::{Answer, Gate};
+pub use answer::Answer;
 pub use checker::{PieceGate, Reason, Verdict, verdict, verdict_in};
-pub use explore::prove;
 pub use formula::formula_text;
 pub use options::{Options, Pieces};
 pub use pool::Why;
+pub use proving::prove;
 pub use steps::{Replayed, replay};
+pub use workers::Gate;

@@ -14,9 +14,9 @@ use Rattle.prover.specs.Answers.{Replays}
 use Rattle.prover.specs.declared.steps.Replayed.{Replayed}
 use Rattle.prover.specs.declared.steps.Replayed.TheVariants as replays
 use Rattle.session.specs.CommandLine.{AskFor}
-use Rattle.session.specs.Deadlocks.{CheckedDeadlockIsShown, CheckedSafetyIsPrinted, CheckedSafetyIsTrue, IsRightlyTold, ProvedDeadlockIsShown, RefutedIsChecked, ReplayedDeadlockIsShown, ShownDeadlockIsChecked, ShownDeadlockIsReplayed, TellsDeadlock, ToldDeadlockIsShown, WrittenDeadlockIsShown}
+use Rattle.session.specs.Deadlocks.{CheckedDeadlockIsShown, CheckedSafetyIsPrinted, CheckedSafetyIsTrue, IsRightlyTold, ProvedDeadlockIsShown, ProvedSafetyIsPrinted, ProvedSafetyIsTrue, RefutedIsChecked, ReplayedDeadlockIsShown, ShownDeadlockIsChecked, ShownDeadlockIsReplayed, TellsDeadlock, ToldDeadlockIsShown, WrittenDeadlockIsShown, WrittenSafetyIsRefuted}
 use Rattle.session.specs.Endings.{Complains, Ends, EndsUnasked, Explains, FailsEarly, Prints, PrintsAlone, RequestEnds}
-use Rattle.session.specs.Lines.{IsLine, early_line, memory_line, no_deadlock_line, told_of_verdict, told_status}
+use Rattle.session.specs.Lines.{IsLine, early_line, memory_line, no_deadlock_line, told_of_answer, told_of_verdict, told_status}
 use Rattle.session.specs.Pages.{IsChecked, IsEither, IsEncoded, IsProveFile, IsProved, IsReplayPage, IsReplayed}
 use Rattle.session.specs.declared.page.Want.{Want}
 use Rattle.session.specs.declared.page.Want.TheVariants as want
@@ -24,7 +24,7 @@ use Rattle.session.specs.declared.request.Request.{Request}
 use Rattle.session.specs.declared.request.Request.TheVariants as ask
 use Rattle.session.specs.declared.told.Told.TheVariants as told
 use Rattle.session.proofs.DeadlockLines.{PageTells, deadlock_page, deadlock_printed, deadlock_untold, formula_untold, help_untold, line_tells, safe_line, safety_page, safety_untold, zero_told}
-use Rattle.session.proofs.Deadlocks.{check_never, check_shows, file_shows, prove_shows, read_as_held, read_shows, replayed_shows}
+use Rattle.session.proofs.Deadlocks.{check_never, check_shows, file_refutes, file_shows, prove_never, prove_shows, read_as_held, read_shows, replayed_shows}
 use Rattle.session.proofs.Requests.{check_ends, prove_ends, replay_ends}
 
 -- a run that complains with another status tells no deadlock
@@ -136,21 +136,26 @@ safe_printed old new told_old told_new json text page_status status printed zero
   | inr part ↦ absurd (omega (arith, part.0, zero))
 ]
 
-safe_ended : (program_file evidence_file : Option (List ℕ)) (IsFile : List ℕ → Type 0) (json : Bool) (before after : List ℕ → Option (List ℕ)) (old new told_old told_new : Option (List ℕ)) (status : ℕ)
-    → Ends (IsChecked program_file evidence_file json) IsFile want.Refused json before after old new told_old told_new status → status ≡ 0
-    → PrintsAlone old new told_old told_new (no_deadlock_line json) 0 status
-safe_ended program_file evidence_file IsFile json before after old new told_old told_new status (inl page) zero =
-    safe_printed old new told_old told_new json page.0 page.1 status page.3 zero (safe_page program_file evidence_file json page.0 page.1 page.2)
-safe_ended program_file evidence_file IsFile json before after old new told_old told_new status (inr (inl memory)) zero = elim memory.1.0 [
+-- a run whose page with the status 0 is the line that tells that there is no deadlock
+safe_ended : (IsPage : List ℕ → ℕ → Type 0) (IsFile : List ℕ → Type 0) (w : Want) (json : Bool) (before after : List ℕ → Option (List ℕ)) (old new told_old told_new : Option (List ℕ)) (status : ℕ)
+    → ((text : List ℕ) (page_status : ℕ) → IsPage text page_status → page_status ≡ 0 → text ≡ no_deadlock_line json)
+    → Ends IsPage IsFile w json before after old new told_old told_new status → status ≡ 0 → PrintsAlone old new told_old told_new (no_deadlock_line json) 0 status
+safe_ended IsPage IsFile w json before after old new told_old told_new status safe (inl page) zero =
+    safe_printed old new told_old told_new json page.0 page.1 status page.3 zero (safe page.0 page.1 page.2)
+safe_ended IsPage IsFile w json before after old new told_old told_new status safe (inr (inl memory)) zero = elim memory.1.0 [
   | inl whole ↦ absurd (omega (arith, whole.0, zero))
   | inr part ↦ absurd (omega (arith, part.0, zero))
 ]
-safe_ended program_file evidence_file IsFile json before after old new told_old told_new status (inr (inr file)) zero = absurd (omega (arith, file.2.0, zero))
+safe_ended IsPage IsFile w json before after old new told_old told_new status safe (inr (inr file)) zero = absurd (omega (arith, file.2.0, zero))
 
 pub checked_safe : CheckedSafetyIsPrinted
 checked_safe words p e tells before after old new told_old told_new status asks ends zero =
     elim (check_ends words tells before after old new told_old told_new status p e asks ends) [
-      | inl ended ↦ (ended.0, safe_ended (before p) (before e) (IsEither p e) ended.0 before after old new told_old told_new status ended.1 zero)
+      | inl ended ↦ (
+        ended.0,
+        safe_ended (IsChecked (before p) (before e) ended.0) (IsEither p e) want.Refused ended.0 before after old new told_old told_new status
+            (safe_page (before p) (before e) ended.0) ended.1 zero,
+      )
       | inr fails ↦ absurd (omega (arith, fails.0, zero))
     ]
 
@@ -204,6 +209,41 @@ written words p file before after program old new told_old told_new status asks 
     let page = page_that_told (IsProved true before after p (Some file)) (IsProveFile p (Some file) before after) want.Unknown before after
     old new told_old told_new status (prove_ends words true before after old new told_old told_new status p (Some file) asks ends) says in
     file_shows before after p file page.0 page.1 page.2 program page.3 page.4 held
+
+pub proved_never : ProvedSafetyIsTrue
+proved_never words p out tells before after program old new told_old told_new status asks held ends says =
+    elim (prove_ends words tells before after old new told_old told_new status p out asks ends) [
+      | inl ended ↦
+          let page = safety_page (IsProved tells before after p out ended.0) (IsProveFile p out before after) want.Unknown ended.0 before after old new told_old told_new status ended.1 says in
+          prove_never tells before after p out ended.0 page.0 page.1 program page.2 page.3 held
+      | inr fails ↦ absurd (safety_untold old new status (λ zero. omega (arith, fails.0, zero)) fails.1 says)
+    ]
+
+pub written_never : WrittenSafetyIsRefuted
+written_never words p file before after program old new told_old told_new status asks held ends says =
+    elim (prove_ends words true before after old new told_old told_new status p (Some file) asks ends) [
+      | inl ended ↦
+          let page = safety_page (IsProved true before after p (Some file) ended.0) (IsProveFile p (Some file) before after) want.Unknown ended.0 before after old new told_old told_new status ended.1 says in
+          file_refutes before after p file ended.0 page.0 page.1 program page.2 page.3 held
+      | inr fails ↦ absurd (safety_untold old new status (λ zero. omega (arith, fails.0, zero)) fails.1 says)
+    ]
+
+proved_page : (tells : Bool) (before after : List ℕ → Option (List ℕ)) (path : List ℕ) (out : Option (List ℕ)) (json : Bool) (text : List ℕ) (status : ℕ)
+    → IsProved tells before after path out json text status → status ≡ 0 → text ≡ no_deadlock_line json
+proved_page tells before after path out json text status page zero =
+    let safe = zero_told (told_of_answer page.1) (sym page.5.3 ∙ zero) in
+    safe_line json text status (subst (λ t. IsLine t json text status) safe page.5)
+
+pub proved_safe : ProvedSafetyIsPrinted
+proved_safe words p out tells before after old new told_old told_new status asks ends zero =
+    elim (prove_ends words tells before after old new told_old told_new status p out asks ends) [
+      | inl ended ↦ (
+        ended.0,
+        safe_ended (IsProved tells before after p out ended.0) (IsProveFile p out before after) want.Unknown ended.0 before after old new told_old told_new status
+            (proved_page tells before after p out ended.0) ended.1 zero,
+      )
+      | inr fails ↦ absurd (omega (arith, fails.0, zero))
+    ]
 
 -- ---- any words
 

@@ -6,12 +6,15 @@ ghost use Rattle.session.specs.Deadlocks.{
   CheckedSafetyIsTrue,
   PlainWordsAreAnswered,
   ProvedDeadlockIsShown,
+  ProvedSafetyIsPrinted,
+  ProvedSafetyIsTrue,
   RefutedIsChecked,
   ReplayedDeadlockIsShown,
   ShownDeadlockIsChecked,
   ShownDeadlockIsReplayed,
   ToldDeadlockIsShown,
   WrittenDeadlockIsShown,
+  WrittenSafetyIsRefuted,
 };
 
 /// Where words ask for a check, and the run printed the line that tells a deadlock or ended with the
@@ -66,7 +69,23 @@ pub fn written_deadlock_is_shown()
     ensures { WrittenDeadlockIsShown }
 {}
 
-/// Where any run printed that line or ended with the status 1, its words ask to prove, check or
+/// Where words ask to prove a program, and the run printed the line that tells that there is no
+/// deadlock or ended with the status 0, no run of the program of the file ends stuck.
+pub fn proved_safety_is_true()
+    ensures { ProvedSafetyIsTrue }
+{}
+
+/// And where they name a file for the evidence, it holds afterwards one that refutes the program.
+pub fn written_safety_is_refuted()
+    ensures { WrittenSafetyIsRefuted }
+{}
+
+/// A search that ended with the status 0 printed the line that tells that there is no deadlock.
+pub fn proved_safety_is_printed()
+    ensures { ProvedSafetyIsPrinted }
+{}
+
+/// Where any run printed the line of a deadlock or ended with the status 1, its words ask to prove, check or
 /// replay a program, and a stuck run of that program is shown.
 pub fn told_deadlock_is_shown()
     ensures { ToldDeadlockIsShown }

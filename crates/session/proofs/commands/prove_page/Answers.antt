@@ -23,21 +23,21 @@ returns-in-NoDeadlock-clause-stop g c =
     let held = g.F.FileSet.held in
     stops_decided (held c.args.files.now) (held c.read.new.files) (held c.decided_page.new.files) c.args.program.now c.deref.result.now
     (option_map (λ path. path.now) c.args.out) (answers.NoDeadlock c.in-NoDeadlock.evidence) c.decided_page.result c.read.ensures.same
-    (subst (AreAll _) (sym c.deref.ensures.value) c.in_ok-text.ensures.bytes) c.in-NoDeadlock.ensures refl c.decided_page.ensures.stop
+    (subst (AreAll _) (sym c.deref.ensures.value) c.in_ok-text.ensures.bytes) c.in-NoDeadlock.ensures.answers refl c.decided_page.ensures.stop
 
 pub returns-in-Deadlock-clause-stop : goal.returns-in-Deadlock-clause-stop
 returns-in-Deadlock-clause-stop g c =
     let held = g.F.FileSet.held in
     stops_decided (held c.args.files.now) (held c.read.new.files) (held c.decided_page-in-Deadlock.new.files) c.args.program.now c.deref.result.now
     (option_map (λ path. path.now) c.args.out) (answers.Deadlock c.in-Deadlock.evidence) c.decided_page-in-Deadlock.result c.read.ensures.same
-    (subst (AreAll _) (sym c.deref.ensures.value) c.in_ok-text.ensures.bytes) c.in-Deadlock.ensures refl c.decided_page-in-Deadlock.ensures.stop
+    (subst (AreAll _) (sym c.deref.ensures.value) c.in_ok-text.ensures.bytes) c.in-Deadlock.ensures.answers refl c.decided_page-in-Deadlock.ensures.stop
 
 pub returns-clause-page : goal.returns-clause-page
 returns-clause-page g c = (
   c.deref.result.now,
   answers.Refused c.in-Refused.reason,
   subst (AreAll _) (sym c.deref.ensures.value) c.in_ok-text.ensures.bytes,
-  c.in-Refused.ensures,
+  c.in-Refused.ensures.answers,
   c.read.ensures.same,
   c.in_ok-page_of-in-Refused.ensures,
 )

@@ -1,0 +1,144 @@
+//! The search for an answer.
+
+ghost use Rattle.std.specs.Prelude.{◌≡◌, ℕ, List, IfErr, IfNone, IfOk, IfSome};
+ghost use Rattle.callorder.specs.Resolving.{IsTextOf};
+ghost use Rattle.prover.specs.Answers.{Answers, FinishesIfUnknown, HasNoFormulaText};
+ghost use Rattle.prover.specs.Searches.{HasFinishedRun, IsEvidenceOn, IsOver};
+
+use crate::answer::Answer;
+use crate::explore::stuck_walk;
+use crate::formula::encoded_of;
+use crate::options::Options;
+use crate::search::pool_of;
+use callorder::Program;
+use checker::{Reason, formula_of, program_of};
+use pool::{AssembleFault, Pool, Why, schedule_of_run};
+use prooflog::{Evidence, write_evidence};
+use std::alloc::{AllocError, Global};
+use std::sync::Wait;
+use std::thread::Threads;
+use workers::Gate;
+
+/// The answer of an evidence.
+fn told(alloc: Global, program: &Program, evidence: &Evidence) -> Answer
+    requires { IsEvidenceOn program.now evidence.now }
+    ensures answer { (text : List ℕ) → IsTextOf text program.now → Answers text result }
+    ensures finishes { (budget : ℕ) (text : List ℕ) → FinishesIfUnknown budget text result }
+{
+    let Ok(text) = write_evidence(alloc, evidence) else {
+        return Answer::Unknown(Why::Memory);
+    };
+    match evidence {
+        Evidence::Schedule(_schedule) => Answer::Deadlock(text),
+        Evidence::Refutation(_refutation) => Answer::NoDeadlock(text),
+    }
+}
+
+/// What a pool says at the end. A leaf that is open for no reason that was noted counts as left.
+fn answer_of(alloc: Global, pool: &Pool) -> Answer
+    requires { IsOver pool.now.held }
+    ensures { (text : List ℕ) → IsTextOf text pool.now.held.program → Answers text result }
+{
+    match pool.assemble(alloc) {
+        Ok(evidence) => told(alloc, pool.program(), &evidence),
+        Err(AssembleFault::Memory) => Answer::Unknown(Why::Memory),
+        Err(AssembleFault::Open) => Answer::Unknown(pool.status().why.unwrap_or(Why::Left)),
+    }
+}
+
+/// The answer of the walks, where one of them ends stuck or memory runs out.
+fn walked(alloc: Global, program: &Program) -> Option<Answer>
+    ensures some { IfSome result (λ answer. (text : List ℕ) → IsTextOf text program.now → Answers text answer) }
+    ensures finishes { IfSome result (λ answer. (budget : ℕ) (text : List ℕ) → FinishesIfUnknown budget text answer) }
+    ensures none { IfNone result (HasFinishedRun program.now) }
+{
+    match stuck_walk(alloc, program) {
+        Ok(Some(steps)) => {
+            let schedule = schedule_of_run(program, steps);
+            Some(told(alloc, program, &Evidence::Schedule(schedule)))
+        }
+        Ok(None) => None,
+        Err(AllocError) => Some(Answer::Unknown(Why::Memory)),
+    }
+}
+
+/// The answer of a search over the formula of the text's program, or why it has none.
+fn searched<G: Gate + Sync, R: Threads + Wait + Sync>(
+    rt: &R,
+    alloc: Global,
+    text: &[u8],
+    program: Program,
+    options: Options,
+    gate: &G,
+) -> Result<Answer, Reason>
+    requires { IsTextOf text.now program }
+    ensures answer { IfOk result (Answers text.now) }
+    ensures reason { IfErr result (HasNoFormulaText text.now) }
+{
+    let encoded = match formula_of(rt, alloc, program) {
+        Ok(encoded) => encoded,
+        Err(reason) => return Err(reason),
+    };
+    let lent = match encoded_of(rt, alloc, text) {
+        Ok(lent) => lent,
+        Err(reason) => return Err(reason),
+    };
+    match pool_of(rt, alloc, encoded, &lent, options, gate) {
+        Ok(pool) => Ok(answer_of(alloc, &pool)),
+        Err(why) => Ok(Answer::Unknown(why)),
+    }
+}
+
+/// The answer of the walks, if there is a budget, and then of the search, or why the text has neither.
+fn answered<G: Gate + Sync, R: Threads + Wait + Sync>(
+    rt: &R,
+    alloc: Global,
+    text: &[u8],
+    options: Options,
+    gate: &G,
+) -> Result<Answer, Reason>
+    ensures answer { IfOk result (Answers text.now) }
+    ensures finishes { IfOk result (FinishesIfUnknown options.budget text.now) }
+    ensures reason { IfErr result (HasNoFormulaText text.now) }
+{
+    let program = match program_of(alloc, text) {
+        Ok(program) => program,
+        Err(reason) => return Err(reason),
+    };
+    if options.budget() == 0 {
+        return searched(rt, alloc, text, program, options, gate);
+    }
+    match walked(alloc, &program) {
+        Some(answer) => Ok(answer),
+        None => searched(rt, alloc, text, program, options, gate),
+    }
+}
+
+/// Looks for an answer to a program's text.
+///
+/// `NoDeadlock` and `Deadlock` come with the text of an evidence for which `verdict` gives the same answer on this program's text,
+/// want of memory aside. Where `NoDeadlock` is answered, no run of the program ends where some rank is unfinished and no step is
+/// enabled; where `Deadlock` is, the evidence's schedule is such a run. `Refused` tells the first fault of the program's text, or the first limit
+/// that its formula passes: 8,192 fitting pairs, 1,024 events, 4,000,000 clauses. `Unknown(Memory)` is want of memory. Another `Unknown` comes only for
+/// a program's text whose formula is within the limits, and with a budget above 0 only where some run ends with all ranks finished.
+///
+/// Walks come first, before any formula is made, if the budget is above 0: runs that go on until no step is enabled. They differ in whether they
+/// buffer, whether they match or issue first, and which rank and which match comes first, and then for each rank one holds it back as long
+/// as it can. Where none ends stuck, a worker searches the cubes of the tree that `split` gives at the depth of the options, one after another, with
+/// the budget of the options, and `gate.before` is called before each.
+pub fn prove<G: Gate + Sync, R: Threads + Wait + Sync>(
+    rt: &R,
+    alloc: Global,
+    program: &[u8],
+    options: Options,
+    gate: &G,
+) -> Answer
+    ensures answers { Answers program.now result }
+    ensures finishes { FinishesIfUnknown options.budget program.now result }
+{
+    match answered(rt, alloc, program, options, gate) {
+        Ok(answer) => answer,
+        Err(Reason::Memory) => Answer::Unknown(Why::Memory),
+        Err(reason) => Answer::Refused(reason),
+    }
+}

@@ -1,0 +1,5 @@
+use Rattle.session.proofs.RunLaws.{proved_safe}
+use Rattle.session.proofs.laws.proved_safety_is_printed.Goals as goal
+
+pub returns : goal.returns
+returns c = proved_safe

@@ -1,0 +1,5 @@
+use Rattle.session.proofs.RunLaws.{proved_never}
+use Rattle.session.proofs.laws.proved_safety_is_true.Goals as goal
+
+pub returns : goal.returns
+returns c = proved_never
