@@ -8,6 +8,7 @@ use runs::{Scene, run};
 use std::alloc::{AllocError, Global};
 use std::process::Abort;
 use std::str;
+use std::sync::Wait;
 use std::test::Fail;
 use std::thread::Threads;
 
@@ -24,7 +25,7 @@ fn column(row: &str) -> Result<(&str, &str), Fail> {
 /// Asserts that the words end with this status and print this line, that standard error stays empty,
 /// and that no file is written.
 fn assert_answer(
-    rt: &(impl Abort + Threads + Sync),
+    rt: &(impl Abort + Threads + Wait + Sync),
     alloc: Global,
     words: &str,
     scene: Scene<'_>,

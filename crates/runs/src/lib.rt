@@ -5,6 +5,7 @@ use disk::{Disk, DiskFiles, Stream, Trouble};
 use session::session;
 use std::alloc::{AllocError, Global};
 use std::cell::{Cell, RefCell};
+use std::sync::Wait;
 use std::thread::Threads;
 
 /// What a run left.
@@ -55,7 +56,7 @@ const ROOM: usize = 4096;
 /// Runs the program with these words, which blanks part, after its own name. Fails where there is no memory for the words or
 /// for standard error; want of memory of the run itself is told by what it left.
 pub fn run(
-    rt: &(impl Threads + Sync),
+    rt: &(impl Threads + Wait + Sync),
     alloc: Global,
     words: &str,
     scene: Scene<'_>,

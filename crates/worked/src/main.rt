@@ -8,6 +8,7 @@ use row::Row;
 use runs::Ended;
 use std::alloc::{AllocError, Global};
 use std::process::ExitCode;
+use std::sync::Wait;
 use std::thread::Threads;
 use std::{env, fs, io, str};
 
@@ -31,7 +32,7 @@ fn main(rt: HostRuntime) -> ExitCode {
 }
 
 /// Judges each file that the words name, and prints how many rows hold, and how many don't. Answers whether all hold.
-fn judge(rt: &HostRuntime, threads: &(impl Threads + Sync)) -> io::Result<bool> {
+fn judge(rt: &HostRuntime, threads: &(impl Threads + Wait + Sync)) -> io::Result<bool> {
     let paths: Vec<String> = env::args(rt)?.collect(rt.alloc())?;
     let mut tally = Tally { held: 0, missed: 0 };
     for path in paths.iter().skip(1) {
@@ -50,7 +51,7 @@ fn judge(rt: &HostRuntime, threads: &(impl Threads + Sync)) -> io::Result<bool> 
 /// with a backslash.
 fn judge_file(
     rt: &HostRuntime,
-    threads: &(impl Threads + Sync),
+    threads: &(impl Threads + Wait + Sync),
     path: &str,
     text: &str,
     tally: &mut Tally,
@@ -79,7 +80,7 @@ fn judge_file(
 
 /// Why a row doesn't hold, or none.
 fn fault(
-    rt: &(impl Threads + Sync),
+    rt: &(impl Threads + Wait + Sync),
     alloc: Global,
     text: &str,
 ) -> Result<Option<String>, AllocError> {

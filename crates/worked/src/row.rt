@@ -1,13 +1,15 @@
 //! A row of a file: what runs of the program are given, and what each has to leave.
 use runs::{Ended, Scene, run};
 use std::alloc::{AllocError, Global};
+use std::sync::Wait;
 use std::thread::Threads;
 
 /// The columns of a row. In each text `/` stands for the end of a line, and in the two files that are read `{N PART}` stands for
 /// N times PART.
 #[derive(Clone, Copy)]
 pub struct Row<'a> {
-    /// The words of each run, with ` ; ` between those of two.
+    /// The words of each run, with ` ; ` between those of two. `FIRST then SECOND` are two runs, and the second gets what the first
+    /// writes as its evidence.
     commands: &'a str,
     /// The file `program`.
     program: &'a str,
@@ -50,34 +52,76 @@ impl<'a> Row<'a> {
     /// What the first run left that leaves something else than the row says, with its words, or none.
     pub fn first_miss(
         &self,
-        rt: &(impl Threads + Sync),
+        rt: &(impl Threads + Wait + Sync),
         alloc: Global,
     ) -> Result<Option<(&'a str, Ended)>, AllocError> {
         let program = lines(alloc, &unfolded(alloc, self.program)?)?;
         let evidence = lines(alloc, &unfolded(alloc, self.evidence)?)?;
         for words in self.commands.split(" ; ") {
-            let ended = run(rt, alloc, words, Scene::of(&program, &evidence))?;
-            if !self.is_met(alloc, &ended)? {
-                return Ok(Some((words, ended)));
+            let miss = match words.split_once(" then ") {
+                None => self.miss(rt, alloc, words, &program, &evidence)?,
+                Some((first, then)) => self.handed_miss(rt, alloc, first, then, &program)?,
+            };
+            if miss.is_some() {
+                return Ok(miss);
             }
         }
         Ok(None)
     }
 
-    /// Whether a run left what the row says.
+    fn miss(
+        &self,
+        rt: &(impl Threads + Wait + Sync),
+        alloc: Global,
+        words: &'a str,
+        program: &str,
+        evidence: &str,
+    ) -> Result<Option<(&'a str, Ended)>, AllocError> {
+        let ended = run(rt, alloc, words, Scene::of(program, evidence))?;
+        let is_met = self.is_met(alloc, &ended)? && self.has_written(alloc, &ended)?;
+        if is_met {
+            return Ok(None);
+        }
+        Ok(Some((words, ended)))
+    }
+
+    /// The same of two runs, the second of which gets what the first wrote as its evidence.
+    fn handed_miss(
+        &self,
+        rt: &(impl Threads + Wait + Sync),
+        alloc: Global,
+        first: &'a str,
+        then: &'a str,
+        program: &str,
+    ) -> Result<Option<(&'a str, Ended)>, AllocError> {
+        let ended = run(rt, alloc, first, Scene::of(program, ""))?;
+        if !self.is_met(alloc, &ended)? || ended.writers != 1 {
+            return Ok(Some((first, ended)));
+        }
+        let scene = Scene {
+            evidence: &ended.written,
+            ..Scene::of(program, "")
+        };
+        let judged = run(rt, alloc, then, scene)?;
+        let is_met = self.is_met(alloc, &judged)? && judged.writers == 0;
+        if is_met {
+            return Ok(None);
+        }
+        Ok(Some((then, judged)))
+    }
+
+    /// Whether a run told what the row says.
     fn is_met(&self, alloc: Global, ended: &Ended) -> Result<bool, AllocError> {
         let is_output = is_told(alloc, self.output, &ended.out)?;
         let is_errors = is_told(alloc, self.errors, &ended.err)?;
+        Ok(ended.status == self.status && is_output && is_errors)
+    }
+
+    /// Whether a run wrote what the row says.
+    fn has_written(&self, alloc: Global, ended: &Ended) -> Result<bool, AllocError> {
         let written = lines(alloc, self.written)?;
         let is_written = ended.written.as_slice() == written.as_bytes();
-        let writers = u64::from(!written.is_empty());
-        Ok(
-            ended.status == self.status
-                && is_output
-                && is_errors
-                && is_written
-                && ended.writers == writers,
-        )
+        Ok(is_written && ended.writers == u64::from(!written.is_empty()))
     }
 }
 

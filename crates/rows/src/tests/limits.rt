@@ -45,7 +45,7 @@ const NUMBERS: &str = "\
 64 | sendrecv 64 1 63 1 | 3 | refused line 4 range
 64 | sendrecv 63 1 64 1 | 3 | refused line 4 range
 63 | sendrecv 0 1 63 1 | 3 | refused rank 0 place 1 peer range
-1 | sendrecv 0 32767 0 32767 comm 255 | 2 | unknown budget
+1 | sendrecv 0 32767 0 32767 comm 255 | 0 | no deadlock
 1 | sendrecv 0 32768 0 1 | 3 | refused line 4 range
 1 | sendrecv 0 1 0 32768 | 3 | refused line 4 range
 1 | sendrecv 0 1 0 1 comm 256 | 3 | refused line 4 range
@@ -84,7 +84,7 @@ fn waited_for(alloc: Global, sends: usize) -> Result<String, AllocError> {
 
 /// How many sends there are, with the status and the line of `prove`.
 const WAITS: &str = "\
-512 | 2 | unknown budget
+512 | 0 | no deadlock
 513 | 3 | refused rank 0 place 514 too many calls
 1024 | 3 | refused rank 0 place 1025 too many calls
 1025 | 3 | refused rank 0 place 1025 too many calls";

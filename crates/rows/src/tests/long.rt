@@ -2,6 +2,7 @@
 use runs::{Scene, run};
 use std::alloc::{AllocError, Global};
 use std::process::Abort;
+use std::sync::Wait;
 use std::test::Fail;
 use std::thread::Threads;
 
@@ -49,7 +50,7 @@ fn page_of(alloc: Global, messages: u32) -> Result<String, AllocError> {
 
 /// Asserts that the words print this text and write this file, for a deadlock.
 fn assert_run(
-    rt: &(impl Abort + Threads + Sync),
+    rt: &(impl Abort + Threads + Wait + Sync),
     alloc: Global,
     words: &str,
     scene: Scene<'_>,

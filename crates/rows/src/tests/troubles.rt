@@ -4,6 +4,7 @@ use disk::Trouble;
 use runs::{Ended, Scene, run};
 use std::alloc::Global;
 use std::process::Abort;
+use std::sync::Wait;
 use std::test::Fail;
 use std::thread::Threads;
 
@@ -31,7 +32,7 @@ fn is_same(ended: &Ended, good: &Ended) -> bool {
 
 /// Asserts that a run which meets this trouble ends as it must.
 fn assert_trouble_is_told(
-    rt: &(impl Abort + Threads + Sync),
+    rt: &(impl Abort + Threads + Wait + Sync),
     alloc: Global,
     words: &str,
     memory: &str,
@@ -55,7 +56,7 @@ fn assert_trouble_is_told(
 
 /// Runs the words with each trouble at each open, read and write in turn.
 fn assert_troubles_are_told(
-    rt: &(impl Abort + Threads + Sync),
+    rt: &(impl Abort + Threads + Wait + Sync),
     alloc: Global,
     words: &str,
     memory: &str,

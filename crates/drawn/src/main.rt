@@ -1,0 +1,122 @@
+//! Draws programs by a fixed generator, and compares two answers for each: the prover's, whose evidence the checker has to accept, and
+//! that of a plain exploration of all runs. Prints each program on which they differ, and at the end how many agree.
+#![tactic(auto)]
+
+mod chance;
+mod drawing;
+mod exploring;
+mod line;
+mod position;
+mod rules;
+mod tally;
+
+use checker::program_of;
+use drawing::draw;
+use exploring::{Fate, explore};
+use prover::{Answer, Gate, Options, Verdict, prove, verdict};
+use std::alloc::Global;
+use std::io;
+use std::process::ExitCode;
+use std::sync::Wait;
+use std::thread::Threads;
+use tally::Tally;
+
+/// How many programs are drawn.
+const PROGRAMS: u64 = 300;
+
+/// Lets the worker go on at once.
+struct Open;
+
+impl Gate for Open {
+    fn before(&self, _worker: u32, _cube: u32) {}
+}
+
+fn main(rt: HostRuntime) -> ExitCode {
+    match compare_all(&rt, &rt) {
+        Ok(true) => ExitCode::SUCCESS,
+        Ok(false) => ExitCode::FAILURE,
+        Err(error) => {
+            // Where standard error can't be written either, the exit status tells it alone.
+            let _ = rt.eprintln(format_args!("error: {error}"));
+            ExitCode::FAILURE
+        }
+    }
+}
+
+/// Compares the answers for each program, and prints what was counted. Answers whether none differ.
+fn compare_all(rt: &HostRuntime, threads: &(impl Threads + Wait + Sync)) -> io::Result<bool> {
+    let mut tally = Tally::new(rt.alloc());
+    for seed in 0..PROGRAMS {
+        let text = draw(rt.alloc(), seed)?;
+        compare(rt, threads, &text, &mut tally)?;
+    }
+    print_tally(rt, &tally)?;
+    Ok(tally.differing == 0)
+}
+
+/// Compares the answers for the program of this text.
+fn compare(
+    rt: &HostRuntime,
+    threads: &(impl Threads + Wait + Sync),
+    text: &str,
+    tally: &mut Tally,
+) -> io::Result<()> {
+    let Ok(program) = program_of(rt.alloc(), text.as_bytes()) else {
+        return note_differing(rt, "no program", text, tally);
+    };
+    let Some(fate) = explore(rt.alloc(), &program)? else {
+        tally.too_large = tally.too_large.saturating_add(1);
+        return Ok(());
+    };
+    tally.count_text(rt.alloc(), text, &program)?;
+    if proved(threads, rt.alloc(), text.as_bytes()) == Some(fate) {
+        tally.count_agreed(fate);
+        return Ok(());
+    }
+    match fate {
+        Fate::Stuck => note_differing(rt, "gets stuck", text, tally),
+        Fate::NeverStuck => note_differing(rt, "never gets stuck", text, tally),
+    }
+}
+
+/// Counts a program on which the answers differ, and prints it with what the exploration says.
+fn note_differing(
+    rt: &HostRuntime,
+    explored: &str,
+    text: &str,
+    tally: &mut Tally,
+) -> io::Result<()> {
+    tally.differing = tally.differing.saturating_add(1);
+    let text = text.replace(rt.alloc(), '\n', "/")?;
+    println!(rt; "explored: {explored}: {text}")
+}
+
+/// What the prover says of a program's text, or none where it has no answer or the checker has another one.
+fn proved(rt: &(impl Threads + Wait + Sync), alloc: Global, text: &[u8]) -> Option<Fate> {
+    let (evidence, fate, wanted) = match prove(rt, alloc, text, Options::default(), &Open) {
+        Answer::Deadlock(evidence) => (evidence, Fate::Stuck, Verdict::Deadlock),
+        Answer::NoDeadlock(evidence) => (evidence, Fate::NeverStuck, Verdict::NoDeadlock),
+        _ => return None,
+    };
+    if verdict(rt, alloc, text, &evidence) == wanted {
+        return Some(fate);
+    }
+    None
+}
+
+/// Prints how often each kind of line was drawn, and how many programs agree.
+fn print_tally(rt: &HostRuntime, tally: &Tally) -> io::Result<()> {
+    println!(rt; "{}", tally.drawn_text(rt.alloc())?)?;
+    if tally.too_large > 0 {
+        println!(rt;
+            "{} programs are too large and not counted",
+            tally.too_large
+        )?;
+    }
+    if tally.differing > 0 {
+        return println!(rt; "{} programs differ", tally.differing);
+    }
+    let agreed = tally.stuck.saturating_add(tally.never_stuck);
+    let (stuck, never) = (tally.stuck, tally.never_stuck);
+    println!(rt; "{agreed} programs agree: {stuck} get stuck, {never} don't")
+}
