@@ -1,25 +1,31 @@
 //! The search of a program's formula, over a pool that workers share.
 
-ghost use Rattle.std.specs.Prelude.{◌≡◌, [], IfOk};
+ghost use Rattle.std.specs.Prelude.{◌≡◌, ◌<◌, ◌≤◌, [], IfOk, length, map};
+ghost use Rattle.steal.specs.Deques.{AreDealt, deques_of};
 ghost use Rattle.crossbeam_utils.specs.Seq.{cell_view};
 ghost use Rattle.sharedpool.specs.Views.{knower};
 
 use crate::options::Options;
 use cubes::{CubeFault, split};
 use encode::Encoded;
-use pool::{Pool, Share, Why};
-use sharedpool::{Cell, FinishFault, Room, SharedPool, Token, open_room};
+use pool::{Pool, Why};
+use sharedpool::{Cell, FinishFault, Room, Seat, SharedPool, Token, open_room};
 use std::alloc::{AllocError, Global};
 use std::marker::Brand;
 use std::sync::Wait;
 use std::sync::atomic::{AtomicBool, Ordering};
 use std::thread;
 use std::thread::Threads;
+use steal::{Supply, deal, settle_all};
 use trees::Tree;
-use workers::{Cubes, Gate, Queue, work};
+use workers::{Common, EventCount, Gate, work};
 
-/// How many workers there are.
-const WORKERS: u32 = 1;
+/// What a worker's thread is handed.
+#[derive(Drop)]
+struct Station<B: Room> {
+    seat: Seat<B>,
+    supply: Supply,
+}
 
 /// The numbers of the tree's leaves, in the order of its nodes.
 fn leaves(alloc: Global, tree: &Tree) -> Result<Vec<u32>, AllocError> {
@@ -28,33 +34,138 @@ fn leaves(alloc: Global, tree: &Tree) -> Result<Vec<u32>, AllocError> {
         .collect(alloc)
 }
 
-/// Puts the cubes in, in their order; one comes back where there is no room.
-fn fill(queue: &mut Queue, cubes: &[u32]) -> Result<(), u32> {
-    for cube in cubes {
-        queue.put(*cube)?;
+/// Puts the cubes in, cube k into supply k modulo their number; one comes back where there is no room.
+fn fill(supplies: &mut [Supply], cubes: &[u32]) -> Result<(), u32>
+    requires { 0 < length supplies.old }
+    ensures { map deques_of supplies.new ≡ map deques_of supplies.old }
+{
+    let many = supplies.len();
+    for (place, cube) in cubes.iter().enumerate() {
+        supplies[place % many].put(*cube)?;
     }
     Ok(())
 }
 
-/// The work of one worker on these cubes, with its answer to leaving.
-fn work_on<S: Share, G: Gate, R: Wait>(
+/// Each seat with a supply.
+fn paired<B: Room>(
+    alloc: Global,
+    seats: Vec<Seat<B>>,
+    supplies: Vec<Supply>,
+) -> Result<Vec<Station<B>>, AllocError>
+    requires { length seats.items ≡ length supplies.items }
+    ensures { IfOk result (λ stations. map (λ s. s.supply) stations.items ≡ supplies.items) }
+{
+    let mut stations = Vec::new(alloc);
+    let mut seats = seats.into_iter();
+    for supply in supplies {
+        let Some(seat) = seats.next() else {
+            unreachable!()
+        };
+        stations.push(Station { seat, supply })?;
+    }
+    Ok(stations)
+}
+
+/// A station for each seat, with the cubes put in. A cube that has no room is want of memory.
+fn stations<B: Room>(
+    alloc: Global,
+    seats: Vec<Seat<B>>,
+    workers: u32,
+    cubes: &[u32],
+) -> Result<Vec<Station<B>>, AllocError>
+    requires many { length seats.items ≡ workers }
+    requires some { 1 ≤ workers }
+    requires few { workers ≤ 64 }
+    ensures { IfOk result (λ stations. AreDealt (map (λ s. deques_of s.supply) stations.items)) }
+{
+    let mut supplies = deal(alloc, workers)?;
+    if fill(supplies.as_mut_slice(), cubes).is_err() {
+        return Err(AllocError);
+    }
+    paired(alloc, seats, supplies)
+}
+
+/// Lets a worker work at its station.
+fn at_work<B: Room, G: Gate, R: Wait>(
     rt: &R,
     alloc: Global,
-    encoded: &Encoded,
-    shared: &S,
-    seat: &mut S::Seat,
-    cubes: &[u32],
-    gate: &G,
-    worker: u32,
-    budget: u32,
-) -> Result<(), AllocError> {
-    let mut queue = Queue::new(alloc);
-    if fill(&mut queue, cubes).is_err() {
-        return shared.leave(rt, seat, Some(Why::Memory));
-    }
+    common: &Common<SharedPool<B>, G>,
+    station: &mut Station<B>,
+) -> Result<(), AllocError>
+    ensures { deques_of station.new.supply ≡ deques_of station.old.supply }
+{
+    let worker = station.seat.worker();
     work(
-        rt, alloc, encoded, shared, seat, &mut queue, gate, worker, budget,
+        rt,
+        alloc,
+        common,
+        &mut station.seat,
+        &mut station.supply,
+        worker,
     )
+}
+
+/// Lets each worker work at its station. Answers whether each could note why it left.
+fn all_work<B: Room + Send + Sync, G: Gate + Sync, R: Threads + Wait + Sync>(
+    rt: &R,
+    alloc: Global,
+    common: &Common<SharedPool<B>, G>,
+    stations: &mut [Station<B>],
+) -> bool
+    ensures { map (λ s. deques_of s.supply) stations.new ≡ map (λ s. deques_of s.supply) stations.old }
+{
+    let threads = stations.len().max(1);
+    let is_unnoted = AtomicBool::new(false);
+    let noted = &is_unnoted;
+    thread::for_each_mut(
+        rt,
+        stations,
+        threads,
+        &|_place, station: &mut Station<B>|
+            ensures { deques_of station.new.supply ≡ deques_of station.old.supply }
+        {
+            if at_work(rt, alloc, common, station).is_err() {
+                noted.store(true, Ordering::SeqCst);
+            }
+        },
+    );
+    !is_unnoted.load(Ordering::SeqCst)
+}
+
+/// Settles all supplies, and hands the seats back.
+fn settled<B: Room>(alloc: Global, stations: Vec<Station<B>>) -> Result<Vec<Seat<B>>, AllocError>
+    requires { AreDealt (map (λ s. deques_of s.supply) stations.items) }
+{
+    let mut seats = Vec::new(alloc);
+    let mut supplies = Vec::new(alloc);
+    for station in stations {
+        let Station { seat, supply } = station;
+        seats.push(seat)?;
+        supplies.push(supply)?;
+    }
+    settle_all(alloc, supplies)?;
+    Ok(seats)
+}
+
+/// The pool of a shared one and all its seats.
+fn ended<B: Room, R: Wait>(
+    rt: &R,
+    alloc: Global,
+    shared: SharedPool<B>,
+    stations: Vec<Station<B>>,
+) -> Result<Pool, Why>
+    requires { AreDealt (map (λ s. deques_of s.supply) stations.items) }
+    ensures program { IfOk result (λ pool. pool.held.program ≡ B.opening.program) }
+    ensures formula { IfOk result (λ pool. pool.held.formula ≡ B.opening.formula) }
+{
+    let Ok(seats) = settled(alloc, stations) else {
+        return Err(Why::Memory);
+    };
+    match shared.finish(rt, alloc, seats) {
+        Ok((pool, _counts)) => Ok(pool),
+        Err((FinishFault::Memory, _shared, _seats)) => Err(Why::Memory),
+        Err((FinishFault::Missing, _shared, _seats)) => Err(Why::Left),
+    }
 }
 
 /// A search in a room that has a name. A reason for which a worker left that couldn't be noted is want of memory.
@@ -66,7 +177,7 @@ fn search_in<B: Room + Send + Sync, G: Gate + Sync, R: Threads + Wait + Sync>(
     pool: Pool,
     encoded: &Encoded,
     cubes: &[u32],
-    budget: u32,
+    options: Options,
     gate: &G,
 ) -> Result<Pool, Why>
     requires room { (cell.table.shared.table_id ≡ B.table) × (keeper.table_id ≡ B.table) × (cell_view keeper ≡ knower 0 []) }
@@ -74,31 +185,25 @@ fn search_in<B: Room + Send + Sync, G: Gate + Sync, R: Threads + Wait + Sync>(
     ensures program { IfOk result (λ last. last.held.program ≡ pool.held.program) }
     ensures formula { IfOk result (λ last. last.held.formula ≡ pool.held.formula) }
 {
-    let Ok((shared, mut seats)) = SharedPool::<B>::new(alloc, cell, keeper, pool, WORKERS) else {
+    let workers = options.workers();
+    let Ok((shared, seats)) = SharedPool::<B>::new(alloc, cell, keeper, pool, workers) else {
         return Err(Why::Memory);
     };
-    let is_unnoted = AtomicBool::new(false);
-    let lent = &shared;
-    thread::for_each_mut(
-        rt,
-        seats.as_mut_slice(),
-        WORKERS as usize,
-        &|place, seat| {
-            let worker = place as u32;
-            let left = work_on(rt, alloc, encoded, lent, seat, cubes, gate, worker, budget);
-            if left.is_err() {
-                is_unnoted.store(true, Ordering::SeqCst);
-            }
-        },
-    );
-    if is_unnoted.load(Ordering::SeqCst) {
+    let Ok(mut stations) = stations(alloc, seats, workers, cubes) else {
+        return Err(Why::Memory);
+    };
+    let events = EventCount::new();
+    let common = Common {
+        encoded,
+        shared: &shared,
+        gate,
+        events: &events,
+        budget: options.budget(),
+    };
+    if !all_work(rt, alloc, &common, stations.as_mut_slice()) {
         return Err(Why::Memory);
     }
-    match shared.finish(rt, alloc, seats) {
-        Ok((pool, _counts)) => Ok(pool),
-        Err((FinishFault::Memory, _shared, _seats)) => Err(Why::Memory),
-        Err((FinishFault::Missing, _shared, _seats)) => Err(Why::Left),
-    }
+    ended(rt, alloc, shared, stations)
 }
 
 /// The pool at the end of a search over a program's formula, or why there is none. The worker reads `lent`, which is the same program with
@@ -128,6 +233,5 @@ pub fn pool_of<G: Gate + Sync, R: Threads + Wait + Sync>(
     let Ok((cell, keeper)) = open_room(alloc) else {
         return Err(Why::Memory);
     };
-    let budget = options.budget();
-    search_in::<Brand, G, R>(rt, alloc, cell, keeper, pool, lent, &cubes, budget, gate)
+    search_in::<Brand, G, R>(rt, alloc, cell, keeper, pool, lent, &cubes, options, gate)
 }

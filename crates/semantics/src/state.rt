@@ -101,7 +101,9 @@ impl State {
         self.buffered.get(call).copied().unwrap_or(false)
     }
 
-    fn partner(&self, call: usize) -> Option<usize>
+    /// What the call at a place is matched with: a send with its taker, a taker with its send. None where it is not
+    /// matched, and where there is no such call.
+    pub fn partner(&self, call: usize) -> Option<usize>
         ensures { result ≡ partner_of self.now call }
     {
         self.partner.get(call).copied().unwrap_or(None)
@@ -131,7 +133,9 @@ impl State {
         }
     }
 
-    fn is_fetched(&self, program: &Program, call: usize) -> bool
+    /// Whether the send at a place is fetched: it is matched with a receive, or with a matched probe on whose handle
+    /// the receive is issued.
+    pub fn is_fetched(&self, program: &Program, call: usize) -> bool
         ensures { result ≡ is_fetched program.now self.now call }
     {
         match self.partner(call) {
@@ -144,7 +148,7 @@ impl State {
     }
 
     /// Whether the operation of a call is done.
-    fn is_done(&self, program: &Program, call: usize) -> bool
+    pub fn is_done(&self, program: &Program, call: usize) -> bool
         ensures { result ≡ is_done program.now self.now call }
     {
         let Some(known) = program.call(call) else {
@@ -294,7 +298,8 @@ impl State {
         }
     }
 
-    fn is_rank_finished(&self, program: &Program, rank: u32) -> bool
+    /// Whether all calls of a rank are issued, and the last has returned. Takes no memory.
+    pub fn is_rank_finished(&self, program: &Program, rank: u32) -> bool
         ensures { result ≡ is_rank_finished program.now self.now rank }
     {
         let next = self.next.get(rank as usize).copied().unwrap_or(0);

@@ -5,12 +5,14 @@
 #![tactic(auto)]
 
 mod branching;
+mod events;
 mod gate;
 mod numbers;
-mod queue;
+mod source;
 mod stop;
 mod worker;
 
+pub use events::EventCount;
 pub use gate::Gate;
-pub use queue::{Cubes, Queue};
-pub use worker::work;
+pub use source::Cubes;
+pub use worker::{Common, work};

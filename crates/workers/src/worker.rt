@@ -1,13 +1,17 @@
 //! One worker.
 
+ghost use Rattle.std.specs.Prelude.{◌≡◌};
+
 use crate::branching::branching_variable;
+use crate::events::EventCount;
 use crate::gate::Gate;
 use crate::numbers::{line_number, number_of};
-use crate::queue::Cubes;
+use crate::source::Cubes;
 use crate::stop::Stop;
 use batches::{Batch, Hint};
 use cdcl::{Found, Solver};
 use clauses::{Assignment, Lit};
+use crossbeam_utils::Backoff;
 use cubes::branching_variables;
 use encode::Encoded;
 use extract::schedule_of;
@@ -25,6 +29,21 @@ enum Next {
     Another,
     /// The cube is searched on.
     Same,
+}
+
+/// What all workers of a search have in common.
+#[derive(Drop)]
+pub struct Common<'s, S, G> {
+    /// The program that is shared, with its formula.
+    pub encoded: &'s Encoded,
+    /// The pool, or a share of it.
+    pub shared: &'s S,
+    /// Is called before each cube.
+    pub gate: &'s G,
+    /// Counts what may give a worker without a cube something to do.
+    pub events: &'s EventCount,
+    /// How many conflicts each worker may count.
+    pub budget: u32,
 }
 
 /// What a worker knows, and what it may still do.
@@ -52,7 +71,9 @@ fn cube_after<C: Cubes, G: Gate>(
     cubes: &mut C,
     gate: &G,
     worker: u32,
-) -> Option<u32> {
+) -> Option<u32>
+    ensures { C.deques cubes.new ≡ C.deques cubes.old }
+{
     if current.is_some() {
         return current;
     }
@@ -62,7 +83,9 @@ fn cube_after<C: Cubes, G: Gate>(
 }
 
 /// Puts a cube in; that there is no room for it counts as want of memory.
-fn put<C: Cubes>(cubes: &mut C, cube: u32) -> Result<(), Stop> {
+fn put<C: Cubes>(cubes: &mut C, cube: u32) -> Result<(), Stop>
+    ensures { C.deques cubes.new ≡ C.deques cubes.old }
+{
     match cubes.put(cube) {
         Ok(()) => Ok(()),
         Err(_cube) => Err(Stop { why: Why::Memory }),
@@ -143,7 +166,9 @@ impl<'e> Worker<'e> {
         cubes: &mut C,
         cube: u32,
         path: &[Lit],
-    ) -> Result<Next, Stop> {
+    ) -> Result<Next, Stop>
+        ensures { C.deques cubes.new ≡ C.deques cubes.old }
+    {
         let count = self.encoded.formula().variables();
         let Some(variable) = branching_variable(path, &self.variables, count) else {
             return Ok(Next::Same);
@@ -167,7 +192,9 @@ impl<'e> Worker<'e> {
         seat: &mut S::Seat,
         cubes: &mut C,
         cube: u32,
-    ) -> Result<Next, Stop> {
+    ) -> Result<Next, Stop>
+        ensures { C.deques cubes.new ≡ C.deques cubes.old }
+    {
         let lines = shared.fetch(rt, self.alloc, seat, self.seen)?;
         self.import(&lines)?;
         let path = shared.path(rt, self.alloc, cube)?;
@@ -190,30 +217,51 @@ impl<'e> Worker<'e> {
         }
     }
 
-    /// Searches below one cube after another, until the search is over or there is no cube.
+    /// Searches below one cube after another, until the search is over. Without a cube it pauses, and ends too where another worker left for a
+    /// reason.
     fn run<S: Share, C: Cubes, G: Gate, R: Wait>(
         &mut self,
         rt: &R,
-        shared: &S,
+        common: &Common<S, G>,
         seat: &mut S::Seat,
         cubes: &mut C,
-        gate: &G,
         worker: u32,
-    ) -> Result<(), Stop> {
+    ) -> Result<(), Stop>
+        ensures { C.deques cubes.new ≡ C.deques cubes.old }
+    {
+        let shared = common.shared;
         let mut current = None;
+        let mut pause = Backoff::new();
         for _ in rt.forever() {
-            if is_over(&shared.status(rt)) {
+            let seen = common.events.read();
+            let status = shared.status(rt);
+            if is_over(&status) {
                 return Ok(());
             }
-            let Some(cube) = cube_after(current, cubes, gate, worker) else {
-                return Ok(());
+            let Some(cube) = cube_after(current, cubes, common.gate, worker) else {
+                if status.why.is_some() {
+                    return Ok(());
+                }
+                rest(rt, common.events, seen, &pause);
+                continue;
             };
+            pause = Backoff::new();
             current = match self.step(rt, shared, seat, cubes, cube)? {
                 Next::Another => None,
                 Next::Same => Some(cube),
             };
+            common.events.advance();
         }
         unreachable!()
+    }
+}
+
+/// Pauses, and after some pauses rests until something more is counted than was seen.
+fn rest<R: Wait>(rt: &R, events: &EventCount, seen: u32, pause: &Backoff) {
+    if pause.is_completed() {
+        events.rest(rt, seen);
+    } else {
+        pause.snooze();
     }
 }
 
@@ -221,32 +269,32 @@ impl<'e> Worker<'e> {
 fn reason<S: Share, C: Cubes, G: Gate, R: Wait>(
     rt: &R,
     alloc: Global,
-    encoded: &Encoded,
-    shared: &S,
+    common: &Common<S, G>,
     seat: &mut S::Seat,
     cubes: &mut C,
-    gate: &G,
     worker: u32,
-    budget: u32,
-) -> Option<Why> {
-    let Ok(mut search) = Worker::new(alloc, encoded, budget) else {
+) -> Option<Why>
+    ensures { C.deques cubes.new ≡ C.deques cubes.old }
+{
+    let Ok(mut search) = Worker::new(alloc, common.encoded, common.budget) else {
         return Some(Why::Memory);
     };
-    match search.run(rt, shared, seat, cubes, gate, worker) {
+    match search.run(rt, common, seat, cubes, worker) {
         Ok(()) => None,
         Err(stop) => Some(stop.why),
     }
 }
 
 /// Searches below one cube after another, and tells the share what it found: lines, a clause for each cube that is refuted,
-/// the two halves of a cube that took too long, and the schedule of an assignment that satisfies the formula. `encoded` is the
-/// program that is shared, with its formula. The gate is called before each cube with this number of the worker.
+/// the two halves of a cube that took too long, and the schedule of an assignment that satisfies the formula. The gate is called before
+/// each cube with this number of the worker.
 ///
 /// A search counts at most 2,000 conflicts, and all of them at most as many as the budget; after each the cube is closed,
 /// split or, where the tree has no room, searched on. A cube is split on the match variable that comes first in the branching
 /// order and isn't on its path; where all are on it, on the formula's first variable that isn't.
 ///
-/// The worker leaves with no reason once a schedule was found, no leaf is open or no cube is left. It
+/// The worker leaves with no reason once a schedule was found or no leaf is open, or, without a cube, once another worker left for a
+/// reason; else it pauses without a cube, and rests until the events are advanced. It advances them after each search and when it leaves. It
 /// leaves with [`Why::Budget`] once the budget is used up and the cube is open, with [`Why::Full`] where the log is full, with
 /// [`Why::Memory`] where memory ran out or a cube had no room, and with [`Why::Left`] where something was refused that an
 /// honest share takes. The answer is that of its last call, by which it leaves. It goes on as long as the share and the cubes
@@ -254,16 +302,15 @@ fn reason<S: Share, C: Cubes, G: Gate, R: Wait>(
 pub fn work<S: Share, C: Cubes, G: Gate, R: Wait>(
     rt: &R,
     alloc: Global,
-    encoded: &Encoded,
-    shared: &S,
+    common: &Common<S, G>,
     seat: &mut S::Seat,
     cubes: &mut C,
-    gate: &G,
     worker: u32,
-    budget: u32,
-) -> Result<(), AllocError> {
-    let why = reason(
-        rt, alloc, encoded, shared, seat, cubes, gate, worker, budget,
-    );
-    shared.leave(rt, seat, why)
+) -> Result<(), AllocError>
+    ensures { C.deques cubes.new ≡ C.deques cubes.old }
+{
+    let why = reason(rt, alloc, common, seat, cubes, worker);
+    let left = common.shared.leave(rt, seat, why);
+    common.events.advance();
+    left
 }

@@ -16,7 +16,8 @@ use std::sync::atomic::{AtomicU64, Ordering};
 use std::sync::{Mutex, Wait};
 use std::test::Fail;
 use std::thread::Threads;
-use workers::{Cubes, Gate, Queue, work};
+use steal::{Supply, deal};
+use workers::{Common, Cubes, EventCount, Gate, work};
 
 /// More conflicts than any search here needs.
 const ENOUGH: u32 = 1_000_000;
@@ -54,10 +55,14 @@ impl Gate for Counter {
 /// Cubes with no room for more.
 #[derive(Drop)]
 struct Narrow {
-    cubes: Queue,
+    cubes: Supply,
 }
 
 impl Cubes for Narrow {
+    ghost use Rattle.steal.specs.Deques.{deques_of};
+
+    ghost deques = { λ narrow. deques_of narrow.cubes };
+
     fn take(&mut self) -> Option<u32> {
         self.cubes.take()
     }
@@ -106,8 +111,9 @@ fn opened(
 }
 
 /// All open leaves, in the order of their numbers, of which a tree of depth 4 has none from 31 on.
-fn leaves(rt: &impl Wait, alloc: Global, share: &Fake) -> Result<Queue, Fail> {
-    let mut cubes = Queue::new(alloc);
+fn leaves(rt: &impl Wait, alloc: Global, share: &Fake) -> Result<Supply, Fail> {
+    let mut supplies = deal(alloc, 1)?;
+    let mut cubes = supplies.pop().ok_or("no supply")?;
     for node in 0..31 {
         let is_open = share.pool.lock(rt).path(alloc, node).is_ok();
         if is_open && cubes.put(node).is_err() {
@@ -130,10 +136,16 @@ fn worked<R: Threads + Wait + Sync, C: Cubes>(
     let gate = Counter {
         cubes: AtomicU64::new(0),
     };
+    let events = EventCount::new();
+    let common = Common {
+        encoded: &encoded,
+        shared: share,
+        gate: &gate,
+        events: &events,
+        budget,
+    };
     let mut seat = 0;
-    work(
-        rt, alloc, &encoded, share, &mut seat, cubes, &gate, 0, budget,
-    )?;
+    work(rt, alloc, &common, &mut seat, cubes, 0)?;
     Ok(gate.cubes.load(Ordering::SeqCst))
 }
 
@@ -205,23 +217,6 @@ fn programs_are_decided(rt: HostRuntime) -> Result<(), Fail> {
         let (text, expected) = row.split_once(" | ").ok_or("a row lacks a column")?;
         assert_eq!(rt; shown(&rt, alloc, text)?, expected, "{text}");
     }
-    Ok(())
-}
-
-#[test]
-fn the_first_in_is_the_first_out(rt: HostRuntime) -> Result<(), Fail> {
-    let mut cubes = Queue::new(rt.alloc());
-    assert_eq!(rt; cubes.take(), None);
-    for cube in [5, 0, 4_294_967_295] {
-        assert_eq!(rt; cubes.put(cube), Ok(()));
-    }
-    assert_eq!(rt; (cubes.take(), cubes.take()), (Some(5), Some(0)));
-    assert_eq!(rt; cubes.put(7), Ok(()));
-    assert_eq!(rt;
-        (cubes.take(), cubes.take()),
-        (Some(4_294_967_295), Some(7))
-    );
-    assert_eq!(rt; cubes.take(), None);
     Ok(())
 }
 

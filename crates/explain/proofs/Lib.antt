@@ -1,0 +1,3 @@
+pub mod Replayed
+pub mod LineNumbers
+pub mod CallsWritten

@@ -1,0 +1,143 @@
+//! What decided a run: which sends were buffered, where that is free, and which message a wildcard took where another
+//! one fitted too.
+
+ghost use Rattle.semantics.specs.Machine.{IsStuckRun};
+
+use crate::placing::{put_call_of, put_number_of};
+use crate::written::Written;
+use callorder::{Policy, Program};
+use semantics::{State, Step};
+use std::alloc::{AllocError, Global};
+
+/// The most messages that are named where a wildcard took another one.
+const MOST_RIVALS: usize = 3;
+
+/// Whether the call is a receive or a matched probe with a star.
+fn is_wildcard(program: &Program, taker: usize) -> bool {
+    match program.call(taker) {
+        None => false,
+        Some(call) => match call.kind.pattern() {
+            None => false,
+            Some(pattern) => pattern.source.is_none() || pattern.tag.is_none(),
+        },
+    }
+}
+
+/// Whether the call is an unmatched send that fits the taker.
+fn is_free_send(program: &Program, state: &State, send: usize, taker: usize) -> bool {
+    program.are_fit(send, taker) && state.partner(send).is_none()
+}
+
+/// Whether an earlier send of the send's rank would be matched with the taker first.
+fn is_behind(program: &Program, state: &State, send: usize, taker: usize) -> bool {
+    (0..send).any(|earlier| {
+        program.are_of_one_rank(earlier, send) && is_free_send(program, state, earlier, taker)
+    })
+}
+
+/// The sends of other ranks that fit the taker too, of each rank the first one that is not matched.
+fn rivals(
+    alloc: Global,
+    program: &Program,
+    state: &State,
+    send: usize,
+    taker: usize,
+) -> Result<Vec<usize>, AllocError> {
+    (0..program.calls().len())
+        .filter(|other| {
+            is_free_send(program, state, *other, taker)
+                && !program.are_of_one_rank(*other, send)
+                && !is_behind(program, state, *other, taker)
+        })
+        .collect(alloc)
+}
+
+/// Tells which message a wildcard took, where others fitted too.
+fn put_choice(
+    out: &mut String,
+    calls: &[Written],
+    send: usize,
+    taker: usize,
+    rivals: &[usize],
+) -> Result<(), AllocError> {
+    if rivals.is_empty() {
+        return Ok(());
+    }
+    out.push_str("  ")?;
+    put_call_of(out, calls, taker)?;
+    out.push_str(" took the message of ")?;
+    put_call_of(out, calls, send)?;
+    out.push_str("\n    ")?;
+    put_rivals(out, calls, rivals)?;
+    out.push_str(" fitted too\n")
+}
+
+/// Tells calls by their numbers, parted by commas, and of many how many more there are.
+fn put_rivals(out: &mut String, calls: &[Written], rivals: &[usize]) -> Result<(), AllocError> {
+    let (named, others) = rivals.split_at(rivals.len().min(MOST_RIVALS));
+    let mut before = "";
+    for rival in named {
+        out.push_str(before)?;
+        put_number_of(out, calls, *rival)?;
+        before = ", ";
+    }
+    if !others.is_empty() {
+        let more = others.len();
+        write!(out, " and {more} more")?;
+    }
+    Ok(())
+}
+
+/// Tells which send was buffered.
+fn put_buffered(
+    out: &mut String,
+    calls: &[Written],
+    call: Option<usize>,
+) -> Result<(), AllocError> {
+    let Some(call) = call else {
+        return Ok(());
+    };
+    out.push_str("  ")?;
+    put_call_of(out, calls, call)?;
+    out.push_str(" was buffered\n")
+}
+
+/// Tells what a step decides in a state.
+fn put_decision(
+    out: &mut String,
+    alloc: Global,
+    program: &Program,
+    calls: &[Written],
+    state: &State,
+    step: Step,
+) -> Result<(), AllocError> {
+    match step {
+        Step::Issue {
+            rank,
+            buffered: true,
+        } if program.policy() == Policy::Any => put_buffered(out, calls, state.next_of(rank)),
+        Step::Match { send, taker } if is_wildcard(program, taker) => {
+            let rivals = rivals(alloc, program, state, send, taker)?;
+            put_choice(out, calls, send, taker, &rivals)
+        }
+        _ => Ok(()),
+    }
+}
+
+/// Tells what the steps decide, in their order.
+pub fn decisions(
+    alloc: Global,
+    program: &Program,
+    calls: &[Written],
+    steps: &[Step],
+) -> Result<String, AllocError>
+    requires { IsStuckRun program.now steps.now }
+{
+    let mut out = String::new(alloc);
+    let mut state = State::start(alloc, program)?;
+    for step in steps {
+        put_decision(&mut out, alloc, program, calls, &state, *step)?;
+        state.apply(program, *step);
+    }
+    Ok(out)
+}

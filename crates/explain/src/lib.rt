@@ -1,0 +1,18 @@
+//! The text that explains a deadlock to the writer of an MPI code, and the graph of who waits for whom.
+//!
+//! Numbers of calls count from 1 over the program after expansion, ranks from 0, lines of the program's text from 1.
+#![tactic(auto)]
+
+mod decisions;
+mod explaining;
+mod graph;
+mod numbering;
+mod placing;
+mod replaying;
+mod unreceived;
+mod waiters;
+mod written;
+
+pub use explaining::explanation;
+pub use graph::wait_graph;
+pub use numbering::{line_numbers, lines_are_numbered};

@@ -1,0 +1,81 @@
+//! Calls and ranks as they are told.
+
+use crate::written::Written;
+use semantics::State;
+use std::alloc::AllocError;
+use waits::RankSet;
+
+/// The end of a run, with the calls of its program as the text has them.
+#[derive(Debug, Drop)]
+pub struct Scene {
+    pub calls: Vec<Written>,
+    pub state: State,
+}
+
+/// Tells a call by its number and its line.
+pub fn put_call(out: &mut String, calls: &[Written], call: usize) -> Result<(), AllocError> {
+    if let Some(written) = calls.get(call) {
+        write!(out, "{written}")?;
+    }
+    Ok(())
+}
+
+/// Tells a call by its number, its line and its rank.
+pub fn put_call_of(out: &mut String, calls: &[Written], call: usize) -> Result<(), AllocError> {
+    if let Some(written) = calls.get(call) {
+        let rank = written.rank;
+        write!(out, "{written} of rank {rank}")?;
+    }
+    Ok(())
+}
+
+/// Tells a call by its number and its rank alone.
+pub fn put_number_of(out: &mut String, calls: &[Written], call: usize) -> Result<(), AllocError> {
+    if let Some(written) = calls.get(call) {
+        let number = written.number;
+        let rank = written.rank;
+        write!(out, "call {number} of rank {rank}")?;
+    }
+    Ok(())
+}
+
+/// Whether the set has more than one rank.
+pub fn are_several(ranks: &RankSet) -> bool {
+    let mut others = *ranks;
+    if let Some(first) = ranks.first() {
+        others.remove(first);
+    }
+    !others.is_empty()
+}
+
+/// Tells the ranks of a set, parted by commas, for which this one waits; any of several is enough.
+pub fn put_ranks(out: &mut String, ranks: RankSet, waiting: u32) -> Result<(), AllocError> {
+    let mut before = if are_several(&ranks) { "any of " } else { "" };
+    for rank in 0..64 {
+        if ranks.contains(rank) {
+            out.push_str(before)?;
+            put_rank(out, rank, waiting)?;
+            before = ", ";
+        }
+    }
+    Ok(())
+}
+
+/// Tells a rank for which this one waits.
+fn put_rank(out: &mut String, rank: u32, waiting: u32) -> Result<(), AllocError> {
+    if rank == waiting {
+        out.push_str("itself")
+    } else {
+        write!(out, "rank {rank}")
+    }
+}
+
+/// Adds a part below its heading, if there is something to tell.
+pub fn put_part(out: &mut String, heading: &str, part: &String) -> Result<(), AllocError> {
+    if part.is_empty() {
+        return Ok(());
+    }
+    out.push_str(heading)?;
+    out.push('\n')?;
+    out.push_str(part.as_str())
+}

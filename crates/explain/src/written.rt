@@ -1,0 +1,126 @@
+//! The calls of a program as its text has them.
+
+ghost use Rattle.std.specs.Prelude.{◌^◌, ◌<◌, IfOk};
+ghost use Rattle.explain.specs.Calls.{IsTold, AreWritten};
+
+use crate::numbering::line_numbers;
+use callorder::Program;
+use calltext::Source;
+use std::alloc::{AllocError, Global};
+use std::fmt;
+
+/// The most characters of a line that are told.
+const MOST_WORDS: usize = 60;
+
+/// What stands for the rest of a longer line.
+const CUT: &str = "..";
+
+/// A call as the program's text has it. It is told by its number and its line.
+#[derive(Debug, Drop)]
+pub struct Written {
+    /// The number of the call after expansion, from 1.
+    pub number: usize,
+    /// The rank that makes it, from 0.
+    pub rank: u32,
+    /// The number of its line, from 1.
+    line: usize,
+    /// The words of its line.
+    words: String,
+    /// Which part of its line it is, where that is a `sendrecv`; else nothing.
+    part: &'static str,
+}
+
+impl fmt::Display for Written {
+    fn fmt<W: fmt::Write>(&self, f: &mut fmt::Formatter<W>) -> fmt::Result {
+        let number = self.number;
+        let line = self.line;
+        let words = self.words.as_str();
+        let part = self.part;
+        write!(f, "call {number} (line {line}: {words}{part})")
+    }
+}
+
+/// The characters of these bytes, each of which is one.
+fn put_words(out: &mut String, bytes: &[u8]) -> Result<(), AllocError> {
+    for byte in bytes {
+        out.push(char::from(*byte))?;
+    }
+    Ok(())
+}
+
+/// The words of a line, cut where they are long.
+fn words_of_line(alloc: Global, line: &[u8]) -> Result<String, AllocError> {
+    let mut words = String::new(alloc);
+    if line.len() <= MOST_WORDS {
+        put_words(&mut words, line)?;
+    } else {
+        put_words(&mut words, &line[..MOST_WORDS - CUT.len()])?;
+        words.push_str(CUT)?;
+    }
+    Ok(words)
+}
+
+/// Which part of a `sendrecv` a call is, the place being its place, from 0, among the calls of the line.
+fn part_of(place: usize) -> &'static str {
+    match place {
+        0 => ", its send",
+        1 => ", its receive",
+        2 => ", wait for its send",
+        _ => ", wait for its receive",
+    }
+}
+
+/// The call at a place, as its line has it.
+fn written_call(
+    alloc: Global,
+    lines: &[&[u8]],
+    numbers: &[usize],
+    place: usize,
+    rank: u32,
+) -> Result<Written, AllocError>
+    requires { place < 2 ^ 32 }
+    ensures { IfOk result (λ call. IsTold numbers.now place rank call) }
+{
+    let line = numbers.get(place).copied().unwrap_or(0);
+    let bytes: &[u8] = if line > 0 {
+        lines.get(line - 1).copied().unwrap_or(b"")
+    } else {
+        b""
+    };
+    let first = numbers
+        .iter()
+        .position(|other| *other == line)
+        .unwrap_or(place);
+    let part = if bytes.starts_with(b"sendrecv ") {
+        part_of(place.saturating_sub(first))
+    } else {
+        ""
+    };
+    let words = words_of_line(alloc, bytes)?;
+    let number = place + 1;
+    Ok(Written {
+        number,
+        rank,
+        line,
+        words,
+        part,
+    })
+}
+
+/// The calls of a program, in order, as its text has them. The only error is want of memory.
+pub fn written_calls(
+    alloc: Global,
+    text: &[u8],
+    source: &Source,
+    program: &Program,
+) -> Result<Vec<Written>, AllocError>
+    ensures { IfOk result (λ calls. AreWritten source.now program.now calls.items) }
+{
+    let lines: Vec<&[u8]> = text.split(|byte| *byte == b'\n').collect(alloc)?;
+    let numbers = line_numbers(alloc, source)?;
+    let mut calls = Vec::new(alloc);
+    for (place, call) in program.calls().iter().enumerate() {
+        calls.push(written_call(alloc, &lines, &numbers, place, call.rank)?)?;
+    }
+    Ok(calls)
+}

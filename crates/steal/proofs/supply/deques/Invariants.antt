@@ -1,0 +1,12 @@
+use Rattle.std.proofs.Common.{◌≡◌, All, length}
+use Rattle.std.specs.List.{AllZip}
+use Rattle.steal.specs.Rows.{rows_of, AreFreshThieves, IsFreshOwner}
+use Rattle.steal.proofs.supply.deques.Given as goal
+
+abbrev pub invariant-loop : goal.invariant-loop
+invariant-loop l =
+    record {
+      size : length l.owners.items ≡ l.counter;
+      owners : All (IsFreshOwner l.count) l.owners.items;
+      rows : AllZip (AreFreshThieves l.count) l.owners.items (rows_of l.rows.items);
+    }

@@ -1,0 +1,91 @@
+-- Circles: which ranks wait on one, how a path grows, and where one closes.
+use Rattle.std.proofs.Common.{◌≡◌, ℕ, zero, suc, ◌<◌, ◌⊎◌, inl, inr, false, not, ◌&&◌, ◌==◌, IsTrue, List, [], ◌∷◌, ◌++◌, Option, Some, None, length, get_or, drop, refl, sym, ◌∙◌, subst, arith}
+use Rattle.std.proofs.lemmas.Bool.{cases_lt, cases_eq, and_parts, and_from, ltb-true, ne_eqb, not_from_false, true≢false}
+use Rattle.std.proofs.lemmas.List.{get_or_default, get_or_past}
+use Rattle.std.proofs.lemmas.List.Elements.{Contains-push, Contains-append_left}
+use Rattle.std.specs.Prelude.{slice_get, Contains}
+use Rattle.waits.specs.declared.rank_set.RankSet.{RankSet}
+use Rattle.waits.specs.RankSets.{has_rank}
+use Rattle.waits.specs.Circles.{has_edge, has_edge_in, LeadTo, IsCircle, HasAllCircles}
+
+-- ---- the ranks of a circle
+
+-- each rank of a path waits for the next one, the last for `to`
+LeadTo-at : (edges : List RankSet) (xs : List ℕ) (to k : ℕ) → LeadTo edges xs to → k < length xs → IsTrue (has_edge edges (get_or xs k 0) (get_or xs (suc k) to))
+LeadTo-at edges [] to k leads within = absurd (omega arith)
+LeadTo-at edges (x ∷ xs) to zero leads within = leads.0
+LeadTo-at edges (x ∷ xs) to (suc k) leads within = LeadTo-at edges xs to k leads.1 (omega arith)
+
+-- each rank of a circle waits for one of its ranks
+next_on : (edges : List RankSet) (xs : List ℕ) → IsCircle edges xs → (k : ℕ) → k < length xs → (j : ℕ) × (j < length xs) × IsTrue (has_edge edges (get_or xs k 0) (get_or xs j 0))
+next_on edges [] circle k within = absurd circle
+next_on edges (x ∷ xs) circle k within =
+    let edge : IsTrue (has_edge edges (get_or (x ∷ xs) k 0) (get_or (x ∷ xs) (suc k) x)) = LeadTo-at edges (x ∷ xs) x k circle within in
+    elim (cases_lt (suc k) (length (x ∷ xs))) [
+      | inl more ↦ (suc k, more, subst (λ (q : ℕ). IsTrue (has_edge edges (get_or (x ∷ xs) k 0) q)) (get_or_default (x ∷ xs) (suc k) x 0 more) edge)
+      | inr last ↦ (0, omega arith, subst (λ (q : ℕ). IsTrue (has_edge edges (get_or (x ∷ xs) k 0) q)) (get_or_past (x ∷ xs) (suc k) x last) edge)
+    ]
+
+-- for each rank of a circle one of its ranks waits
+before_on : (edges : List RankSet) (xs : List ℕ) → IsCircle edges xs → (k : ℕ) → k < length xs → (j : ℕ) × IsTrue (has_edge edges (get_or xs j 0) (get_or xs k 0))
+before_on edges [] circle k within = absurd circle
+before_on edges (x ∷ xs) circle zero within =
+    (length xs, subst (λ (q : ℕ). IsTrue (has_edge edges (get_or (x ∷ xs) (length xs) 0) q)) (get_or_past (x ∷ xs) (suc (length xs)) x (omega arith)) (LeadTo-at edges (x ∷ xs) x (length xs) circle (omega arith)))
+before_on edges (x ∷ xs) circle (suc k) within =
+    (k, subst (λ (q : ℕ). IsTrue (has_edge edges (get_or (x ∷ xs) k 0) q)) (get_or_default (x ∷ xs) (suc k) x 0 within) (LeadTo-at edges (x ∷ xs) x k circle (omega arith)))
+
+edge_within : (o : Option RankSet) (to : ℕ) → IsTrue (has_edge_in o to) → to < 64
+edge_within None to edge = absurd (cc)
+edge_within (Some set) to edge = ltb-true to 64 (and_parts _ _ edge).0
+
+-- the ranks of circles are below 64
+pub circles_within : (edges : List RankSet) (set : RankSet) → ((rank : ℕ) → rank < 64 → IsTrue (has_rank set rank)) → HasAllCircles edges set
+circles_within edges set all xs circle k within =
+    let before = before_on edges xs circle k within in
+    all (get_or xs k 0) (edge_within (slice_get edges (get_or xs before.0 0)) (get_or xs k 0) before.1)
+
+-- a rank that waits for none of a set that has all circles is on no circle
+pub circles_without : (edges : List RankSet) (old new : RankSet) (rank : ℕ) → HasAllCircles edges old → ((next : ℕ) → IsTrue (has_rank old next) → IsTrue (has_edge edges rank next) → ⊥)
+    → ((other : ℕ) → has_rank new other ≡ (not (other == rank) && has_rank old other)) → HasAllCircles edges new
+circles_without edges old new rank all none left xs circle k within =
+    let other : get_or xs k 0 ≡ rank → ⊥ = λ is. (let next = next_on edges xs circle k within in none (get_or xs next.0 0) (all xs circle next.0 next.1) (subst (λ (r : ℕ). IsTrue (has_edge edges r (get_or xs next.0 0))) is next.2)) in
+    left (get_or xs k 0) ∙ and_from _ _ (not_from_false _ (ne_eqb (get_or xs k 0) rank other)) (all xs circle k within)
+
+-- ---- paths
+
+head_of_push : (xs : List ℕ) (r q : ℕ) → get_or xs 0 r ≡ get_or (xs ++ r ∷ []) 0 q
+head_of_push [] r q = refl
+head_of_push (x ∷ xs) r q = refl
+
+-- a path goes on
+pub LeadTo-push : (edges : List RankSet) (xs : List ℕ) (r q : ℕ) → LeadTo edges xs r → IsTrue (has_edge edges r q) → LeadTo edges (xs ++ r ∷ []) q
+LeadTo-push edges [] r q leads edge = (edge, tt)
+LeadTo-push edges (x ∷ xs) r q leads edge =
+    (subst (λ (z : ℕ). IsTrue (has_edge edges x z)) (head_of_push xs r q) leads.0, LeadTo-push edges xs r q leads.1 edge)
+
+-- from where a path comes back to, it is a circle
+pub circle_from : (edges : List RankSet) (xs : List ℕ) (to k : ℕ) → LeadTo edges xs to → k < length xs → get_or xs k 0 ≡ to → IsCircle edges (drop k xs)
+circle_from edges [] to k leads within again = absurd (omega arith)
+circle_from edges (x ∷ xs) to zero leads within again = subst (λ (z : ℕ). LeadTo edges (x ∷ xs) z) (sym again) leads
+circle_from edges (x ∷ xs) to (suc k) leads within again = circle_from edges xs to k leads.1 (omega arith) again
+
+-- each rank of the set is still fresh or on the path
+abbrev pub HasBeen : RankSet → RankSet → List ℕ → Type 0
+HasBeen set fresh path = (rank : ℕ) → IsTrue (has_rank set rank) → IsTrue (has_rank fresh rank) ⊎ Contains path rank
+
+pub HasBeen-push : (set old new : RankSet) (path grown : List ℕ) (rank : ℕ) → grown ≡ path ++ rank ∷ [] → ((other : ℕ) → has_rank new other ≡ (not (other == rank) && has_rank old other)) → HasBeen set old path → HasBeen set new grown
+HasBeen-push set old new path grown rank grows left been r within =
+    elim (been r within) [
+      | inl fresh ↦ elim (cases_eq r rank) [
+        | inl here ↦ inr (subst (λ (x : List ℕ). Contains x r) (sym grows) (subst (λ (x : ℕ). Contains (path ++ rank ∷ []) x) (sym here) (Contains-push path rank)))
+        | inr differ ↦ inl (left r ∙ and_from _ _ (not_from_false _ (ne_eqb r rank differ)) fresh)
+      ]
+      | inr on ↦ inr (subst (λ (x : List ℕ). Contains x r) (sym grows) (Contains-append_left path (rank ∷ []) r on))
+    ]
+
+-- ---- no circle
+
+-- where no rank of a set is left that has all circles, there is no circle
+pub no_circle : (edges : List RankSet) (set : RankSet) → HasAllCircles edges set → ((rank : ℕ) → has_rank set rank ≡ false) → (ranks : List ℕ) → IsCircle edges ranks → ⊥
+no_circle edges set all none [] circle = circle
+no_circle edges set all none (rank ∷ others) circle = true≢false (sym (all (rank ∷ others) circle 0 (omega arith)) ∙ none rank)

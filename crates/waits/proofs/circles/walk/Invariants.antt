@@ -1,0 +1,16 @@
+use Rattle.std.proofs.Common.{IsTrue}
+use Rattle.waits.specs.RankSets.{has_rank, size}
+use Rattle.waits.specs.Circles.{LeadTo}
+use Rattle.waits.proofs.CircleLaws.{HasBeen}
+use Rattle.waits.proofs.circles.walk.Given as goal
+
+abbrev pub invariant-loop-left : goal.invariant-loop-left
+invariant-loop-left l =
+    record {
+      here : IsTrue (has_rank l.left l.rank);
+      leads : LeadTo l.edges l.path.items l.rank;
+      been : HasBeen l.left l.fresh l.path.items;
+    }
+
+abbrev pub decreases-loop-left : goal.decreases-loop-left
+decreases-loop-left l = size l.fresh

@@ -1,0 +1,4 @@
+pub mod RankSets
+pub mod Circles
+pub mod Waiting
+pub mod Laws

@@ -1,0 +1,29 @@
+//! What holds where a program is stuck, apart from any code.
+
+ghost use Rattle.waits.specs.Laws.{StuckRanksWaitInOneCall, NoRankIsReadyWhereStuck, FitCallsAreNotBothOpen, NeededCallsAreNotOpen, WaitingRanksNeed};
+
+/// In a stuck state each rank that is not finished waits in exactly one call.
+pub fn stuck_ranks_wait_in_one_call()
+    ensures { StuckRanksWaitInOneCall }
+{}
+
+/// In a stuck state each rank is finished or waits in a call.
+pub fn no_rank_is_ready_where_stuck()
+    ensures { NoRankIsReadyWhereStuck }
+{}
+
+/// In a stuck state no two calls that fit are both issued and unmatched.
+pub fn fit_calls_are_not_both_open()
+    ensures { FitCallsAreNotBothOpen }
+{}
+
+/// Where a rank waits for a match in a stuck state, each call that fits is taken or not issued.
+pub fn needed_calls_are_not_open()
+    ensures { NeededCallsAreNotOpen }
+{}
+
+/// After each run a rank that waits needs something that has not come: a match, or the receive on the handle of a
+/// matched probe.
+pub fn waiting_ranks_need()
+    ensures { WaitingRanksNeed }
+{}

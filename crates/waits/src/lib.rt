@@ -1,0 +1,24 @@
+//! What is known of a program's state, rank by rank: where each rank stands, what it waits for, and which ranks wait
+//! for one another in a circle.
+//!
+//! A call is named by its place, from 0, in the program's list of calls.
+#![tactic(auto)]
+
+mod circles;
+mod fates;
+mod laws;
+mod needs;
+mod rank_set;
+mod standings;
+mod waiting;
+
+pub use circles::circle;
+pub use fates::{Fate, fate_of, fits_with, fitting};
+pub use laws::{
+    fit_calls_are_not_both_open, needed_calls_are_not_open, no_rank_is_ready_where_stuck,
+    stuck_ranks_wait_in_one_call, waiting_ranks_need,
+};
+pub use needs::{Need, need_of, operation_of};
+pub use rank_set::RankSet;
+pub use standings::{Standing, standing_of};
+pub use waiting::awaited;
