@@ -1,5 +1,6 @@
 pub mod Answering
 pub mod Assembling
+pub mod Calls
 pub mod Derivations
 pub mod Hints
 pub mod Histories

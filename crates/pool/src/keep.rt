@@ -53,6 +53,8 @@ pub struct Pool {
     schedule: Option<Vec<Step>>,
     reasons: Vec<Why>,
     history: Vec<Entry>,
+    /// How many places are kept in the history and among the reasons, each for one call of `leave_kept`.
+    kept: usize,
 }
 
 impl Model for Pool {
@@ -66,6 +68,14 @@ impl Model for Pool {
     ghost view = { λ a. record { held = held_of a.encoded a.tree a.closed.items a.log (option_map (λ s. s.items) a.schedule) a.reasons.items; history = a.history.items } };
 
     ghost invariant = { λ a. IsSound (held_of a.encoded a.tree a.closed.items a.log (option_map (λ s. s.items) a.schedule) a.reasons.items) × (a.open_leaves ≡ open_count a.tree.nodes a.closed.items) × (length a.known ≡ a.encoded.formula.variables + 1) };
+}
+
+/// Makes room for one more, so that the places that are kept stay free.
+fn reserve_beyond<T>(list: &mut Vec<T>, kept: usize) -> Result<(), AllocError>
+    ensures room { OnOk result (vec_len list.new + 1 ≤ vec_capacity list.new) }
+    ensures same { list.new.items ≡ list.old.items }
+{
+    list.reserve(kept.saturating_add(1))
 }
 
 /// Notes a call, for which there is room.
@@ -119,14 +129,16 @@ fn split_open(
     }
 }
 
-fn add_reason(reasons: &mut Vec<Why>, why: Option<Why>) -> Result<(), AllocError>
+/// Adds a reason beyond the places that are kept.
+fn add_reason(reasons: &mut Vec<Why>, kept: usize, why: Option<Why>) -> Result<(), AllocError>
     ensures ok { OnOk result (reasons.new.items ≡ with_reason reasons.old.items why) }
     ensures err { OnErr result (reasons.new.items ≡ reasons.old.items) }
 {
     match why {
         None => Ok(()),
         Some(why) => {
-            reasons.push(why)?;
+            reserve_beyond(reasons, kept)?;
+            reasons.push_reserved(why);
             Ok(())
         }
     }
@@ -162,6 +174,7 @@ impl Pool {
             schedule: None,
             reasons: Vec::new(alloc),
             history: Vec::new(alloc),
+            kept: 0,
         })
     }
 
@@ -314,7 +327,7 @@ impl Pool {
         ensures reply { IsPublished self.old.held batch.now.lines.items result }
         ensures pool { self.new ≡ published self.old worker batch.now.lines.items result }
     {
-        if self.history.reserve(1).is_err() {
+        if reserve_beyond(&mut self.history, self.kept).is_err() {
             return Err(PublishFault::Memory);
         }
         let base = self.next_number();
@@ -345,7 +358,7 @@ impl Pool {
         ensures reply { IsFetched self.old.held from result }
         ensures pool { self.new ≡ fetched self.old worker from result }
     {
-        if self.history.reserve(1).is_err() {
+        if reserve_beyond(&mut self.history, self.kept).is_err() {
             return Err(FetchFault::Memory);
         }
         if self.log.len() < from {
@@ -370,7 +383,7 @@ impl Pool {
         ensures reply { IsClosed self.old.held leaf number result }
         ensures pool { self.new ≡ closed self.old worker leaf number result }
     {
-        if self.history.reserve(1).is_err() {
+        if reserve_beyond(&mut self.history, self.kept).is_err() {
             return Err(CloseFault::Memory);
         }
         if !self.is_open(leaf) {
@@ -417,7 +430,7 @@ impl Pool {
         ensures reply { IsSplit self.old.held leaf variable result }
         ensures pool { self.new ≡ after_split self.old worker leaf variable result }
     {
-        if self.history.reserve(1).is_err() {
+        if reserve_beyond(&mut self.history, self.kept).is_err() {
             return Err(SplitFault::Memory);
         }
         match self.split_fault(leaf, variable) {
@@ -437,15 +450,38 @@ impl Pool {
         Ok(below)
     }
 
-    /// Notes why a worker leaves, which is `None` where it is done.
+    /// Notes why a worker leaves, which is `None` where it is done. May want memory, as each call but
+    /// [`leave_kept`](Pool::leave_kept).
     pub fn leave(&mut self, worker: u32, why: Option<Why>) -> Result<(), AllocError>
         ensures ok { OnOk result (self.new ≡ noted self.old (leave_item worker why)) }
         ensures err { OnErr result (self.new ≡ self.old) }
     {
-        self.history.reserve(1)?;
-        add_reason(&mut self.reasons, why)?;
+        reserve_beyond(&mut self.history, self.kept)?;
+        add_reason(&mut self.reasons, self.kept, why)?;
         note(&mut self.history, worker, Deed::Leave(why));
         Ok(())
+    }
+
+    /// Keeps so many more places, each for one [`leave_kept`](Pool::leave_kept): the other calls leave them
+    /// free. Where memory is wanting, none more is kept.
+    pub fn keep_places(&mut self, places: usize) -> Result<(), AllocError>
+        ensures { self.new ≡ self.old }
+    {
+        let kept = self.kept.saturating_add(places);
+        self.history.reserve(kept)?;
+        self.reasons.reserve(kept)?;
+        self.kept = kept;
+        Ok(())
+    }
+
+    /// As [`leave`](Pool::leave), by a place that is kept: then no memory is asked for, and none is wanting.
+    /// Where no place is kept, it is `leave`. That no memory is asked for isn't proved.
+    pub fn leave_kept(&mut self, worker: u32, why: Option<Why>) -> Result<(), AllocError>
+        ensures ok { OnOk result (self.new ≡ noted self.old (leave_item worker why)) }
+        ensures err { OnErr result (self.new ≡ self.old) }
+    {
+        self.kept = self.kept.saturating_sub(1);
+        self.leave(worker, why)
     }
 
     /// Keeps the first schedule that is a run of the program that ends stuck; later ones change the
@@ -454,7 +490,7 @@ impl Pool {
         ensures reply { IsFound self.old.held steps.items result }
         ensures pool { self.new ≡ after_found self.old worker steps.items result }
     {
-        if self.history.reserve(1).is_err() {
+        if reserve_beyond(&mut self.history, self.kept).is_err() {
             return Err(FoundFault::Memory);
         }
         let count = steps.len();

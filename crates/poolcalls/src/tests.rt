@@ -369,3 +369,36 @@ fn a_long_search(rt: HostRuntime) -> Result<(), Fail> {
         (replies, status, "open"),
     )
 }
+
+/// Whether so many closes are refused, be it for want of memory.
+fn refuses_closes(pool: &mut Pool, count: u32) -> bool {
+    let mut is_refused = true;
+    for _ in 0..count {
+        is_refused = is_refused && pool.close(0, 0, 99).is_err();
+    }
+    is_refused
+}
+
+/// Three leaves by two kept places, the last as any other call. Where an allocation fails, none of the first two does.
+#[test]
+fn kept_places(rt: HostRuntime) -> Result<(), Fail> {
+    let (mut pool, _replies) = pool_after(&rt, rt.alloc(), BUFFERED, &[])?;
+    pool.keep_places(2)?;
+    assert!(rt; refuses_closes(&mut pool, 40));
+    assert!(rt; pool.leave_kept(0, Some(Why::Full)).is_ok());
+    assert!(rt; refuses_closes(&mut pool, 40));
+    assert!(rt; pool.leave_kept(1, Some(Why::Left)).is_ok());
+    pool.leave_kept(2, Some(Why::Budget))?;
+    assert!(rt; pool.status().why == Some(Why::Budget));
+    Ok(())
+}
+
+/// A number of places for which there is no memory is refused, and asks nothing of the calls after it.
+#[test]
+fn too_many_places(rt: HostRuntime) -> Result<(), Fail> {
+    let (mut pool, _replies) = pool_after(&rt, rt.alloc(), BUFFERED, &[])?;
+    assert!(rt; pool.keep_places(usize::MAX).is_err());
+    pool.leave(0, None)?;
+    assert_eq!(rt; pool.history().len(), 1);
+    Ok(())
+}

@@ -182,6 +182,7 @@ fn search_in<B: Room + Send + Sync, G: Gate + Sync, R: Threads + Wait + Sync>(
 ) -> Result<Pool, Why>
     requires room { (cell.table.shared.table_id ≡ B.table) × (keeper.table_id ≡ B.table) × (cell_view keeper ≡ knower 0 []) }
     requires fresh { (pool.history ≡ []) × (pool.held ≡ B.opening) }
+    requires workers { options.workers ≡ B.workers }
     ensures program { IfOk result (λ last. last.held.program ≡ pool.held.program) }
     ensures formula { IfOk result (λ last. last.held.formula ≡ pool.held.formula) }
 {

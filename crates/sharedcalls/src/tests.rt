@@ -11,7 +11,7 @@ use candidates::pairs;
 use clauses::{Clause, LARGEST_VARIABLE, Lit};
 use encode::{Encoded, encode};
 use nonovertake::earlier;
-use pool::{AssembleFault, CloseFault, FetchFault, PathFault, Pool, Share, SplitFault};
+use pool::{AssembleFault, CloseFault, FetchFault, PathFault, Pool, Share, SplitFault, Why};
 use prooflog::write_evidence;
 use sharedpool::{Cell, Room, SharedPool, Token, open_room};
 use std::alloc::Global;
@@ -230,11 +230,31 @@ fn two_leaves_calls<S: Share, R: Wait>(
         && has_open(rt, shared, 0)
 }
 
+/// Whether so many closes are refused, be it for want of memory.
+fn refuses_closes<S: Share, R: Wait>(rt: &R, shared: &S, seat: &mut S::Seat, count: u32) -> bool {
+    let mut is_refused = true;
+    for _ in 0..count {
+        is_refused = is_refused && shared.close(rt, seat, 0, 99).is_err();
+    }
+    is_refused
+}
+
+/// Whether two workers can leave after many calls of the first.
+fn leaving_calls<S: Share, R: Wait>(rt: &R, shared: &S, seats: &mut [S::Seat]) -> bool
+    requires { length seats.old ≡ 2 }
+{
+    refuses_closes(rt, shared, &mut seats[0], 40)
+        && shared.leave(rt, &mut seats[0], Some(Why::Budget)).is_ok()
+        && refuses_closes(rt, shared, &mut seats[0], 40)
+        && shared.leave(rt, &mut seats[1], Some(Why::Left)).is_ok()
+}
+
 /// Whose calls are made.
 #[derive(Clone, Copy)]
 enum Example {
     OneLeaf,
     TwoLeaves,
+    Leaving,
 }
 
 /// Whether the example's calls have the replies that they are to have.
@@ -251,6 +271,7 @@ fn replies_are_right<S: Share, R: Wait>(
     match example {
         Example::OneLeaf => one_leaf_calls(rt, alloc, shared, seats, batch),
         Example::TwoLeaves => two_leaves_calls(rt, alloc, shared, seats, batch),
+        Example::Leaving => leaving_calls(rt, shared, seats),
     }
 }
 
@@ -267,6 +288,7 @@ fn finished_in<B: Room, R: Wait>(
 ) -> Result<(Pool, Vec<usize>), Fail>
     requires room { (cell.table.shared.table_id ≡ B.table) × (keeper.table_id ≡ B.table) × (cell_view keeper ≡ knower 0 []) }
     requires fresh { (pool.history ≡ []) × (pool.held ≡ B.opening) }
+    requires workers { B.workers ≡ 2 }
 {
     let (shared, mut seats) = SharedPool::<B>::new(alloc, cell, keeper, pool, 2)?;
     if !replies_are_right(rt, alloc, &shared, seats.as_mut_slice(), batch, example) {
@@ -308,5 +330,16 @@ fn two_leaves(rt: HostRuntime) -> Result<(), Fail> {
     assert_eq!(rt; counts.as_slice(), [3, 3].as_slice());
     let text = "evidence 1/refutation 2 3/line -2 : 1 2/line : 4 3/tree/split 2/leaf 4/leaf 3/";
     assert!(rt; tells(alloc, &pool, text)?);
+    Ok(())
+}
+
+/// Where an allocation fails in the calls, each worker can leave all the same.
+#[test]
+fn each_worker_leaves(rt: HostRuntime) -> Result<(), Fail> {
+    let alloc = rt.alloc();
+    let batch = empty_clause(alloc)?;
+    let (pool, counts) = finished(&rt, alloc, &batch, Example::Leaving)?;
+    assert!(rt; counts.get(1) == Some(&1));
+    assert!(rt; pool.status().why == Some(Why::Budget));
     Ok(())
 }

@@ -151,6 +151,10 @@ IsRefusedOver formula mine batch place =
 abbrev pub AreNumbered : List Chair → Type 0
 AreNumbered seats = (k : ℕ) (seat : Chair) → k < length seats → slice_get seats k ≡ Some seat → seat.worker ≡ k
 
+-- they are so many, in order of their workers
+abbrev pub AreAllSeats : ℕ → List Chair → Type 0
+AreAllSeats workers seats = (length seats ≡ workers) × AreNumbered seats
+
 -- There is one legal history. Its items of each worker, in order, are that worker's seat's list, and there are no others. The
 -- counts are how many entries each worker has
 pub record IsFinished (opening : Held) (seats : List Chair) (pool : Kept) (counts : List ℕ) : Type 0 where

@@ -1,8 +1,8 @@
 //! What the lock holds: the pool, and the pass that knows all items.
 
-ghost use Rattle.std.specs.Prelude.{◌≡◌, ◌==◌, ◌↔◌, ◌≤◌, ℕ, [], Err, IsTrue, OnOk, OnErr, length};
+ghost use Rattle.std.specs.Prelude.{◌≡◌, ◌==◌, ◌≤◌, ℕ, [], Err, OnOk, OnErr, length};
 ghost use Rattle.std.specs.List.{count_by};
-ghost use Rattle.pool.specs.States.{IsLegal, IsSound, IsPublished, IsFetched, IsClosed, IsSplit, IsFound};
+ghost use Rattle.pool.specs.States.{noted, leave_item, IsLegal, IsSound, IsPublished, IsFetched, IsClosed, IsSplit, IsFound};
 ghost use Rattle.crossbeam_utils.specs.Seq.{cell_view};
 ghost use Rattle.sharedpool.specs.Views.{knower, items_of, AllBelow};
 ghost use Rattle.sharedpool.specs.Seats.{HoldsOver, IsRefusedOver, told_publish, told_fetch, told_close, told_split, told_found, told_leave};
@@ -30,6 +30,7 @@ pub(crate) struct Locked<B: Room> {
     workers: u32,
     keeper: Token,
     room: PhantomData<B>,
+    ghost made: { workers ≡ B.workers },
 }
 
 impl<B: Room> Model for Locked<B> {
@@ -43,48 +44,20 @@ impl<B: Room> Model for Locked<B> {
     ghost invariant = { λ s. IsLocked B.table B.opening s.pool s.workers s.keeper };
 }
 
-fn wants_memory_to_publish(reply: &Result<u32, PublishFault>) -> bool
-    ensures { IsTrue result ↔ (reply.now ≡ Err PublishFault.Memory) }
+/// A leave; the first of a worker by a place that is kept.
+fn leave_pool(
+    pool: &mut Pool,
+    worker: u32,
+    why: Option<Why>,
+    has_left: bool,
+) -> Result<(), AllocError>
+    ensures ok { OnOk result (pool.new ≡ noted pool.old (leave_item worker why)) }
+    ensures err { OnErr result (pool.new ≡ pool.old) }
 {
-    match reply {
-        Err(PublishFault::Memory) => true,
-        _ => false,
-    }
-}
-
-fn wants_memory_to_fetch(reply: &Result<Lines, FetchFault>) -> bool
-    ensures { IsTrue result ↔ (reply.now ≡ Err FetchFault.Memory) }
-{
-    match reply {
-        Err(FetchFault::Memory) => true,
-        _ => false,
-    }
-}
-
-fn wants_memory_to_close(reply: &Result<(), CloseFault>) -> bool
-    ensures { IsTrue result ↔ (reply.now ≡ Err CloseFault.Memory) }
-{
-    match reply {
-        Err(CloseFault::Memory) => true,
-        _ => false,
-    }
-}
-
-fn wants_memory_to_split(reply: &Result<(u32, u32), SplitFault>) -> bool
-    ensures { IsTrue result ↔ (reply.now ≡ Err SplitFault.Memory) }
-{
-    match reply {
-        Err(SplitFault::Memory) => true,
-        _ => false,
-    }
-}
-
-fn wants_memory_to_find(reply: &Result<(), FoundFault>) -> bool
-    ensures { IsTrue result ↔ (reply.now ≡ Err FoundFault.Memory) }
-{
-    match reply {
-        Err(FoundFault::Memory) => true,
-        _ => false,
+    if has_left {
+        pool.leave(worker, why)
+    } else {
+        pool.leave_kept(worker, why)
     }
 }
 
@@ -104,6 +77,7 @@ impl<B: Room> Locked<B> {
         requires keeper { (keeper.table_id ≡ B.table) × (cell_view keeper ≡ knower workers []) }
         requires fresh { (pool.history ≡ []) × (pool.held ≡ B.opening) }
         requires some_worker { 1 ≤ workers }
+        requires workers { workers ≡ B.workers }
     {
         let _history = pool.history();
         Locked {
@@ -117,6 +91,7 @@ impl<B: Room> Locked<B> {
     /// How many seats were made.
     pub(crate) fn workers(&self) -> u32
         ensures made { result ≡ self.now.workers }
+        ensures room { result ≡ B.workers }
         ensures some_worker { 1 ≤ result }
     {
         self.workers
@@ -132,6 +107,7 @@ impl<B: Room> Locked<B> {
         let Seat {
             worker: _,
             pass,
+            has_left: _,
             room: _,
         } = seat;
         cell.join_pass::<WithSeat>(&mut self.keeper, pass);
@@ -187,7 +163,7 @@ impl<B: Room> Locked<B> {
     {
         let worker = seat.worker;
         let reply = self.pool.publish(alloc, worker, batch);
-        if wants_memory_to_publish(&reply) {
+        if let Err(PublishFault::Memory) = &reply {
             return Err(PublishFault::Memory);
         }
         let keeper = &mut self.keeper;
@@ -211,7 +187,7 @@ impl<B: Room> Locked<B> {
     {
         let worker = seat.worker;
         let reply = self.pool.fetch(alloc, worker, from);
-        if wants_memory_to_fetch(&reply) {
+        if let Err(FetchFault::Memory) = &reply {
             return Err(FetchFault::Memory);
         }
         let keeper = &mut self.keeper;
@@ -235,7 +211,7 @@ impl<B: Room> Locked<B> {
     {
         let worker = seat.worker;
         let reply = self.pool.close(worker, leaf, number);
-        if wants_memory_to_close(&reply) {
+        if let Err(CloseFault::Memory) = &reply {
             return Err(CloseFault::Memory);
         }
         let call = (leaf, number);
@@ -261,7 +237,7 @@ impl<B: Room> Locked<B> {
     {
         let worker = seat.worker;
         let reply = self.pool.split_leaf(alloc, worker, leaf, variable);
-        if wants_memory_to_split(&reply) {
+        if let Err(SplitFault::Memory) = &reply {
             return Err(SplitFault::Memory);
         }
         let call = (leaf, variable);
@@ -303,7 +279,7 @@ impl<B: Room> Locked<B> {
     {
         let worker = seat.worker;
         let reply = self.pool.found(alloc, worker, steps);
-        if wants_memory_to_find(&reply) {
+        if let Err(FoundFault::Memory) = &reply {
             return Err(FoundFault::Memory);
         }
         let keeper = &mut self.keeper;
@@ -312,7 +288,7 @@ impl<B: Room> Locked<B> {
         reply
     }
 
-    /// A leave by the worker of this seat.
+    /// A leave by the worker of this seat. Its first one asks for no memory.
     pub(crate) fn leave<R: Wait>(
         &mut self,
         rt: &R,
@@ -325,7 +301,8 @@ impl<B: Room> Locked<B> {
         ensures err { OnErr result (seat.new ≡ seat.old) }
     {
         let worker = seat.worker;
-        self.pool.leave(worker, why)?;
+        leave_pool(&mut self.pool, worker, why, seat.has_left)?;
+        seat.has_left = true;
         let keeper = &mut self.keeper;
         let pass = &mut seat.pass;
         note::<Brand, _, _, R>(rt, cell, keeper, pass, worker, &why, &());

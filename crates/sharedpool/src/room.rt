@@ -7,15 +7,18 @@ use pool::Item;
 use std::collections::LinkedList;
 use std::marker::{Brand, PhantomData};
 
-/// Names one shared pool: its cell, and the pool that it began with. The call that opens a room picks
-/// both, for [`Brand`].
+/// Names one shared pool: its cell, the pool that it began with, and how many workers it has. The call
+/// that opens a room picks the three, for [`Brand`].
 pub trait Room {
+    ghost use Rattle.std.specs.Prelude.{ℕ};
     ghost use Rattle.atomic_table.specs.Seated.{TableId};
     ghost use Rattle.pool.specs.States.{Held};
 
     ghost table: { TableId };
 
     ghost opening: { Held };
+
+    ghost workers: { ℕ };
 }
 
 impl Room for Brand {
@@ -24,6 +27,8 @@ impl Room for Brand {
     ghost table = { no_table };
 
     ghost opening = { no_pool };
+
+    ghost workers = { 0 };
 }
 
 /// Names the item that one call adds.

@@ -10,6 +10,8 @@ use std::marker::{Model, PhantomData};
 pub struct Seat<B: Room> {
     pub(crate) worker: u32,
     pub(crate) pass: Token,
+    /// Whether the worker left with it: its first leave has a place that is kept.
+    pub(crate) has_left: bool,
     pub(crate) room: PhantomData<B>,
 }
 

@@ -1,12 +1,12 @@
 //! The pool that workers share.
 
-ghost use Rattle.std.specs.Prelude.{◌≡◌, ◌≤◌, ◌<◌, ℕ, All, Err, IfErr, IfOk, OnOk, OnErr, IsTrue, [], length, map};
+ghost use Rattle.std.specs.Prelude.{◌≡◌, ◌↔◌, ◌≤◌, ◌<◌, ℕ, All, Err, IfErr, IfOk, OnOk, OnErr, IsTrue, [], length, map};
 ghost use Rattle.std.specs.List.{range_with_len};
 ghost use Rattle.crossbeam_utils.specs.Seq.{cell_view};
 ghost use Rattle.semantics.specs.Machine.{IsStuckRun};
 ghost use Rattle.pool.specs.States.{IsPublished, IsFetched, IsClosed, IsSplit, IsFound};
 ghost use Rattle.sharedpool.specs.Views.{knower, items_of, AllBelow};
-ghost use Rattle.sharedpool.specs.Seats.{AreNumbered, HoldsOver, IsFinished, IsRefusedOver, told_publish, told_fetch, told_close, told_split, told_found, told_leave};
+ghost use Rattle.sharedpool.specs.Seats.{AreAllSeats, AreNumbered, HoldsOver, IsFinished, IsRefusedOver, told_publish, told_fetch, told_close, told_split, told_found, told_leave};
 
 use crate::locked::Locked;
 use crate::room::{Cell, NextSeat, Room, Token};
@@ -71,6 +71,7 @@ fn make_seats<B: Room>(
         seats.push_reserved(Seat {
             worker,
             pass,
+            has_left: false,
             room: PhantomData,
         });
     }
@@ -79,7 +80,7 @@ fn make_seats<B: Room>(
 
 /// Whether the seats are all that were made, in order.
 fn are_all<B: Room>(seats: &[Seat<B>], workers: u32) -> bool
-    ensures { IsTrue result → (length seats.now ≡ workers) × AreNumbered seats.now }
+    ensures { IsTrue result ↔ AreAllSeats workers seats.now }
 {
     for (place, seat) in seats.iter().enumerate() {
         if seat.worker() as usize != place {
@@ -122,29 +123,32 @@ fn take_all_in<R: Wait, B: Room>(
 
 impl<B: Room> SharedPool<B> {
     /// A pool without a history under a lock, and a seat for each worker, in order of their numbers. The
-    /// room is named after the cell and the pool. One to 64 workers.
+    /// room is named after the cell, the pool and the number of workers. One to 64 workers. Each seat has a
+    /// place in the history for its first leave, so that this one never wants memory; this isn't proved.
     pub fn new(
         alloc: Global,
         cell: Cell,
         keeper: Token,
-        pool: Pool,
+        mut pool: Pool,
         workers: u32,
     ) -> Result<(SharedPool<B>, Vec<Seat<B>>), AllocError>
         requires room { (cell.table.shared.table_id ≡ B.table) × (keeper.table_id ≡ B.table) × (cell_view keeper ≡ knower 0 []) }
         requires fresh { (pool.history ≡ []) × (pool.held ≡ B.opening) }
         requires some_worker { 1 ≤ workers }
         requires few_workers { workers ≤ 64 }
+        requires workers { workers ≡ B.workers }
         ensures many { IfOk result (λ r. length r.1.items ≡ workers) }
         ensures numbered { IfOk result (λ r. AreNumbered r.1.items) }
         ensures empty { IfOk result (λ r. All (λ seat. seat.mine ≡ []) r.1.items) }
     {
+        pool.keep_places(workers as usize)?;
         let (keeper, seats) = make_seats(alloc, &cell, keeper, workers)?;
         let lock = Mutex::new(Locked::new(pool, workers, keeper));
         Ok((SharedPool { cell, lock }, seats))
     }
 
     /// The pool, and how many entries each worker has in its history. The seats are all that were made, in
-    /// order of their workers, or they are handed back with the shared pool.
+    /// order of their workers, or they are handed back with the shared pool: `Missing` is told just then.
     pub fn finish<R: Wait>(
         self,
         rt: &R,
@@ -154,6 +158,7 @@ impl<B: Room> SharedPool<B> {
         ensures finished { IfOk result (λ r. IsFinished B.opening seats.items r.0 r.1.items) }
         ensures program { IfOk result (λ r. r.0.held.program ≡ B.opening.program) }
         ensures formula { IfOk result (λ r. r.0.held.formula ≡ B.opening.formula) }
+        ensures missing { IfErr result (λ r. (r.0 ≡ FinishFault.Missing) ↔ (AreAllSeats B.workers seats.items → ⊥)) }
         ensures back { IfErr result (λ r. r.2 ≡ seats) }
     {
         let SharedPool { cell, lock } = self;
@@ -248,6 +253,7 @@ impl<B: Room> Share for SharedPool<B> {
         self.lock.lock(rt).found(rt, alloc, &self.cell, seat, steps)
     }
 
+    /// As [`Pool::leave`]; the first leave with a seat asks for no memory.
     fn leave<R: Wait>(&self, rt: &R, seat: &mut Seat<B>, why: Option<Why>) -> Result<(), AllocError>
         ensures ok { OnOk result (seat.new ≡ told_leave seat.old why) }
         ensures err { OnErr result (seat.new ≡ seat.old) }

@@ -1,7 +1,8 @@
-use Rattle.std.proofs.Common.{◌≡◌, Err, ◌∙◌, true≢false, refl, sym, ap, subst}
+use Rattle.std.proofs.Common.{◌≡◌, Err, ◌∙◌, refl, ap, subst, rules}
 use Rattle.pool.specs.declared.entry.FoundFault.TheVariants.{Memory}
 use Rattle.pool.specs.States.{after_found, IsFound}
-use Rattle.sharedpool.proofs.Legal.{ready, locked_more, found_noted, found_step}
+use Rattle.pool.proofs.Calls.{found_noted, found_step}
+use Rattle.sharedpool.proofs.Legal.{ready, locked_more}
 use Rattle.sharedpool.proofs.locked.Locked.found_as.Goals as goal
 
 pub note-requires : goal.note-requires
@@ -9,7 +10,7 @@ note-requires g c = ready _ _ _ _ _ _ _ _ _ c.requires.cell c.self.invariant c.s
 
 pub invariant_of-self-2 : goal.invariant_of-self-2
 invariant_of-self-2 g c =
-    let answered : c.found-reply.result ≡ Err Memory → ⊥ = λ e. absurd (true≢false (sym (c.wants_memory_to_find.ensures.1 e) ∙ c.if-wants_memory_to_find.false)) in
+    let answered : c.found-reply.result ≡ Err Memory → ⊥ = λ e. search rules in
     let reply = c.found-reply.ensures in
     let h = c.self.inside.pool in
     let worker = c.seat.inside.worker in

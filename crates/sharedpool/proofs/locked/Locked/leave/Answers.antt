@@ -9,7 +9,7 @@ note-requires g c = ready _ _ _ _ _ _ _ _ _ c.requires c.self.invariant c.seat.i
 
 pub invariant_of-self-2 : goal.invariant_of-self-2
 invariant_of-self-2 g c =
-    locked_more _ _ _ _ _ _ _ _ _ _ c.self.invariant c.note.ensures c.in_ok-leave.ensures.ok tt
+    locked_more _ _ _ _ _ _ _ _ _ _ c.self.invariant c.note.ensures c.in_ok-leave_pool.ensures.ok tt
 
 pub returns-clause-ok : goal.returns-clause-ok
 returns-clause-ok g c =

@@ -1,8 +1,9 @@
-use Rattle.std.proofs.Common.{◌≡◌, Err, ◌∙◌, true≢false, refl, sym, subst}
+use Rattle.std.proofs.Common.{◌≡◌, Err, ◌∙◌, refl, subst, rules}
 use Rattle.pool.specs.declared.entry.PublishFault.TheVariants.{Memory}
 use Rattle.sharedpool.specs.Seats.{Chair, IsRefusedOver}
 use Rattle.sharedpool.proofs.Growth.{refused_call}
-use Rattle.sharedpool.proofs.Legal.{ready, locked_more, publish_noted, publish_step}
+use Rattle.pool.proofs.Calls.{publish_noted, publish_step}
+use Rattle.sharedpool.proofs.Legal.{ready, locked_more}
 use Rattle.sharedpool.proofs.locked.Locked.publish.Goals as goal
 
 pub note-requires : goal.note-requires
@@ -10,7 +11,7 @@ note-requires g c = ready _ _ _ _ _ _ _ _ _ c.requires c.self.invariant c.seat.i
 
 pub invariant_of-self-2 : goal.invariant_of-self-2
 invariant_of-self-2 g c =
-    let answered : c.publish-reply.result ≡ Err Memory → ⊥ = λ e. absurd (true≢false (sym (c.wants_memory_to_publish.ensures.1 e) ∙ c.if-wants_memory_to_publish.false)) in
+    let answered : c.publish-reply.result ≡ Err Memory → ⊥ = λ e. search rules in
     let reply = c.publish-reply.ensures in
     locked_more _ _ _ _ _ _ _ _ _ _ c.self.invariant c.note.ensures
     (reply.pool ∙ publish_noted c.self.inside.pool c.seat.inside.worker c.args.batch.now.lines.items c.publish-reply.result answered)

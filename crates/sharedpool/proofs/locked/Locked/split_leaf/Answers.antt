@@ -1,6 +1,7 @@
-use Rattle.std.proofs.Common.{◌≡◌, Err, ◌∙◌, true≢false, refl, sym}
+use Rattle.std.proofs.Common.{◌≡◌, Err, ◌∙◌, refl, rules}
 use Rattle.pool.specs.declared.entry.SplitFault.TheVariants.{Memory}
-use Rattle.sharedpool.proofs.Legal.{ready, locked_more, split_noted, split_step}
+use Rattle.pool.proofs.Calls.{split_noted, split_step}
+use Rattle.sharedpool.proofs.Legal.{ready, locked_more}
 use Rattle.sharedpool.proofs.locked.Locked.split_leaf.Goals as goal
 
 pub note-requires : goal.note-requires
@@ -8,7 +9,7 @@ note-requires g c = ready _ _ _ _ _ _ _ _ _ c.requires c.self.invariant c.seat.i
 
 pub invariant_of-self-2 : goal.invariant_of-self-2
 invariant_of-self-2 g c =
-    let answered : c.split_leaf-reply.result ≡ Err Memory → ⊥ = λ e. absurd (true≢false (sym (c.wants_memory_to_split.ensures.1 e) ∙ c.if-wants_memory_to_split.false)) in
+    let answered : c.split_leaf-reply.result ≡ Err Memory → ⊥ = λ e. search rules in
     let reply = c.split_leaf-reply.ensures in
     locked_more _ _ _ _ _ _ _ _ _ _ c.self.invariant c.note.ensures
     (reply.pool ∙ split_noted c.self.inside.pool c.seat.inside.worker c.args.leaf c.args.variable c.split_leaf-reply.result answered)
