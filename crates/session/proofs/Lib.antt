@@ -1,4 +1,5 @@
 pub mod DeadlockLines
+pub mod HeldFiles
 pub mod Deadlocks
 pub mod CommandLines
 pub mod SecondWords

@@ -2,9 +2,9 @@
 use Rattle.std.proofs.Common.{◌≡◌, inl, inr, true, false, List, [], ◌∷◌, Some, None, codes}
 use Rattle.clap.specs.Words.{Text, fault_of}
 use Rattle.session.specs.CommandLine.{AskFor, command_line}
-use Rattle.session.specs.Deadlocks.{AskToCheck, AskToCheckIn, AskToEncode, AskToProve, AskToReplay, IsAnswered, PlainWordsAreAnswered}
+use Rattle.session.specs.Deadlocks.{AskToCheck, AskToCheckIn, AskToEncode, AskToExplain, AskToProve, AskToReplay, IsAnswered, PlainWordsAreAnswered}
 use Rattle.session.specs.declared.request.Request.{Request}
-use Rattle.session.proofs.PlainFaults.{check_faultless, check_json_faultless, check_pieces_faultless, encode_faultless, prove_faultless, prove_json_faultless, prove_out_faultless, replay_faultless}
+use Rattle.session.proofs.PlainFaults.{check_faultless, check_json_faultless, check_pieces_faultless, encode_faultless, explain_dot_faultless, explain_faultless, prove_faultless, prove_json_faultless, prove_out_faultless, replay_faultless}
 use Rattle.session.proofs.OptionWords.{option_words_are_read}
 use Rattle.session.proofs.PieceWords.{pieces_are_free}
 use Rattle.session.proofs.PlainWords.{plain_words_are_read}
@@ -37,6 +37,12 @@ plain_words_are_answered = record {
   encode = λ name p fp.
       answered (name ∷ codes "encode" ∷ p ∷ []) (λ words. AskToEncode words p) (encode_faultless name p fp)
       (λ request asks. (request, asks, plain_words_are_read.encode name p request fp asks));
+  explain = λ name p e fp fe.
+      answered (name ∷ codes "explain" ∷ p ∷ e ∷ []) (λ words. AskToExplain words p e) (explain_faultless name p e fp fe)
+      (λ request asks. (request, false, asks, plain_words_are_read.explain name p e request fp fe asks));
+  explain_dot = λ name p e fp fe.
+      answered (name ∷ codes "explain" ∷ p ∷ e ∷ codes "--dot" ∷ []) (λ words. AskToExplain words p e) (explain_dot_faultless name p e fp fe)
+      (λ request asks. (request, true, asks, plain_words_are_read.explain_dot name p e request fp fe asks));
   prove = λ name p fp.
       answered (name ∷ codes "prove" ∷ p ∷ []) (λ words. AskToProve words p None) (prove_faultless name p fp)
       (λ request asks. (request, false, asks, (plain_words_are_read.prove name p request fp asks).0));

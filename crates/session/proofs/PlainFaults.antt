@@ -13,7 +13,7 @@ use Rattle.clap.specs.declared.error.kind.ErrorKind.TheVariants.{ValueValidation
 use Rattle.session.specs.CommandLine.{SpellsPieces, begins_with_hyphen, command_line}
 use Rattle.session.proofs.OptionWords.{pieces_last, pieces_walk}
 use Rattle.session.proofs.PieceWords.{pieces_are_free, pieces_pass}
-use Rattle.session.proofs.PlainWords.{after_free, check_rules, check_walk, encode_rules, free_met, no_dashes, no_long, no_short, out_walk, prove_out, prove_rules, prove_walk, prove_word, replay_rules, replay_walk, start, two_words, walked_free}
+use Rattle.session.proofs.PlainWords.{after_free, check_rules, check_walk, encode_rules, explain_rules, explain_walk, free_met, no_dashes, no_long, no_short, out_walk, prove_out, prove_rules, prove_walk, prove_word, replay_rules, replay_walk, start, two_words, walked_free}
 
 -- ---- one free word
 
@@ -65,6 +65,9 @@ replay_shape = shape_in (find (λ s. answers_to (codes "replay") (label_of s)) (
 
 abbrev encode_shape : Shape
 encode_shape = shape_in (find (λ s. answers_to (codes "encode") (label_of s)) (built command_line).subs)
+
+abbrev pub explain_shape : Shape
+explain_shape = shape_in (find (λ s. answers_to (codes "explain") (label_of s)) (built command_line).subs)
 
 abbrev prove_shape : Shape
 prove_shape = shape_in (find (λ s. answers_to (codes "prove") (label_of s)) (built command_line).subs)
@@ -148,6 +151,36 @@ replay_leaf p e fp fe =
     let turns : walk_fault replay_shape [] start (p ∷ e ∷ []) ≡ [] = ap₂ (λ (a b : Kinds). or_else a (or_else b [])) first second in
     leaf_by_walk replay_shape (p ∷ e ∷ []) (two_words replay_rules p e) turns (replay_walk p e fp fe)
 
+explain_first : (p : Text) → begins_with_hyphen p ≡ false → turn_fault explain_shape [] start p ≡ []
+unfolding clap_on_literals
+explain_first p fp = turn_at_rest explain_shape start p fp
+
+explain_second : (p e : Text) → begins_with_hyphen p ≡ false → begins_with_hyphen e ≡ false
+    → turn_fault explain_shape [] (walked explain_rules [] start p) e ≡ []
+unfolding clap_on_literals
+explain_second p e fp fe =
+    ap (λ (w : Walk). turn_fault explain_shape [] w e) (walked_free explain_rules start p refl refl fp)
+    ∙ turn_at_rest explain_shape (after_free explain_rules start p) e fe
+
+explain_leaf : (p e : Text) → begins_with_hyphen p ≡ false → begins_with_hyphen e ≡ false → leaf_fault explain_shape (p ∷ e ∷ []) ≡ []
+unfolding clap_on_literals
+explain_leaf p e fp fe =
+    let turns : walk_fault explain_shape [] start (p ∷ e ∷ []) ≡ [] =
+    ap₂ (λ (a b : Kinds). or_else a (or_else b [])) (explain_first p fp) (explain_second p e fp fe) in
+    leaf_by_walk explain_shape (p ∷ e ∷ []) (two_words explain_rules p e) turns (explain_walk p e fp fe)
+
+explain_dot_leaf : (p e : Text) → begins_with_hyphen p ≡ false → begins_with_hyphen e ≡ false
+    → leaf_fault explain_shape (p ∷ e ∷ codes "--dot" ∷ []) ≡ []
+unfolding clap_on_literals
+explain_dot_leaf p e fp fe =
+    let third : turn_fault explain_shape [] (walked explain_rules [] (walked explain_rules [] start p) e) (codes "--dot") ≡ [] =
+    ap (λ (w : Walk). turn_fault explain_shape [] w (codes "--dot")) (explain_walk p e fp fe) in
+    let turns : walk_fault explain_shape [] start (p ∷ e ∷ codes "--dot" ∷ []) ≡ [] =
+    ap₂ (λ (a b : Kinds). or_else a b) (explain_first p fp)
+    (ap₂ (λ (a b : Kinds). or_else a (or_else b [])) (explain_second p e fp fe) third) in
+    leaf_by_walk explain_shape (p ∷ e ∷ codes "--dot" ∷ []) (walked explain_rules [] (two_words explain_rules p e) (codes "--dot")) turns
+    (ap (λ (w : Walk). walked explain_rules [] w (codes "--dot")) (explain_walk p e fp fe))
+
 prove_first : (p : Text) → begins_with_hyphen p ≡ false → turn_fault prove_shape [] start p ≡ []
 unfolding clap_on_literals
 prove_first p fp = turn_at_rest prove_shape start p fp
@@ -200,6 +233,16 @@ check_pieces_faultless name p e pieces fp fe spells =
 pub encode_faultless : (name p : Text) → begins_with_hyphen p ≡ false → fault_of command_line (name ∷ codes "encode" ∷ p ∷ []) ≡ []
 unfolding clap_on_literals
 encode_faultless name p fp = ap (whole_fault (codes "encode" ∷ p ∷ [])) (encode_leaf p fp)
+
+pub explain_faultless : (name p e : Text) → begins_with_hyphen p ≡ false → begins_with_hyphen e ≡ false
+    → fault_of command_line (name ∷ codes "explain" ∷ p ∷ e ∷ []) ≡ []
+unfolding clap_on_literals
+explain_faultless name p e fp fe = ap (whole_fault (codes "explain" ∷ p ∷ e ∷ [])) (explain_leaf p e fp fe)
+
+pub explain_dot_faultless : (name p e : Text) → begins_with_hyphen p ≡ false → begins_with_hyphen e ≡ false
+    → fault_of command_line (name ∷ codes "explain" ∷ p ∷ e ∷ codes "--dot" ∷ []) ≡ []
+unfolding clap_on_literals
+explain_dot_faultless name p e fp fe = ap (whole_fault (codes "explain" ∷ p ∷ e ∷ codes "--dot" ∷ [])) (explain_dot_leaf p e fp fe)
 
 pub replay_faultless : (name p e : Text) → begins_with_hyphen p ≡ false → begins_with_hyphen e ≡ false
     → fault_of command_line (name ∷ codes "replay" ∷ p ∷ e ∷ []) ≡ []

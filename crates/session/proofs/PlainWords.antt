@@ -11,8 +11,8 @@ use Rattle.clap.specs.Simple.{label_of}
 use Rattle.clap.proofs.OnLiterals.{clap_on_literals}
 use Rattle.session.specs.declared.request.Request.{Request}
 use Rattle.session.specs.declared.request.Request.TheVariants as ask
-use Rattle.session.specs.CommandLine.{Flags, HasNumbers, HasPieces, HasUsualOptions, IsCheckOf, IsEncodeOf, IsProveOf, IsReplayOf, IsUsualProveOf, Makes, NamesRequest, PlainWordsAreRead, Reads, begins_with_hyphen, command_line}
-use Rattle.session.proofs.Requests.{check_replay, encode_check, encode_prove, encode_replay, prove_check, prove_replay}
+use Rattle.session.specs.CommandLine.{Flags, HasNumbers, HasPieces, HasUsualOptions, IsCheckOf, IsEncodeOf, IsExplainOf, IsProveOf, IsReplayOf, IsUsualProveOf, Makes, NamesRequest, PlainWordsAreRead, Reads, begins_with_hyphen, command_line}
+use Rattle.session.proofs.Requests.{check_replay, encode_check, encode_prove, encode_replay, explain_check, explain_encode, explain_prove, explain_replay, prove_check, prove_replay}
 use Rattle.session.proofs.SecondWords.{at}
 
 pub no_dashes : (word : Text) → begins_with_hyphen word ≡ false → bytes_eq word (45 ∷ 45 ∷ []) ≡ false
@@ -77,6 +77,9 @@ replay_rules = rules_in (find (λ s. answers_to (codes "replay") (label_of s)) (
 abbrev pub encode_rules : List Rule
 encode_rules = rules_in (find (λ s. answers_to (codes "encode") (label_of s)) (built command_line).subs)
 
+abbrev pub explain_rules : List Rule
+explain_rules = rules_in (find (λ s. answers_to (codes "explain") (label_of s)) (built command_line).subs)
+
 abbrev pub prove_rules : List Rule
 prove_rules = rules_in (find (λ s. answers_to (codes "prove") (label_of s)) (built command_line).subs)
 
@@ -84,17 +87,24 @@ prove_rules = rules_in (find (λ s. answers_to (codes "prove") (label_of s)) (bu
 abbrev pub two_words : List Rule → Text → Text → Walk
 two_words rules program evidence = after_free rules (after_free rules start program) evidence
 
+two_walk : (rules : List Rule) (program evidence : Text) → begins_with_hyphen program ≡ false → begins_with_hyphen evidence ≡ false
+    → (after_free rules start program).stopped ≡ None → (after_free rules start program).is_trailing ≡ false
+    → fold (walked rules []) start (program ∷ evidence ∷ []) ≡ two_words rules program evidence
+two_walk rules program evidence p e going early =
+    ap (λ (w : Walk). walked rules [] w evidence) (walked_free rules start program refl refl p)
+    ∙ walked_free rules (after_free rules start program) evidence going early e
+
 pub check_walk : (program evidence : Text) → begins_with_hyphen program ≡ false → begins_with_hyphen evidence ≡ false
     → fold (walked check_rules []) start (program ∷ evidence ∷ []) ≡ two_words check_rules program evidence
-check_walk program evidence p e =
-    ap (λ (w : Walk). walked check_rules [] w evidence) (walked_free check_rules start program refl refl p)
-    ∙ walked_free check_rules (after_free check_rules start program) evidence refl refl e
+check_walk program evidence p e = two_walk check_rules program evidence p e refl refl
 
 pub replay_walk : (program evidence : Text) → begins_with_hyphen program ≡ false → begins_with_hyphen evidence ≡ false
     → fold (walked replay_rules []) start (program ∷ evidence ∷ []) ≡ two_words replay_rules program evidence
-replay_walk program evidence p e =
-    ap (λ (w : Walk). walked replay_rules [] w evidence) (walked_free replay_rules start program refl refl p)
-    ∙ walked_free replay_rules (after_free replay_rules start program) evidence refl refl e
+replay_walk program evidence p e = two_walk replay_rules program evidence p e refl refl
+
+pub explain_walk : (program evidence : Text) → begins_with_hyphen program ≡ false → begins_with_hyphen evidence ≡ false
+    → fold (walked explain_rules []) start (program ∷ evidence ∷ []) ≡ two_words explain_rules program evidence
+explain_walk program evidence p e = two_walk explain_rules program evidence p e refl refl
 
 abbrev pub prove_word : Text → Walk
 prove_word program = after_free prove_rules start program
@@ -139,6 +149,7 @@ check_by rows program evidence as_json (ask.Check p e pieces json) is_p is_e is_
 check_by rows program evidence as_json (ask.Prove p out options json) is_p is_e is_json makes = absurd (prove_check (sym makes.command))
 check_by rows program evidence as_json (ask.Replay p e) is_p is_e is_json makes = absurd (check_replay makes.command)
 check_by rows program evidence as_json (ask.Encode p) is_p is_e is_json makes = absurd (encode_check (sym makes.command))
+check_by rows program evidence as_json (ask.Explain p e graph) is_p is_e is_json makes = absurd (explain_check (sym makes.command))
 
 -- the number of pieces that is read
 pub pieces_by : (rows : List Row) (number : Text) (request : Request) → one_of (codes "pieces") rows ≡ Some number → Makes (codes "check") rows request
@@ -147,6 +158,7 @@ pieces_by rows number (ask.Check p e pieces json) is makes = number_is rows (cod
 pieces_by rows number (ask.Prove p out options json) is makes = absurd (prove_check (sym makes.command))
 pieces_by rows number (ask.Replay p e) is makes = absurd (check_replay makes.command)
 pieces_by rows number (ask.Encode p) is makes = absurd (encode_check (sym makes.command))
+pieces_by rows number (ask.Explain p e graph) is makes = absurd (explain_check (sym makes.command))
 
 pub prove_by : (rows : List Row) (program : Text) (out : Option Text) (as_json : Bool) (workers depth budget : Text) (request : Request)
     → first_of (codes "PROGRAM") rows ≡ Some program → first_of (codes "out") rows ≡ out → one_of (codes "json") rows ≡ Some (flag_text as_json)
@@ -163,12 +175,14 @@ prove_by rows program out as_json workers depth budget (ask.Prove p o options js
 prove_by rows program out as_json workers depth budget (ask.Check p e pieces json) is_p is_out is_json w d b makes = absurd (prove_check makes.command)
 prove_by rows program out as_json workers depth budget (ask.Replay p e) is_p is_out is_json w d b makes = absurd (prove_replay makes.command)
 prove_by rows program out as_json workers depth budget (ask.Encode p) is_p is_out is_json w d b makes = absurd (encode_prove (sym makes.command))
+prove_by rows program out as_json workers depth budget (ask.Explain p e graph) is_p is_out is_json w d b makes = absurd (explain_prove (sym makes.command))
 
 usual : (request : Request) → HasNumbers (codes "4") (codes "4") (codes "1000000") request → HasUsualOptions request
 usual (ask.Prove p out options json) numbers = numbers
 usual (ask.Check p e pieces json) numbers = numbers
 usual (ask.Replay p e) numbers = numbers
 usual (ask.Encode p) numbers = numbers
+usual (ask.Explain p e graph) numbers = numbers
 
 usual_by : (rows : List Row) (program : Text) (out : Option Text) (as_json : Bool) (request : Request) → first_of (codes "PROGRAM") rows ≡ Some program
     → first_of (codes "out") rows ≡ out → one_of (codes "json") rows ≡ Some (flag_text as_json) → one_of (codes "workers") rows ≡ Some (codes "4")
@@ -201,6 +215,31 @@ of_replay program evidence (ask.Replay p e) makes = (some_same makes.values.0, s
 of_replay program evidence (ask.Prove p out options json) makes = absurd (prove_replay (sym makes.command))
 of_replay program evidence (ask.Check p e pieces json) makes = absurd (check_replay (sym makes.command))
 of_replay program evidence (ask.Encode p) makes = absurd (encode_replay (sym makes.command))
+of_replay program evidence (ask.Explain p e graph) makes = absurd (explain_replay (sym makes.command))
+
+explain_by : (rows : List Row) (program evidence : Text) (as_graph : Bool) (request : Request) → first_of (codes "PROGRAM") rows ≡ Some program
+    → first_of (codes "EVIDENCE") rows ≡ Some evidence → one_of (codes "dot") rows ≡ Some (flag_text as_graph) → Makes (codes "explain") rows request
+    → IsExplainOf program evidence as_graph request
+explain_by rows program evidence as_graph (ask.Explain p e graph) is_p is_e is_dot makes =
+    (some_same (sym is_p ∙ makes.values.0), some_same (sym is_e ∙ makes.values.1), flag_is rows (codes "dot") as_graph graph makes.values.2 is_dot)
+explain_by rows program evidence as_graph (ask.Check p e pieces json) is_p is_e is_dot makes = absurd (explain_check makes.command)
+explain_by rows program evidence as_graph (ask.Prove p out options json) is_p is_e is_dot makes = absurd (explain_prove makes.command)
+explain_by rows program evidence as_graph (ask.Replay p e) is_p is_e is_dot makes = absurd (explain_replay makes.command)
+explain_by rows program evidence as_graph (ask.Encode p) is_p is_e is_dot makes = absurd (explain_encode makes.command)
+
+of_explain : (program evidence : Text) (request : Request) → Makes (codes "explain") (finished explain_rules (two_words explain_rules program evidence).held) request
+    → IsExplainOf program evidence false request
+unfolding clap_on_literals
+of_explain program evidence request makes =
+    explain_by (finished explain_rules (two_words explain_rules program evidence).held) program evidence false request refl refl refl makes
+
+of_explain_dot : (program evidence : Text) (request : Request)
+    → Makes (codes "explain") (finished explain_rules (walked explain_rules [] (two_words explain_rules program evidence) (codes "--dot")).held) request
+    → IsExplainOf program evidence true request
+unfolding clap_on_literals
+of_explain_dot program evidence request makes =
+    explain_by (finished explain_rules (walked explain_rules [] (two_words explain_rules program evidence) (codes "--dot")).held) program evidence true request
+    refl refl refl makes
 
 of_encode : (program : Text) (request : Request) → Makes (codes "encode") (finished encode_rules (after_free encode_rules start program).held) request
     → IsEncodeOf program request
@@ -209,6 +248,7 @@ of_encode program (ask.Encode p) makes = some_same makes.values
 of_encode program (ask.Prove p out options json) makes = absurd (encode_prove makes.command)
 of_encode program (ask.Check p e pieces json) makes = absurd (encode_check makes.command)
 of_encode program (ask.Replay p e) makes = absurd (encode_replay makes.command)
+of_encode program (ask.Explain p e graph) makes = absurd (explain_encode (sym makes.command))
 
 of_prove : (program : Text) (request : Request) → Makes (codes "prove") (finished prove_rules (prove_word program).held) request
     → IsUsualProveOf program None false request
@@ -245,6 +285,11 @@ made_encode : (name : Text) (words : List Text) (request : Request) → NamesReq
 unfolding clap_on_literals
 made_encode name words request asks = at name (codes "encode") words request refl asks
 
+made_explain : (name : Text) (words : List Text) (request : Request) → NamesRequest (name ∷ codes "explain" ∷ words) request
+    → Makes (codes "explain") (finished explain_rules (fold (walked explain_rules []) start words).held) request
+unfolding clap_on_literals
+made_explain name words request asks = at name (codes "explain") words request refl asks
+
 pub made_prove : (name : Text) (words : List Text) (request : Request) → NamesRequest (name ∷ codes "prove" ∷ words) request
     → Makes (codes "prove") (finished prove_rules (fold (walked prove_rules []) start words).held) request
 unfolding clap_on_literals
@@ -266,6 +311,13 @@ plain_words_are_read = record {
       of_encode program request
       (subst (λ (w : Walk). Makes (codes "encode") (finished encode_rules w.held) request) (walked_free encode_rules start program refl refl p)
       (made_encode name (program ∷ []) request asks.named));
+  explain = λ name program evidence request p e asks.
+      of_explain program evidence request (subst (λ (w : Walk). Makes (codes "explain") (finished explain_rules w.held) request) (explain_walk program evidence p e)
+      (made_explain name (program ∷ evidence ∷ []) request asks.named));
+  explain_dot = λ name program evidence request p e asks.
+      of_explain_dot program evidence request
+      (subst (λ (w : Walk). Makes (codes "explain") (finished explain_rules (walked explain_rules [] w (codes "--dot")).held) request) (explain_walk program evidence p e)
+      (made_explain name (program ∷ evidence ∷ codes "--dot" ∷ []) request asks.named));
   prove = λ name program request p asks.
       of_prove program request (subst (λ (w : Walk). Makes (codes "prove") (finished prove_rules w.held) request) (prove_walk program p)
       (made_prove name (program ∷ []) request asks.named));

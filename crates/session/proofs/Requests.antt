@@ -30,6 +30,18 @@ encode_prove e = omega (arith, ap (λ (l : List ℕ). get_or l 0 0) e)
 pub encode_replay : codes "encode" ≡ codes "replay" → ⊥
 encode_replay e = omega (arith, ap (λ (l : List ℕ). get_or l 0 0) e)
 
+pub explain_check : codes "explain" ≡ codes "check" → ⊥
+explain_check e = omega (arith, ap (λ (l : List ℕ). get_or l 0 0) e)
+
+pub explain_prove : codes "explain" ≡ codes "prove" → ⊥
+explain_prove e = omega (arith, ap (λ (l : List ℕ). get_or l 0 0) e)
+
+pub explain_replay : codes "explain" ≡ codes "replay" → ⊥
+explain_replay e = omega (arith, ap (λ (l : List ℕ). get_or l 0 0) e)
+
+pub explain_encode : codes "explain" ≡ codes "encode" → ⊥
+explain_encode e = omega (arith, ap (λ (l : List ℕ). get_or l 1 0) e)
+
 -- ---- two requests that the same words name are alike
 
 same_value : {X : Type 0} {a b c : X} {o : Option X} → o ≡ Some a → o ≡ Some b → a ≡ c → b ≡ c
@@ -41,6 +53,8 @@ check_again None a b p e json one two is = absurd one
 check_again (Some f) (ask.Prove p1 o1 s1 j1) b p e json one two is = absurd is
 check_again (Some f) (ask.Replay p1 e1) b p e json one two is = absurd is
 check_again (Some f) (ask.Encode p1) b p e json one two is = absurd is
+check_again (Some f) (ask.Explain p1 e1 g1) b p e json one two is = absurd is
+check_again (Some f) (ask.Check p1 e1 n1 j1) (ask.Explain p2 e2 g2) p e json one two is = absurd (explain_check (sym two.command ∙ one.command))
 check_again (Some f) (ask.Check p1 e1 n1 j1) (ask.Encode p2) p e json one two is = absurd (encode_check (sym two.command ∙ one.command))
 check_again (Some f) (ask.Check p1 e1 n1 j1) (ask.Prove p2 o2 s2 j2) p e json one two is = absurd (prove_check (sym two.command ∙ one.command))
 check_again (Some f) (ask.Check p1 e1 n1 j1) (ask.Replay p2 e2) p e json one two is = absurd (check_replay (sym one.command ∙ two.command))
@@ -53,6 +67,8 @@ replay_again None a b p e one two is = absurd one
 replay_again (Some f) (ask.Prove p1 o1 s1 j1) b p e one two is = absurd is
 replay_again (Some f) (ask.Check p1 e1 n1 j1) b p e one two is = absurd is
 replay_again (Some f) (ask.Encode p1) b p e one two is = absurd is
+replay_again (Some f) (ask.Explain p1 e1 g1) b p e one two is = absurd is
+replay_again (Some f) (ask.Replay p1 e1) (ask.Explain p2 e2 g2) p e one two is = absurd (explain_replay (sym two.command ∙ one.command))
 replay_again (Some f) (ask.Replay p1 e1) (ask.Encode p2) p e one two is = absurd (encode_replay (sym two.command ∙ one.command))
 replay_again (Some f) (ask.Replay p1 e1) (ask.Prove p2 o2 s2 j2) p e one two is = absurd (prove_replay (sym two.command ∙ one.command))
 replay_again (Some f) (ask.Replay p1 e1) (ask.Check p2 e2 n2 j2) p e one two is = absurd (check_replay (sym two.command ∙ one.command))
@@ -65,6 +81,8 @@ prove_again None a b p out json one two is = absurd one
 prove_again (Some f) (ask.Check p1 e1 n1 j1) b p out json one two is = absurd is
 prove_again (Some f) (ask.Replay p1 e1) b p out json one two is = absurd is
 prove_again (Some f) (ask.Encode p1) b p out json one two is = absurd is
+prove_again (Some f) (ask.Explain p1 e1 g1) b p out json one two is = absurd is
+prove_again (Some f) (ask.Prove p1 o1 s1 j1) (ask.Explain p2 e2 g2) p out json one two is = absurd (explain_prove (sym two.command ∙ one.command))
 prove_again (Some f) (ask.Prove p1 o1 s1 j1) (ask.Encode p2) p out json one two is = absurd (encode_prove (sym two.command ∙ one.command))
 prove_again (Some f) (ask.Prove p1 o1 s1 j1) (ask.Check p2 e2 n2 j2) p out json one two is = absurd (prove_check (sym one.command ∙ two.command))
 prove_again (Some f) (ask.Prove p1 o1 s1 j1) (ask.Replay p2 e2) p out json one two is = absurd (prove_replay (sym one.command ∙ two.command))
@@ -98,6 +116,7 @@ module _ (words : List Text) (tells : Bool) (before after : List ℕ → Option 
       → RequestEnds tells before after request old new told_old told_new status → CheckEnds p e json
   check_of (ask.Prove p1 o1 s1 j1) p e json is ends = absurd is
   check_of (ask.Encode p1) p e json is ends = absurd is
+  check_of (ask.Explain p1 e1 g1) p e json is ends = absurd is
   check_of (ask.Replay p1 e1) p e json is ends = absurd is
   check_of (ask.Check p1 e1 n1 j1) p e json is ends =
       at_paths IsChecked p1.now p e1.now e json is.0 is.1 (subst (λ (x : Bool). CheckEnds p1.now e1.now x) is.2 ends.1)
@@ -117,6 +136,7 @@ module _ (words : List Text) (tells : Bool) (before after : List ℕ → Option 
       → RequestEnds tells before after request old new told_old told_new status → ReplayEnds p e false
   replay_of (ask.Prove p1 o1 s1 j1) p e is ends = absurd is
   replay_of (ask.Encode p1) p e is ends = absurd is
+  replay_of (ask.Explain p1 e1 g1) p e is ends = absurd is
   replay_of (ask.Check p1 e1 n1 j1) p e is ends = absurd is
   replay_of (ask.Replay p1 e1) p e is ends =
       at_paths (λ program evidence json. IsReplayed program evidence) p1.now p e1.now e false is.0 is.1 ends.1
@@ -136,6 +156,7 @@ module _ (words : List Text) (tells : Bool) (before after : List ℕ → Option 
       → RequestEnds tells before after request old new told_old told_new status → ProveEnds p out json
   prove_of (ask.Check p1 e1 n1 j1) p out json is ends = absurd is
   prove_of (ask.Encode p1) p out json is ends = absurd is
+  prove_of (ask.Explain p1 e1 g1) p out json is ends = absurd is
   prove_of (ask.Replay p1 e1) p out json is ends = absurd is
   prove_of (ask.Prove p1 o1 s1 j1) p out json is ends =
       subst (λ (x : Text). ProveEnds x out json) is.0

@@ -17,14 +17,14 @@ use Rattle.session.specs.CommandLine.{AskFor}
 use Rattle.session.specs.Deadlocks.{CheckedDeadlockIsShown, CheckedSafetyIsPrinted, CheckedSafetyIsTrue, IsRightlyTold, ProvedDeadlockIsShown, ProvedSafetyIsPrinted, ProvedSafetyIsTrue, RefutedIsChecked, ReplayedDeadlockIsShown, ShownDeadlockIsChecked, ShownDeadlockIsReplayed, TellsDeadlock, ToldDeadlockIsShown, WrittenDeadlockIsShown, WrittenSafetyIsRefuted}
 use Rattle.session.specs.Endings.{Complains, Ends, EndsUnasked, Explains, FailsEarly, Prints, PrintsAlone, RequestEnds}
 use Rattle.session.specs.Lines.{IsLine, early_line, memory_line, no_deadlock_line, told_of_answer, told_of_verdict, told_status}
-use Rattle.session.specs.Pages.{IsChecked, IsEither, IsEncoded, IsProveFile, IsProved, IsReplayPage, IsReplayed}
+use Rattle.session.specs.Pages.{IsChecked, IsEither, IsEncoded, IsExplained, IsProveFile, IsProved, IsReplayPage, IsReplayed}
 use Rattle.session.specs.declared.page.Want.{Want}
 use Rattle.session.specs.declared.page.Want.TheVariants as want
 use Rattle.session.specs.declared.request.Request.{Request}
 use Rattle.session.specs.declared.request.Request.TheVariants as ask
 use Rattle.session.specs.declared.told.Told.TheVariants as told
 use Rattle.session.proofs.DeadlockLines.{PageTells, deadlock_page, deadlock_printed, deadlock_untold, formula_untold, help_untold, line_tells, safe_line, safety_page, safety_untold, zero_told}
-use Rattle.session.proofs.Deadlocks.{check_never, check_shows, file_refutes, file_shows, prove_never, prove_shows, read_as_held, read_shows, replayed_shows}
+use Rattle.session.proofs.Deadlocks.{check_never, check_shows, explained_shows, file_refutes, file_shows, prove_never, prove_shows, read_as_held, read_shows, replayed_shows}
 use Rattle.session.proofs.Requests.{check_ends, prove_ends, replay_ends}
 
 -- a run that complains with another status tells no deadlock
@@ -278,10 +278,19 @@ asked_told words tells before after old new told_old told_new status (ask.Replay
     inr (
       p.now,
       e.now,
-      inr (ask.Replay p e, asks, (refl, refl)),
+      inr (inl (ask.Replay p e, asks, (refl, refl))),
       λ program evidence held_p held_e.
           let page = deadlock_page (IsReplayed (before p.now) (before e.now)) (IsEither p.now e.now) want.Refused false before after old new told_old told_new status ends.1 says in
           replayed_shows (before p.now) (before e.now) page.0 page.1 program evidence page.2 page.3 held_p held_e,
+    )
+asked_told words tells before after old new told_old told_new status (ask.Explain p e graph) asks ends says =
+    inr (
+      p.now,
+      e.now,
+      inr (inr (ask.Explain p e graph, graph, asks, (refl, refl, refl))),
+      λ program evidence held_p held_e.
+          let page = deadlock_page (IsExplained (before p.now) (before e.now) graph) (IsEither p.now e.now) want.Refused false before after old new told_old told_new status ends.1 says in
+          explained_shows (before p.now) (before e.now) graph page.0 page.1 program evidence page.2 page.3 held_p held_e,
     )
 asked_told words tells before after old new told_old told_new status (ask.Encode p) asks ends says =
     let page = deadlock_page (IsEncoded (before p.now)) (λ path. path ≡ p.now) want.Refused false before after old new told_old told_new status ends.1 says in

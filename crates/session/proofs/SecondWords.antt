@@ -149,6 +149,10 @@ at_encode : (w : Text) (rest : List Text) (request : Request) → NamesRequest (
 unfolding clap_on_literals
 at_encode w rest request asks = (at w (codes "encode") rest request refl asks).command
 
+at_explain : (w : Text) (rest : List Text) (request : Request) → NamesRequest (w ∷ codes "explain" ∷ rest) request → codes "explain" ≡ command_of request
+unfolding clap_on_literals
+at_explain w rest request asks = (at w (codes "explain") rest request refl asks).command
+
 at_help : (w : Text) (rest : List Text) (request : Request) → NamesRequest (w ∷ codes "help" ∷ rest) request → codes "help" ≡ command_of request
 unfolding clap_on_literals
 at_help w rest request asks = (at w (codes "help") rest request refl asks).command
@@ -165,8 +169,9 @@ at_dashes w (word ∷ rest) request asks sound =
     clash (ap is_none f)
 
 unmet_by : (word : Text) → bytes_eq (codes "prove") word ≡ false → bytes_eq (codes "check") word ≡ false → bytes_eq (codes "replay") word ≡ false
-    → bytes_eq (codes "encode") word ≡ false → bytes_eq (codes "help") word ≡ false → subcommand_met names idle word ≡ None
-unmet_by word a b c d e = rw (a, b, c, d, e) refl
+    → bytes_eq (codes "encode") word ≡ false → bytes_eq (codes "explain") word ≡ false → bytes_eq (codes "help") word ≡ false
+    → subcommand_met names idle word ≡ None
+unmet_by word a b c d x e = rw (a, b, c, d, x, e) refl
 
 turn_none : (w word : Text) (rest : List Text) → fault_of command_line (w ∷ word ∷ rest) ≡ [] → turn_fault top names (walk_from nothing_held) word ≡ []
 unfolding walk_fault
@@ -193,14 +198,19 @@ command_is_second (w ∷ word ∷ rest) request asks sound = ap Some (by_name (b
     by_dashes false e unmet = absurd (first_word word unmet e (turn_none w word rest sound))
 
     by_help : (b : Bool) → bytes_eq (codes "help") word ≡ b → bytes_eq (codes "prove") word ≡ false → bytes_eq (codes "check") word ≡ false
+        → bytes_eq (codes "replay") word ≡ false → bytes_eq (codes "encode") word ≡ false → bytes_eq (codes "explain") word ≡ false → word ≡ command_of request
+    by_help true e p c r n x = sym (is _ e) ∙ at_help w rest request (asked _ (is _ e))
+    by_help false e p c r n x = by_dashes (bytes_eq word dashes) refl (unmet_by word p c r n x e)
+
+    by_explain : (b : Bool) → bytes_eq (codes "explain") word ≡ b → bytes_eq (codes "prove") word ≡ false → bytes_eq (codes "check") word ≡ false
         → bytes_eq (codes "replay") word ≡ false → bytes_eq (codes "encode") word ≡ false → word ≡ command_of request
-    by_help true e p c r n = sym (is _ e) ∙ at_help w rest request (asked _ (is _ e))
-    by_help false e p c r n = by_dashes (bytes_eq word dashes) refl (unmet_by word p c r n e)
+    by_explain true e p c r n = sym (is _ e) ∙ at_explain w rest request (asked _ (is _ e))
+    by_explain false e p c r n = by_help (bytes_eq (codes "help") word) refl p c r n e
 
     by_encode : (b : Bool) → bytes_eq (codes "encode") word ≡ b → bytes_eq (codes "prove") word ≡ false → bytes_eq (codes "check") word ≡ false
         → bytes_eq (codes "replay") word ≡ false → word ≡ command_of request
     by_encode true e p c r = sym (is _ e) ∙ at_encode w rest request (asked _ (is _ e))
-    by_encode false e p c r = by_help (bytes_eq (codes "help") word) refl p c r e
+    by_encode false e p c r = by_explain (bytes_eq (codes "explain") word) refl p c r e
 
     by_replay : (b : Bool) → bytes_eq (codes "replay") word ≡ b → bytes_eq (codes "prove") word ≡ false → bytes_eq (codes "check") word ≡ false → word ≡ command_of request
     by_replay true e p c = sym (is _ e) ∙ at_replay w rest request (asked _ (is _ e))

@@ -55,6 +55,14 @@ check_app =
     with_rule (with_rule (with_rule (with_rule (new_app (codes "check")) program_rule) evidence_rule) (number_with (codes "pieces") 1 64 (codes "4")))
     json_rule
 
+-- `--dot`, which takes no value
+abbrev pub dot_rule : Rule
+dot_rule = record (option_rule (codes "dot")) { action = Some SetTrue }
+
+-- the command `explain`
+abbrev pub explain_app : App
+explain_app = with_rule (with_rule (with_rule (new_app (codes "explain")) program_rule) evidence_rule) dot_rule
+
 -- the command `encode`
 abbrev pub encode_app : App
 encode_app = with_rule (new_app (codes "encode")) program_rule
@@ -78,16 +86,18 @@ prove_app =
 abbrev pub wants_subcommand : App → App
 wants_subcommand a = record a { top = record a.top { subcommand_required = true } }
 
--- the whole command line: one of the four commands
+-- the whole command line: one of the five commands
 abbrev pub command_line : App
 command_line =
     with_subcommand
     (with_subcommand
     (with_subcommand
+    (with_subcommand
     (with_subcommand (wants_subcommand (new_app (codes "mpiprove"))) prove_app.top)
     check_app.top)
     replay_app.top)
-    encode_app.top
+    encode_app.top)
+    explain_app.top
 
 -- the argument has this rule, and is of its own command alone
 pub record IsRuled (a : Arg) (rule : Rule) : Type 0 where
@@ -126,6 +136,7 @@ command_of (ask.Prove program out options json) = codes "prove"
 command_of (ask.Check program evidence pieces json) = codes "check"
 command_of (ask.Replay program evidence) = codes "replay"
 command_of (ask.Encode program) = codes "encode"
+command_of (ask.Explain program evidence graph) = codes "explain"
 
 -- the values of a request are those of its command's arguments
 abbrev pub HasValues : List Row → Request → Type 0
@@ -138,6 +149,8 @@ HasValues rows (ask.Check program evidence pieces json) =
 HasValues rows (ask.Replay program evidence) =
     Gives rows (codes "PROGRAM") program.now × Gives rows (codes "EVIDENCE") evidence.now
 HasValues rows (ask.Encode program) = Gives rows (codes "PROGRAM") program.now
+HasValues rows (ask.Explain program evidence graph) =
+    Gives rows (codes "PROGRAM") program.now × Gives rows (codes "EVIDENCE") evidence.now × Flags rows (codes "dot") graph
 
 -- a command's name and its matches make this request
 pub record Makes (name : Text) (rows : List Row) (request : Request) : Type 0 where
@@ -169,6 +182,7 @@ IsCheckOf program evidence as_json (ask.Check p e pieces json) = (p.now ≡ prog
 IsCheckOf program evidence as_json (ask.Prove p out options json) = ⊥
 IsCheckOf program evidence as_json (ask.Replay p e) = ⊥
 IsCheckOf program evidence as_json (ask.Encode p) = ⊥
+IsCheckOf program evidence as_json (ask.Explain p e graph) = ⊥
 
 -- a request to prove the program at a path, with the evidence written at another, where one is named
 abbrev pub IsProveOf : Text → Option Text → Bool → Request → Type 0
@@ -176,6 +190,7 @@ IsProveOf program file as_json (ask.Prove p out options json) = (p.now ≡ progr
 IsProveOf program file as_json (ask.Check p e pieces json) = ⊥
 IsProveOf program file as_json (ask.Replay p e) = ⊥
 IsProveOf program file as_json (ask.Encode p) = ⊥
+IsProveOf program file as_json (ask.Explain p e graph) = ⊥
 
 -- the numbers are the usual ones
 abbrev pub HasUsualOptions : Request → Type 0
@@ -183,6 +198,7 @@ HasUsualOptions (ask.Prove p out options json) = AreUsual options.workers option
 HasUsualOptions (ask.Check p e pieces json) = ⊥
 HasUsualOptions (ask.Replay p e) = ⊥
 HasUsualOptions (ask.Encode p) = ⊥
+HasUsualOptions (ask.Explain p e graph) = ⊥
 
 -- the same, where no number is given
 abbrev pub IsUsualProveOf : Text → Option Text → Bool → Request → Type 0
@@ -194,6 +210,15 @@ IsReplayOf program evidence (ask.Replay p e) = (p.now ≡ program) × (e.now ≡
 IsReplayOf program evidence (ask.Prove p out options json) = ⊥
 IsReplayOf program evidence (ask.Check p e pieces json) = ⊥
 IsReplayOf program evidence (ask.Encode p) = ⊥
+IsReplayOf program evidence (ask.Explain p e graph) = ⊥
+
+-- a request to explain what the evidence at a path shows of the program at another, by a graph or not
+abbrev pub IsExplainOf : Text → Text → Bool → Request → Type 0
+IsExplainOf program evidence as_graph (ask.Explain p e graph) = (p.now ≡ program) × (e.now ≡ evidence) × (graph ≡ as_graph)
+IsExplainOf program evidence as_graph (ask.Prove p out options json) = ⊥
+IsExplainOf program evidence as_graph (ask.Check p e pieces json) = ⊥
+IsExplainOf program evidence as_graph (ask.Replay p e) = ⊥
+IsExplainOf program evidence as_graph (ask.Encode p) = ⊥
 
 -- a request to encode the program at a path
 abbrev pub IsEncodeOf : Text → Request → Type 0
@@ -201,6 +226,7 @@ IsEncodeOf program (ask.Encode p) = p.now ≡ program
 IsEncodeOf program (ask.Prove p out options json) = ⊥
 IsEncodeOf program (ask.Check p e pieces json) = ⊥
 IsEncodeOf program (ask.Replay p e) = ⊥
+IsEncodeOf program (ask.Explain p e graph) = ⊥
 
 -- the lines are checked in as many pieces as this text spells
 abbrev pub HasPieces : Text → Request → Type 0
@@ -208,6 +234,7 @@ HasPieces number (ask.Check p e pieces json) = pieces.number ≡ digits_value 10
 HasPieces number (ask.Prove p out options json) = ⊥
 HasPieces number (ask.Replay p e) = ⊥
 HasPieces number (ask.Encode p) = ⊥
+HasPieces number (ask.Explain p e graph) = ⊥
 
 -- the text is a number of pieces in decimal digits, 1 to 64
 pub record SpellsPieces (text : Text) : Type 0 where
@@ -224,6 +251,10 @@ pub record PlainWordsAreRead : Type 0 where
       → AskFor (name ∷ codes "replay" ∷ program ∷ evidence ∷ []) request → IsReplayOf program evidence request
   pub encode : (name program : Text) (request : Request) → begins_with_hyphen program ≡ false
       → AskFor (name ∷ codes "encode" ∷ program ∷ []) request → IsEncodeOf program request
+  pub explain : (name program evidence : Text) (request : Request) → begins_with_hyphen program ≡ false → begins_with_hyphen evidence ≡ false
+      → AskFor (name ∷ codes "explain" ∷ program ∷ evidence ∷ []) request → IsExplainOf program evidence false request
+  pub explain_dot : (name program evidence : Text) (request : Request) → begins_with_hyphen program ≡ false → begins_with_hyphen evidence ≡ false
+      → AskFor (name ∷ codes "explain" ∷ program ∷ evidence ∷ codes "--dot" ∷ []) request → IsExplainOf program evidence true request
   pub prove : (name program : Text) (request : Request) → begins_with_hyphen program ≡ false
       → AskFor (name ∷ codes "prove" ∷ program ∷ []) request → IsUsualProveOf program None false request
   pub prove_as_json : (name program : Text) (request : Request) → begins_with_hyphen program ≡ false
@@ -239,6 +270,7 @@ HasNumbers workers depth budget (ask.Prove p out options json) =
 HasNumbers workers depth budget (ask.Check p e pieces json) = ⊥
 HasNumbers workers depth budget (ask.Replay p e) = ⊥
 HasNumbers workers depth budget (ask.Encode p) = ⊥
+HasNumbers workers depth budget (ask.Explain p e graph) = ⊥
 
 -- words in other orders, with all options, where no value begins with a hyphen
 pub record OptionWordsAreRead : Type 0 where

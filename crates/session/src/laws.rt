@@ -85,8 +85,8 @@ pub fn proved_safety_is_printed()
     ensures { ProvedSafetyIsPrinted }
 {}
 
-/// Where any run printed the line of a deadlock or ended with the status 1, its words ask to prove, check or
-/// replay a program, and a stuck run of that program is shown.
+/// Where any run printed the line of a deadlock or ended with the status 1, its words ask to prove, check,
+/// replay or explain a program, and a stuck run of that program is shown.
 pub fn told_deadlock_is_shown()
     ensures { ToldDeadlockIsShown }
 {}

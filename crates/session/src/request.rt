@@ -3,8 +3,8 @@
 ghost use Rattle.std.specs.Prelude.{◌≡◌, ◌⊎◌, IfErr, IfOk, IfSome, codes, map, string_bytes};
 ghost use Rattle.clap.specs.Words.{IsAmong, fault_of, found_of, kind_of, rows_of, subcommand_rows_of};
 ghost use Rattle.session.specs.CommandLine.{AskFor, IsRuled, IsShaped, Makes, MakesSome, check_app, command_line, encode_app};
-ghost use Rattle.session.specs.CommandLine.{evidence_rule, json_rule, number_rule, number_with, option_rule, out_rule, program_rule};
-ghost use Rattle.session.specs.CommandLine.{prove_app, replay_app};
+ghost use Rattle.session.specs.CommandLine.{dot_rule, evidence_rule, json_rule, number_rule, number_with, option_rule, out_rule, program_rule};
+ghost use Rattle.session.specs.CommandLine.{explain_app, prove_app, replay_app};
 
 use clap::builder::{Command, ValueParser};
 use clap::error::ErrorKind;
@@ -37,6 +37,12 @@ pub enum Request<'a> {
     /// Print the formula of a program.
     Encode {
         program: &'a str,
+    },
+    /// Explain what an evidence shows of a program, by a text or by a graph.
+    Explain {
+        program: &'a str,
+        evidence: &'a str,
+        graph: bool,
     },
 }
 
@@ -103,6 +109,15 @@ fn requested<'a>(subcommand: (&'a str, &ArgMatches<'a>)) -> Option<Request<'a>>
             evidence: matches.get_str(EVIDENCE)?,
         }),
         "encode" => Some(Request::Encode { program }),
+        "explain" => {
+            let evidence = matches.get_str(EVIDENCE)?;
+            let graph = matches.get_flag(DOT);
+            Some(Request::Explain {
+                program,
+                evidence,
+                graph,
+            })
+        }
         _ => None,
     }
 }
@@ -123,6 +138,8 @@ const PIECES: &str = "pieces";
 
 const JSON: &str = "json";
 
+const DOT: &str = "dot";
+
 /// The whole command line.
 fn command<'a>(alloc: Global) -> Result<Command<'a>, AllocError>
     ensures { IfOk result (λ c. IsShaped c command_line) }
@@ -132,7 +149,8 @@ fn command<'a>(alloc: Global) -> Result<Command<'a>, AllocError>
         .subcommand(prove_command(alloc)?)?
         .subcommand(check_command(alloc)?)?
         .subcommand(replay_command(alloc)?)?
-        .subcommand(encode_command(alloc)?)
+        .subcommand(encode_command(alloc)?)?
+        .subcommand(explain_command(alloc)?)
 }
 
 fn prove_command<'a>(alloc: Global) -> Result<Command<'a>, AllocError>
@@ -176,6 +194,16 @@ fn encode_command<'a>(alloc: Global) -> Result<Command<'a>, AllocError>
         .arg(program(alloc))
 }
 
+fn explain_command<'a>(alloc: Global) -> Result<Command<'a>, AllocError>
+    ensures { IfOk result (λ c. IsShaped c explain_app) }
+{
+    Command::new(alloc, "explain")
+        .about("Explains what an evidence shows of a program")
+        .arg(program(alloc))?
+        .arg(evidence(alloc))?
+        .arg(dot(alloc))
+}
+
 fn program<'a>(alloc: Global) -> Arg<'a>
     ensures { IsRuled result program_rule }
 {
@@ -200,6 +228,14 @@ fn json<'a>(alloc: Global) -> Arg<'a>
     option(alloc, JSON)
         .action(ArgAction::SetTrue)
         .help("Print the answer as a JSON object")
+}
+
+fn dot<'a>(alloc: Global) -> Arg<'a>
+    ensures { IsRuled result dot_rule }
+{
+    option(alloc, DOT)
+        .action(ArgAction::SetTrue)
+        .help("Print who waits for whom as a graph for Graphviz")
 }
 
 fn out<'a>(alloc: Global) -> Arg<'a>

@@ -1,13 +1,9 @@
 -- The bytes of both files are those that were read, and the text is that of the replay.
-use Rattle.std.proofs.Common.{◌≡◌, ℕ, List, refl, sym, subst}
-use Rattle.std.specs.Prelude.{Option}
+use Rattle.std.proofs.Common.{refl, sym, subst}
 use Rattle.files.specs.Contents.{AreAll}
 use Rattle.prover.specs.declared.steps.Replayed.TheVariants as replays
+use Rattle.session.proofs.HeldFiles.{as_before}
 use Rattle.session.proofs.commands.replay_page.Goals as goal
-
--- what a file held after nothing has changed
-as_before : (old new : List ℕ → Option (List ℕ)) (path bytes : List ℕ) → new ≡ old → AreAll (new path) bytes → AreAll (old path) bytes
-as_before old new path bytes same h = subst (λ (files : List ℕ → Option (List ℕ)). AreAll (files path) bytes) same h
 
 pub returns-in-Stuck-clause-page : goal.returns-in-Stuck-clause-page
 returns-in-Stuck-clause-page g c =

@@ -15,4 +15,5 @@ returns c =
     let one = shaped_subcommand _ _ _ _ _ top c.in_ok-prove_command.ensures c.in_ok-subcommand.ensures in
     let two = shaped_subcommand _ _ _ _ _ one c.in_ok-check_command.ensures c.in_ok-subcommand-2.ensures in
     let three = shaped_subcommand _ _ _ _ _ two c.in_ok-replay_command.ensures c.in_ok-subcommand-3.ensures in
-    IfOk-weaker c.subcommand-4.result _ _ (λ r adds. shaped_subcommand _ _ _ _ _ three c.in_ok-encode_command.ensures adds) c.subcommand-4.ensures
+    let four = shaped_subcommand _ _ _ _ _ three c.in_ok-encode_command.ensures c.in_ok-subcommand-4.ensures in
+    IfOk-weaker c.subcommand-5.result _ _ (λ r adds. shaped_subcommand _ _ _ _ _ four c.in_ok-explain_command.ensures adds) c.subcommand-5.ensures

@@ -64,3 +64,15 @@ returns-in-encode c =
       command = search rules;
       values = given_by_rows m _ c.get_str.result c.get_str.ensures ∙ ap (option_map (λ s. s.now)) c.in_ok-program.was;
     }
+
+pub returns-in_ok-evidence-in-explain : goal.returns-in_ok-evidence-in-explain
+returns-in_ok-evidence-in-explain c =
+    let m = c.args.subcommand.1.now in
+    record {
+      command = search rules;
+      values = (
+        given_by_rows m _ c.get_str.result c.get_str.ensures ∙ ap (option_map (λ s. s.now)) c.in_ok-program.was,
+        given_by_rows m _ c.get_str-in-explain.result c.get_str-in-explain.ensures ∙ ap (option_map (λ s. s.now)) c.in_ok-evidence-in-explain.was,
+        flag_by_rows m _ c.get_flag-graph.result c.get_flag-graph.ensures.value c.get_flag-graph.ensures.other,
+      );
+    }

@@ -2,7 +2,7 @@
 use Rattle.std.proofs.Common.{◌≡◌, IfErr, IfOk, ℕ, List, Bool, Result, Ok, Err, inl, inr, option_map}
 use Rattle.std.specs.Prelude.{Option}
 use Rattle.session.specs.Endings.{Ends, Finishes}
-use Rattle.session.specs.Pages.{IsChecked, IsEither, IsEncoded, IsProveFile, IsProved, IsReplayed, StopsBy}
+use Rattle.session.specs.Pages.{IsChecked, IsEither, IsEncoded, IsExplained, IsProveFile, IsProved, IsReplayed, StopsBy}
 use Rattle.session.specs.declared.commands.Stop.{Stop}
 use Rattle.session.specs.declared.commands.Stop.TheVariants as stop
 use Rattle.session.specs.declared.page.Page.{Page}
@@ -62,4 +62,16 @@ returns-in-Replay g c =
       ended (IsReplayed (before program) (before evidence)) (IsEither program evidence) _ _ _
           before (g.F.FileSet.held c.replay_page-page.new.files) _ _ _ _ _
           c.replay_page-page.ensures.page c.replay_page-page.ensures.stop c.finish-in-Replay.ensures,
+    )
+
+pub returns-in-Explain : goal.returns-in-Explain
+returns-in-Explain g c =
+    let before = g.F.FileSet.held c.args.files.now in
+    let program = c.in-Explain.program.now in
+    let evidence = c.in-Explain.evidence.now in
+    rw c.in-Explain.is (
+      c.explain_page-page.ensures.same,
+      ended (IsExplained (before program) (before evidence) c.in-Explain.graph) (IsEither program evidence) _ _ _
+          before (g.F.FileSet.held c.explain_page-page.new.files) _ _ _ _ _
+          c.explain_page-page.ensures.page c.explain_page-page.ensures.stop c.finish-in-Explain.ensures,
     )
