@@ -19,7 +19,7 @@ use Rattle.refutations.specs.Trees.{HasTreeFault}
 use Rattle.checker.specs.declared.reason.Reason.{Reason}
 use Rattle.checker.specs.declared.reason.Reason.TheVariants as reasons
 use Rattle.checker.specs.declared.reason.NoRun.TheVariants as runs
-use Rattle.checker.specs.Verdicts.{IsProgramReason, IsReason, IsUnrefuted, IsUnaccepted, IsUnshown, HasFormula, HasNoFormula, Refutes}
+use Rattle.checker.specs.Verdicts.{AreRefuted, IsProgramReason, IsReason, IsUnrefuted, IsUnaccepted, IsUnshown, HasFormula, HasNoFormula, Refutes}
 use Rattle.checker.specs.Parts.{IsClaim, IsClaimOf, IsNoRun, has_counts, tree_reason}
 
 -- a program that is refused has no stuck run
@@ -124,16 +124,26 @@ why_unaccepted program evidence f claim reason of (inr why) =
     unrefuted_is_refused program evidence of.p claim reason of.text of.refutation (unaccepted_is_unrefuted program evidence f claim of reason why)
 
 -- a claim that is accepted refutes the program
-pub accepted_refutes : (program evidence : List ℕ) (f : Conjunction) (claim : ClaimedRefutation) → IsClaimOf program evidence f claim → Accepts f claim.lines claim.nodes → Refutes program evidence
-accepted_refutes program evidence f claim of accepts = record {
+pub accepted_refute : (program evidence : List ℕ) (f : Conjunction) (claim : ClaimedRefutation) → IsClaimOf program evidence f claim → Accepts f claim.lines claim.nodes → AreRefuted program evidence f claim
+accepted_refute program evidence f claim of accepts = record {
   p = of.p;
-  claim = claim;
   text = of.text;
   refutation = of.refutation;
-  holds = record {
+  formula = of.is.formula;
+  refuted = record {
     counts = of.is.counts;
     accepted = subst (λ (g : Conjunction). Accepts g claim.lines claim.nodes) of.is.formula accepts;
   };
+}
+
+-- what is refuted is refuted by its text
+pub refuted_refute : (program evidence : List ℕ) (f : Conjunction) (claim : ClaimedRefutation) → AreRefuted program evidence f claim → Refutes program evidence
+refuted_refute program evidence f claim are = record {
+  p = are.p;
+  claim = claim;
+  text = are.text;
+  refutation = are.refutation;
+  holds = are.refuted;
 }
 
 -- ---- counts

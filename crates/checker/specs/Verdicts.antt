@@ -99,6 +99,14 @@ pub record IsRefutedBy (p : MpiProgram) (claim : ClaimedRefutation) : Type 0 whe
 abbrev pub Refutes : List ℕ → List ℕ → Type 0
 Refutes program evidence = OfRefutation program evidence IsRefutedBy
 
+-- The one text is that of a program, whose formula this is, and the other text is that of this refutation, which refutes the program.
+pub record AreRefuted (program evidence : List ℕ) (f : Conjunction) (claim : ClaimedRefutation) : Type 0 where
+  pub p : MpiProgram
+  pub text : IsTextOf program p
+  pub refutation : IsEvidenceText evidence (Refutation claim)
+  pub formula : f ≡ formula_of p
+  pub refuted : IsRefutedBy p claim
+
 -- why a refutation isn't accepted for a formula: its first line that isn't derived, else the first node that isn't accepted
 abbrev pub IsUnaccepted : Reason → Conjunction → ClaimedRefutation → Type 0
 IsUnaccepted (reasons.Line found) f claim = IsFirstFaulty f claim.lines 0 found

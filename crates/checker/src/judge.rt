@@ -1,10 +1,10 @@
 //! The verdict.
 
-ghost use Rattle.std.specs.Prelude.{◌≡◌, ◌⊎◌, ◌<◌, ◌≤◌, ℕ, List, IfOk, IfErr};
+ghost use Rattle.std.specs.Prelude.{◌≡◌, ◌≢◌, ◌⊎◌, ◌<◌, ◌≤◌, ℕ, List, IfOk, IfErr};
 ghost use Rattle.pieces.specs.Pieces.{Answers};
 ghost use Rattle.refutations.specs.Refutations.{Accepts};
 ghost use Rattle.checker.specs.Parts.{IsClaim, IsClaimOf, has_counts};
-ghost use Rattle.checker.specs.Verdicts.{IsNeverStuck, Shows, Refutes, Judges, IsUnaccepted, IsUnrefuted};
+ghost use Rattle.checker.specs.Verdicts.{AreRefuted, IsNeverStuck, Shows, Refutes, Judges, IsUnaccepted, IsUnrefuted};
 
 use crate::formula::formula_of;
 use crate::reason::{Reason, Verdict};
@@ -22,6 +22,15 @@ use std::thread::Threads;
 struct Claim {
     formula: Formula,
     refutation: Refutation,
+}
+
+/// The formula of a program, and a refutation of it: each of its lines and its tree were accepted.
+#[derive(Debug, Drop)]
+pub struct Refuted {
+    /// The formula.
+    pub formula: Formula,
+    /// The refutation.
+    pub refutation: Refutation,
 }
 
 /// Whether the counts of the refutation are those of the formula.
@@ -67,6 +76,7 @@ fn claim_of<R: Threads + Sync>(
     parts: usize,
 ) -> Result<Claim, Verdict>
     ensures claim { IfOk result (λ claim. IsClaimOf program.now evidence.now claim.formula claim.refutation) }
+    ensures other { IfErr result (λ verdict. verdict ≢ Verdict.NoDeadlock) }
     ensures judges { IfErr result (λ verdict. Judges program.now evidence.now verdict) }
 {
     let Texts { program, evidence } = match texts_in(rt, alloc, program, evidence, parts) {
@@ -103,14 +113,67 @@ fn check_claim(alloc: Global, claim: &Claim, lines: Result<(), LinesFault>) -> R
     }
 }
 
-/// The verdict by a claim whose lines were checked with this answer.
-fn judged(alloc: Global, claim: &Claim, lines: Result<(), LinesFault>) -> Verdict
-    requires { Answers claim.now.formula claim.now.refutation.lines lines }
-    ensures { (program evidence : List ℕ) → IsClaimOf program evidence claim.now.formula claim.now.refutation → Judges program evidence result }
+/// What a claim refutes whose lines were checked with this answer, or the verdict where it isn't accepted.
+fn refuted_by(
+    alloc: Global,
+    claim: Claim,
+    lines: Result<(), LinesFault>,
+) -> Result<Refuted, Verdict>
+    requires { Answers claim.formula claim.refutation.lines lines }
+    ensures refuted { IfOk result (λ refuted. (program evidence : List ℕ) → IsClaimOf program evidence claim.formula claim.refutation → AreRefuted program evidence refuted.formula refuted.refutation) }
+    ensures other { IfErr result (λ verdict. verdict ≢ Verdict.NoDeadlock) }
+    ensures judges { IfErr result (λ verdict. (program evidence : List ℕ) → IsClaimOf program evidence claim.formula claim.refutation → Judges program evidence verdict) }
 {
-    match check_claim(alloc, claim, lines) {
-        Ok(()) => Verdict::NoDeadlock,
-        Err(reason) => Verdict::Refused(reason),
+    match check_claim(alloc, &claim, lines) {
+        Ok(()) => Ok(Refuted {
+            formula: claim.formula,
+            refutation: claim.refutation,
+        }),
+        Err(reason) => Err(Verdict::Refused(reason)),
+    }
+}
+
+fn refuted_at_once(
+    rt: &(impl Threads + Sync),
+    alloc: Global,
+    program: &[u8],
+    evidence: &[u8],
+) -> Result<Refuted, Verdict>
+    ensures refuted { IfOk result (λ refuted. AreRefuted program.now evidence.now refuted.formula refuted.refutation) }
+    ensures judges { IfErr result (λ verdict. Judges program.now evidence.now verdict) }
+{
+    match claim_of(rt, alloc, program, evidence, 0) {
+        Ok(claim) => {
+            let lines = check_all(alloc, &claim.formula, claim.refutation.lines());
+            refuted_by(alloc, claim, lines)
+        }
+        Err(verdict) => Err(verdict),
+    }
+}
+
+/// The formula of the program and the refutation that the evidence is, where it refutes the program; else the verdict, which
+/// is never `NoDeadlock`. A refutation's lines are read and then checked in so many pieces, 1 to 64, as by [`verdict_in`].
+pub fn refuted_in<R: Threads + Sync, G: PieceGate + Sync>(
+    rt: &R,
+    alloc: Global,
+    program: &[u8],
+    evidence: &[u8],
+    pieces: usize,
+    gate: &G,
+) -> Result<Refuted, Verdict>
+    requires some { 0 < pieces }
+    requires few { pieces ≤ 64 }
+    ensures refuted { IfOk result (λ refuted. AreRefuted program.now evidence.now refuted.formula refuted.refutation) }
+    ensures other { IfErr result (λ verdict. verdict ≢ Verdict.NoDeadlock) }
+    ensures judges { IfErr result (λ verdict. Judges program.now evidence.now verdict) }
+{
+    match claim_of(rt, alloc, program, evidence, pieces) {
+        Ok(claim) => {
+            let lines = claim.refutation.lines();
+            let lines = check_pieces(rt, alloc, &claim.formula, lines, pieces, gate);
+            refuted_by(alloc, claim, lines)
+        }
+        Err(verdict) => Err(verdict),
     }
 }
 
@@ -122,11 +185,8 @@ fn judged_at_once(
 ) -> Verdict
     ensures { Judges program.now evidence.now result }
 {
-    match claim_of(rt, alloc, program, evidence, 0) {
-        Ok(claim) => {
-            let lines = check_all(alloc, &claim.formula, claim.refutation.lines());
-            judged(alloc, &claim, lines)
-        }
+    match refuted_at_once(rt, alloc, program, evidence) {
+        Ok(_refuted) => Verdict::NoDeadlock,
         Err(verdict) => verdict,
     }
 }
@@ -143,12 +203,8 @@ fn judged_in<R: Threads + Sync, G: PieceGate + Sync>(
     requires few { pieces ≤ 64 }
     ensures { Judges program.now evidence.now result }
 {
-    match claim_of(rt, alloc, program, evidence, pieces) {
-        Ok(claim) => {
-            let lines = claim.refutation.lines();
-            let lines = check_pieces(rt, alloc, &claim.formula, lines, pieces, gate);
-            judged(alloc, &claim, lines)
-        }
+    match refuted_in(rt, alloc, program, evidence, pieces, gate) {
+        Ok(_refuted) => Verdict::NoDeadlock,
         Err(verdict) => verdict,
     }
 }

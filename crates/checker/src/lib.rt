@@ -10,7 +10,7 @@ mod reason;
 mod texts;
 
 pub use formula::formula_of;
-pub use judge::{verdict, verdict_in};
+pub use judge::{Refuted, refuted_in, verdict, verdict_in};
 pub use laws::{never_both, one_verdict, refuted_are_never_stuck};
 pub use pieces::PieceGate;
 pub use reason::{NoRun, Reason, Verdict};

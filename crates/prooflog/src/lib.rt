@@ -30,4 +30,4 @@ pub use reader::{read_evidence, read_evidence_in};
 pub use refutation::{MOST_DEPTH, MOST_LINES, MOST_NODES, MakeRefutationFault, Refutation};
 pub use schedule::Schedule;
 pub use step::put_match;
-pub use writer::write_evidence;
+pub use writer::{put_hints, put_literals, write_evidence};

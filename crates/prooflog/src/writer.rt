@@ -51,8 +51,8 @@ fn put_literal(out: &mut Vec<u8>, literal: &Lit) -> Result<(), AllocError>
     put_number(out, literal.variable())
 }
 
-/// Writes the literals at the end, with a space before each.
-pub(crate) fn put_literals(out: &mut Vec<u8>, literals: &[Lit]) -> Result<(), AllocError>
+/// Writes the literals at the end, with a space before each. A negative one begins with `-`. The only error is want of memory.
+pub fn put_literals(out: &mut Vec<u8>, literals: &[Lit]) -> Result<(), AllocError>
     ensures { OnOk result (out.new.items ≡ out.old.items ++ spaced (map literal_word literals.now)) }
 {
     for literal in literals {
@@ -61,7 +61,8 @@ pub(crate) fn put_literals(out: &mut Vec<u8>, literals: &[Lit]) -> Result<(), Al
     Ok(())
 }
 
-fn put_hints(out: &mut Vec<u8>, hints: &[u32]) -> Result<(), AllocError>
+/// Writes the hints at the end, with a space before each. The only error is want of memory.
+pub fn put_hints(out: &mut Vec<u8>, hints: &[u32]) -> Result<(), AllocError>
     ensures { OnOk result (out.new.items ≡ out.old.items ++ spaced (map numeral hints.now)) }
 {
     for hint in hints {

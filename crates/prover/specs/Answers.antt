@@ -7,6 +7,7 @@ use Rattle.semantics.specs.declared.state.Step.{Step}
 use Rattle.semantics.specs.Machine.{IsFinishedRun}
 use Rattle.formulas.specs.Numbering.{formula_of}
 use Rattle.prooflog.specs.FormulaText.{formula_text}
+use Rattle.exports.specs.Dimacs.{dimacs_text}
 use Rattle.checker.specs.declared.reason.Reason.{Reason}
 use Rattle.checker.specs.declared.reason.Reason.TheVariants as reasons
 use Rattle.checker.specs.Verdicts.{IsNeverStuck, Refutes, Shows, HasFormula, HasNoFormula, IsARefutation, IsReason, IsProgramReason, is_of_refutation}
@@ -29,6 +30,13 @@ pub record HasFormulaText (program text : List ℕ) : Type 0 where
   pub is_text : IsTextOf program p
   pub within : HasFormula p
   pub text_is : text ≡ formula_text (formula_of p)
+
+-- the same, of the formula's text in the DIMACS format
+pub record HasDimacsText (program text : List ℕ) : Type 0 where
+  pub p : MpiProgram
+  pub is_text : IsTextOf program p
+  pub within : HasFormula p
+  pub text_is : text ≡ dimacs_text p
 
 -- why a program's text has no formula's text: it is refused, or its program has no formula within the limits
 abbrev pub HasNoFormulaText : List ℕ → Reason → Type 0

@@ -1,11 +1,12 @@
 //! The formula of a program's text.
 
 ghost use Rattle.std.specs.Prelude.{IfOk, IfErr};
-ghost use Rattle.prover.specs.Answers.{HasFormulaText, HasNoFormulaText};
+ghost use Rattle.prover.specs.Answers.{HasDimacsText, HasFormulaText, HasNoFormulaText};
 ghost use Rattle.prover.specs.Searches.{IsFormulaOf};
 
 use checker::{Reason, formula_of, program_of};
 use encode::Encoded;
+use exports::dimacs_text;
 use prooflog::write_formula;
 use std::alloc::Global;
 use std::thread::Threads;
@@ -45,6 +46,26 @@ pub fn formula_text(
         Err(reason) => return Err(reason),
     };
     match write_formula(alloc, encoded.formula()) {
+        Ok(text) => Ok(text),
+        Err(_) => Err(Reason::Memory),
+    }
+}
+
+/// The text of the same formula in the DIMACS format, with a comment line for each variable that tells what it stands for. A program is
+/// refused as by [`formula_text`].
+pub fn dimacs_formula(
+    rt: &(impl Threads + Sync),
+    alloc: Global,
+    program: &[u8],
+) -> Result<Vec<u8>, Reason>
+    ensures text { IfOk result (λ text. HasDimacsText program.now text.items) }
+    ensures reason { IfErr result (λ reason. HasNoFormulaText program.now reason) }
+{
+    let encoded = match encoded_of(rt, alloc, program) {
+        Ok(encoded) => encoded,
+        Err(reason) => return Err(reason),
+    };
+    match dimacs_text(alloc, &encoded) {
         Ok(text) => Ok(text),
         Err(_) => Err(Reason::Memory),
     }

@@ -13,7 +13,7 @@ mod walk;
 
 pub use answer::Answer;
 pub use checker::{PieceGate, Reason, Verdict, verdict, verdict_in};
-pub use formula::formula_text;
+pub use formula::{dimacs_formula, formula_text};
 pub use options::{Options, Pieces};
 pub use pool::Why;
 pub use proving::prove;

@@ -1,1 +1,2 @@
 pub mod Explanations
+pub mod Exports

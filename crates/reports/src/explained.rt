@@ -1,16 +1,15 @@
 //! The explanation of an answer.
 
-ghost use Rattle.std.specs.Prelude.{◌<◌, ◌≤◌};
+ghost use Rattle.std.specs.Prelude.{◌<◌, ◌≤◌, ℕ, List};
 ghost use Rattle.semantics.specs.Machine.{IsStuckRun};
-ghost use Rattle.checker.specs.Verdicts.{Refutes, Shows};
+ghost use Rattle.checker.specs.Verdicts.{AreRefuted, Shows};
 ghost use Rattle.reports.specs.Explanations.{Explains};
 
 use crate::counts::counts_text;
 use callorder::Program;
 use calltext::read;
-use checker::{PieceGate, Reason, Verdict, stuck_run_of, verdict_in};
+use checker::{PieceGate, Reason, Refuted, Verdict, refuted_in, stuck_run_of};
 use explain::{explanation, wait_graph};
-use prooflog::{Evidence, read_evidence_in};
 use semantics::Step;
 use std::alloc::{AllocError, Global};
 use std::thread::Threads;
@@ -61,23 +60,11 @@ fn deadlock(alloc: Global, program: &[u8], evidence: &[u8], graph: bool) -> Expl
     }
 }
 
-/// The text on an evidence that refutes a program, read in so many parts.
-fn no_deadlock<R: Threads + Sync>(
-    rt: &R,
-    alloc: Global,
-    program: &[u8],
-    evidence: &[u8],
-    parts: usize,
-    graph: bool,
-) -> Explained
-    requires { Refutes program.now evidence.now }
-    ensures { Explains graph program.now evidence.now result }
+/// The text on what was refuted.
+fn no_deadlock(alloc: Global, refuted: &Refuted, graph: bool) -> Explained
+    ensures { (program evidence : List ℕ) → AreRefuted program evidence refuted.now.formula refuted.now.refutation → Explains graph program evidence result }
 {
-    // The text was read before, so want of memory alone can be met.
-    let Ok(Evidence::Refutation(refutation)) = read_evidence_in(rt, alloc, evidence, parts) else {
-        return Explained::Refused(Reason::Memory);
-    };
-    match counts_text(alloc, &refutation, graph) {
+    match counts_text(alloc, &refuted.refutation, graph) {
         Ok(text) => Explained::NoDeadlock(text),
         Err(AllocError) => Explained::Refused(Reason::Memory),
     }
@@ -88,8 +75,8 @@ fn no_deadlock<R: Threads + Sync>(
 /// variables, clauses, lines and leaves, in a graph as a comment. It is refused where `verdict` refuses it, for the same reasons.
 /// A refutation's lines are checked in so many pieces, 1 to 64.
 ///
-/// The texts are read a second time once they are judged, so that the checker's answer is all that stands between an evidence and
-/// its explanation.
+/// The texts of a deadlock are read a second time once they are judged, so that the checker's answer is all that stands between an
+/// evidence and its explanation.
 pub fn explain_evidence<R: Threads + Sync, G: PieceGate + Sync>(
     rt: &R,
     alloc: Global,
@@ -103,9 +90,10 @@ pub fn explain_evidence<R: Threads + Sync, G: PieceGate + Sync>(
     requires few { pieces ≤ 64 }
     ensures { Explains graph program.now evidence.now result }
 {
-    match verdict_in(rt, alloc, program, evidence, pieces, gate) {
-        Verdict::NoDeadlock => no_deadlock(rt, alloc, program, evidence, pieces, graph),
-        Verdict::Deadlock => deadlock(alloc, program, evidence, graph),
-        Verdict::Refused(reason) => Explained::Refused(reason),
+    match refuted_in(rt, alloc, program, evidence, pieces, gate) {
+        Ok(refuted) => no_deadlock(alloc, &refuted, graph),
+        Err(Verdict::NoDeadlock) => unreachable!(),
+        Err(Verdict::Deadlock) => deadlock(alloc, program, evidence, graph),
+        Err(Verdict::Refused(reason)) => Explained::Refused(reason),
     }
 }

@@ -1,0 +1,2 @@
+mod LratTexts
+mod Texts

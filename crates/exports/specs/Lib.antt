@@ -1,0 +1,2 @@
+pub mod Dimacs
+pub mod Lrat

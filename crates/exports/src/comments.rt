@@ -1,0 +1,162 @@
+//! Comment lines, which tell what the variables stand for.
+
+ghost use Rattle.std.specs.Prelude.{◌≡◌, ◌+◌, ◌++◌, ◌∷◌, [], codes, get_or, OnOk};
+ghost use Rattle.callorder.specs.Programs.{MpiProgram};
+ghost use Rattle.plaintext.specs.Plain.{numeral, spaced};
+ghost use Rattle.formulas.specs.declared.facts.Event.TheVariants.{Issue as issue_of};
+ghost use Rattle.formulas.specs.Families.{events as events_of};
+ghost use Rattle.formulas.specs.Numbering.{meanings};
+ghost use Rattle.exports.specs.Dimacs.{event_words, fact_words, meaning_words, comment_line, comment_lines};
+
+use crate::events::event_at;
+use crate::words::{put_number, put_word};
+use encode::Encoded;
+use formulas::{Event, Fact, Meaning};
+use std::alloc::AllocError;
+
+/// Writes the number of the call at a place, which is 1 more.
+fn put_call(out: &mut Vec<u8>, call: usize) -> Result<(), AllocError>
+    ensures { OnOk result (out.new.items ≡ out.old.items ++ spaced (numeral (call + 1) ∷ [])) }
+{
+    put_number(out, call as u128 + 1)
+}
+
+/// Writes the words of the event.
+fn put_event(out: &mut Vec<u8>, event: &Event) -> Result<(), AllocError>
+    ensures { OnOk result (out.new.items ≡ out.old.items ++ spaced (event_words event.now)) }
+{
+    match *event {
+        Event::Issue(call) => {
+            put_word(out, "issue")?;
+            put_call(out, call)
+        }
+        Event::Match(taker) => {
+            put_word(out, "match")?;
+            put_call(out, taker)
+        }
+    }
+}
+
+fn put_matched(out: &mut Vec<u8>, send: usize, taker: usize) -> Result<(), AllocError>
+    ensures { OnOk result (out.new.items ≡ out.old.items ++ spaced (codes "matched" ∷ numeral (send + 1) ∷ numeral (taker + 1) ∷ [])) }
+{
+    put_word(out, "matched")?;
+    put_call(out, send)?;
+    put_call(out, taker)
+}
+
+/// Writes the words of the fact.
+fn put_fact(out: &mut Vec<u8>, fact: &Fact) -> Result<(), AllocError>
+    ensures { OnOk result (out.new.items ≡ out.old.items ++ spaced (fact_words fact.now)) }
+{
+    match *fact {
+        Fact::Issued(call) => {
+            put_word(out, "issued")?;
+            put_call(out, call)
+        }
+        Fact::Buffered(send) => {
+            put_word(out, "buffered")?;
+            put_call(out, send)
+        }
+        Fact::Matched(send, taker) => put_matched(out, send, taker),
+        Fact::Unfinished(rank) => {
+            put_word(out, "unfinished")?;
+            put_number(out, rank as u128)
+        }
+    }
+}
+
+/// Writes what the bit at a place of an event's clock is called.
+fn put_bit(out: &mut Vec<u8>, event: &Event, place: usize) -> Result<(), AllocError>
+    ensures { OnOk result (out.new.items ≡ out.old.items ++ spaced (codes "bit" ∷ numeral (place + 1) ∷ codes "of" ∷ event_words event.now)) }
+{
+    put_word(out, "bit")?;
+    put_number(out, place as u128 + 1)?;
+    put_word(out, "of")?;
+    put_event(out, event)
+}
+
+/// Writes two events with a word between them.
+fn put_events(
+    out: &mut Vec<u8>,
+    first: &Event,
+    word: &str,
+    second: &Event,
+) -> Result<(), AllocError>
+    ensures { OnOk result (out.new.items ≡ out.old.items ++ spaced (event_words first.now ++ word.now ∷ event_words second.now)) }
+{
+    put_event(out, first)?;
+    put_word(out, word)?;
+    put_event(out, second)
+}
+
+/// Writes that the clocks of two events begin with so many equal bits.
+fn put_equal_bits(
+    out: &mut Vec<u8>,
+    first: &Event,
+    second: &Event,
+    bits: usize,
+) -> Result<(), AllocError>
+    ensures { OnOk result (out.new.items ≡ out.old.items ++ spaced (numeral bits ∷ codes "equal" ∷ codes "bits" ∷ codes "of" ∷ (event_words first.now ++ codes "and" ∷ event_words second.now))) }
+{
+    put_number(out, bits as u128)?;
+    put_word(out, "equal")?;
+    put_word(out, "bits")?;
+    put_word(out, "of")?;
+    put_events(out, first, "and", second)?;
+    Ok(())
+}
+
+/// Writes what a variable of a program with these events stands for.
+fn put_meaning(out: &mut Vec<u8>, events: &[Event], meaning: &Meaning) -> Result<(), AllocError>
+    ensures { OnOk result ((p : MpiProgram) → events.now ≡ events_of p → out.new.items ≡ out.old.items ++ spaced (meaning_words p meaning.now)) }
+{
+    match *meaning {
+        Meaning::OfFact(fact) => put_fact(out, &fact),
+        Meaning::ClockBit(event, place) => put_bit(out, &event_at(events, event), place),
+        Meaning::Before(first, second) => {
+            let first = event_at(events, first);
+            let second = event_at(events, second);
+            put_events(out, &first, "before", &second)
+        }
+        Meaning::SameBits(first, second, bits) => {
+            let first = event_at(events, first);
+            let second = event_at(events, second);
+            put_equal_bits(out, &first, &second, bits)
+        }
+    }
+}
+
+/// Writes the comment line of a variable.
+fn put_comment(
+    out: &mut Vec<u8>,
+    events: &[Event],
+    variable: u32,
+    meaning: &Meaning,
+) -> Result<(), AllocError>
+    ensures { OnOk result ((p : MpiProgram) → events.now ≡ events_of p → out.new.items ≡ out.old.items ++ comment_line p variable meaning.now) }
+{
+    out.push(b'c')?;
+    put_number(out, variable as u128)?;
+    put_meaning(out, events, meaning)?;
+    out.push(b'\n')?;
+    Ok(())
+}
+
+/// Writes the comment lines of all variables, where these are the program's events.
+pub fn put_comments(
+    out: &mut Vec<u8>,
+    encoded: &Encoded,
+    events: &[Event],
+) -> Result<(), AllocError>
+    requires { events.now ≡ events_of encoded.now.program }
+    ensures { OnOk result (out.new.items ≡ out.old.items ++ comment_lines encoded.now.program 1 (meanings encoded.now.program)) }
+{
+    for place in 0..encoded.formula().variables() {
+        let Some(meaning) = encoded.meaning(place + 1) else {
+            unreachable!();
+        };
+        put_comment(out, events, place + 1, &meaning)?;
+    }
+    Ok(())
+}

@@ -1,0 +1,49 @@
+//! The events of a program, in a list.
+
+ghost use Rattle.std.specs.Prelude.{◌≡◌, IfOk, get_or, map};
+ghost use Rattle.std.specs.List.{filter};
+ghost use Rattle.candidates.specs.Pairs.{places};
+ghost use Rattle.formulas.specs.declared.facts.Event.TheVariants.{Issue as issue_of, Match as match_of};
+ghost use Rattle.formulas.specs.Families.{events as events_of, is_taker};
+
+use callorder::Program;
+use formulas::Event;
+use std::alloc::{AllocError, Global};
+use tables::is_taker;
+
+fn issues(alloc: Global, program: &Program) -> Result<Vec<Event>, AllocError>
+    ensures { IfOk result (λ events. events.items ≡ map issue_of (places program.now)) }
+{
+    (0..program.calls().len())
+        .map(|call| Event::Issue(call))
+        .collect(alloc)
+}
+
+fn matches(alloc: Global, program: &Program) -> Result<Vec<Event>, AllocError>
+    ensures { IfOk result (λ events. events.items ≡ map match_of (filter (is_taker program.now) (places program.now))) }
+{
+    (0..program.calls().len())
+        .filter(|call| is_taker(program, *call))
+        .map(|taker| Event::Match(taker))
+        .collect(alloc)
+}
+
+/// The events of the program: the issue of each call, and then the match of each taker.
+pub fn events_of(alloc: Global, program: &Program) -> Result<Vec<Event>, AllocError>
+    ensures { IfOk result (λ events. events.items ≡ events_of program.now) }
+{
+    let mut events = issues(alloc, program)?;
+    let mut matches = matches(alloc, program)?;
+    events.append(&mut matches)?;
+    Ok(events)
+}
+
+/// The event at the place. Past the last one it is the issue of the first call, which no text shows.
+pub fn event_at(events: &[Event], place: usize) -> Event
+    ensures { result ≡ get_or events.now place (issue_of 0) }
+{
+    match events.get(place) {
+        Some(event) => *event,
+        None => Event::Issue(0),
+    }
+}

@@ -1,0 +1,227 @@
+use super::*;
+use clauses::{Clause, Formula, Lit};
+use refutations::{Line, Node, ProofTree, check_refutation};
+use std::alloc::Global;
+use std::test::Fail;
+
+fn number(text: &str) -> Result<u32, Fail> {
+    match text.parse::<u32>() {
+        Ok(number) => Ok(number),
+        Err(_fault) => Err(Fail::from("no number")),
+    }
+}
+
+fn literal(word: &str) -> Result<Lit, Fail> {
+    let made = match word.strip_prefix("-") {
+        Some(digits) => Lit::make(number(digits)?, false),
+        None => Lit::make(number(word)?, true),
+    };
+    Ok(made.ok_or("no literal")?)
+}
+
+/// The clause of literals such as `1 -2`.
+fn clause(alloc: Global, text: &str) -> Result<Clause, Fail> {
+    let mut literals = Vec::new(alloc);
+    for word in text.split_whitespace() {
+        literals.push(literal(word)?)?;
+    }
+    Ok(Clause::make(alloc, literals.as_slice())?)
+}
+
+/// The formula of these clauses, each before a comma, over three variables.
+fn formula(alloc: Global, text: &str) -> Result<Formula, Fail> {
+    let mut clauses = Vec::new(alloc);
+    for part in text.split(',') {
+        clauses.push(clause(alloc, part)?)?;
+    }
+    match Formula::make(3, clauses) {
+        Ok(formula) => Ok(formula),
+        Err(_clauses) => Err(Fail::from("no formula")),
+    }
+}
+
+fn node(word: &str) -> Result<Node, Fail> {
+    match word.strip_prefix("s") {
+        Some(digits) => Ok(Node::Split(number(digits)?)),
+        None => Ok(Node::Leaf(number(word)?)),
+    }
+}
+
+/// The tree of nodes such as `s1 4 3`: a split by variable 1 over the leaves of clauses 4 and 3.
+fn tree(alloc: Global, text: &str) -> Result<ProofTree, Fail> {
+    let mut nodes = Vec::new(alloc);
+    for word in text.split_whitespace() {
+        nodes.push(node(word)?)?;
+    }
+    match ProofTree::make(nodes) {
+        Ok(tree) => Ok(tree),
+        Err(_nodes) => Err(Fail::from("no tree")),
+    }
+}
+
+fn line_text(alloc: Global, line: &Line) -> Result<String, Fail> {
+    let mut text = String::new(alloc);
+    for literal in line.literals() {
+        let sign = if literal.is_positive() { "" } else { "-" };
+        let variable = literal.variable();
+        text.push_str(format!(in alloc; "{sign}{variable} ")?.as_str())?;
+    }
+    text.push_str(":")?;
+    for hint in line.hints() {
+        text.push_str(format!(in alloc; " {hint}")?.as_str())?;
+    }
+    Ok(text)
+}
+
+fn lines_text(alloc: Global, lines: &[Line]) -> Result<String, Fail> {
+    let mut text = String::new(alloc);
+    for line in lines {
+        text.push_str(line_text(alloc, line)?.as_str())?;
+        text.push_str(";")?;
+    }
+    Ok(text)
+}
+
+/// Whether the lines refute the formula, the last of which is empty.
+fn refutes_without_tree(alloc: Global, formula: &Formula, lines: &[Line]) -> Result<bool, Fail> {
+    let last = format!(in alloc; "{}", formula.clauses().len() + lines.len())?;
+    let root = tree(alloc, last.as_str())?;
+    Ok(check_refutation(alloc, formula, lines, &root).is_ok())
+}
+
+/// The lines that join the tree of this refutation, where both it and the lines are accepted.
+fn joined(
+    alloc: Global,
+    formula: &Formula,
+    mut lines: Vec<Line>,
+    nodes: &str,
+) -> Result<String, Fail> {
+    let tree = tree(alloc, nodes)?;
+    if check_refutation(alloc, formula, lines.as_slice(), &tree).is_err() {
+        return Err(Fail::from("not accepted"));
+    }
+    let added = joining_lines(alloc, formula, lines.as_slice(), &tree)?;
+    let text = lines_text(alloc, added.as_slice())?;
+    for line in added {
+        lines.push(line)?;
+    }
+    if !refutes_without_tree(alloc, formula, lines.as_slice())? {
+        return Err(Fail::from("not joined"));
+    }
+    Ok(text)
+}
+
+#[test]
+fn an_empty_line_needs_no_other(rt: HostRuntime) -> Result<(), Fail> {
+    let alloc = rt.alloc();
+    let formula = formula(alloc, "1,-1 -2,2")?;
+    let mut lines = Vec::new(alloc);
+    lines.push(Line::make(alloc, &[], &[1, 3, 2])?)?;
+    assert_eq!(rt; joined(alloc, &formula, lines, "4")?.as_str(), "");
+    Ok(())
+}
+
+#[test]
+fn an_empty_clause_of_the_formula(rt: HostRuntime) -> Result<(), Fail> {
+    let alloc = rt.alloc();
+    let formula = formula(alloc, "1,")?;
+    assert_eq!(rt;
+        joined(alloc, &formula, Vec::new(alloc), "2")?.as_str(),
+        ": 2;"
+    );
+    assert_eq!(rt;
+        joined(alloc, &formula, Vec::new(alloc), "s3 2 2")?.as_str(),
+        ": 2;"
+    );
+    Ok(())
+}
+
+#[test]
+fn two_splits(rt: HostRuntime) -> Result<(), Fail> {
+    let alloc = rt.alloc();
+    let whole = formula(alloc, "1 2,1 -2,-1 2,-1 -2")?;
+    assert_eq!(rt;
+        joined(alloc, &whole, Vec::new(alloc), "s1 s2 4 3 s2 2 1")?.as_str(),
+        "1 : 2 1;-1 : 4 3;: 6 5;"
+    );
+    let short = formula(alloc, "-1,-1 2,1")?;
+    assert_eq!(rt;
+        joined(alloc, &short, Vec::new(alloc), "s1 s2 1 2 3")?.as_str(),
+        ": 1 3;"
+    );
+    Ok(())
+}
+
+#[test]
+fn lines_before_those_added(rt: HostRuntime) -> Result<(), Fail> {
+    let alloc = rt.alloc();
+    let formula = formula(alloc, "1 2,1 -2,-1 2,-1 -2")?;
+    let mut lines = Vec::new(alloc);
+    lines.push(Line::make(alloc, &[literal("1")?], &[1, 2])?)?;
+    assert_eq!(rt;
+        joined(alloc, &formula, lines, "s3 s1 s2 4 3 5 s1 s2 4 3 5")?.as_str(),
+        "-1 : 4 3;: 6 5;-1 : 4 3;: 8 5;"
+    );
+    Ok(())
+}
+
+#[test]
+fn a_variable_split_twice(rt: HostRuntime) -> Result<(), Fail> {
+    let alloc = rt.alloc();
+    let two = formula(alloc, "-1 -3,1 3,-1,1")?;
+    assert_eq!(rt;
+        joined(alloc, &two, Vec::new(alloc), "s1 s1 3 s3 1 2 4")?.as_str(),
+        ": 3 4;"
+    );
+    let three = formula(alloc, "-1 -2 -3,1 3,1 2,-1,1")?;
+    assert_eq!(rt;
+        joined(alloc, &three, Vec::new(alloc), "s1 s1 4 s2 s3 1 2 3 5")?.as_str(),
+        ": 4 5;"
+    );
+    Ok(())
+}
+
+/// The variables of the largest tree here, each path of which splits on all of them.
+const VARIABLES: u32 = 12;
+
+/// Whether the path of the leaf at this place, counted from 0, has the variable true.
+fn is_true(leaf: u32, variable: u32) -> bool {
+    (leaf >> VARIABLES.saturating_sub(variable).min(31)) % 2 == 0
+}
+
+/// The clause that is false on the path of this leaf alone.
+fn clause_of(alloc: Global, leaf: u32) -> Result<Clause, Fail> {
+    let mut literals = Vec::new(alloc);
+    for variable in 1..=VARIABLES {
+        literals.push(Lit::make(variable, !is_true(leaf, variable)).ok_or("no literal")?)?;
+    }
+    Ok(Clause::make(alloc, literals.as_slice())?)
+}
+
+/// The nodes of the full tree up to this leaf that aren't above an earlier one.
+fn put_nodes(nodes: &mut Vec<Node>, leaf: u32) -> Result<(), Fail> {
+    let new = leaf.trailing_zeros().min(VARIABLES);
+    for depth in VARIABLES.saturating_sub(new)..VARIABLES {
+        nodes.push(Node::Split(depth.saturating_add(1)))?;
+    }
+    nodes.push(Node::Leaf(leaf.saturating_add(1)))?;
+    Ok(())
+}
+
+#[test]
+fn a_tree_of_4096_leaves(rt: HostRuntime) -> Result<(), Fail> {
+    let alloc = rt.alloc();
+    let mut clauses = Vec::new(alloc);
+    let mut nodes = Vec::new(alloc);
+    for leaf in 0..1_u32 << VARIABLES {
+        clauses.push(clause_of(alloc, leaf)?)?;
+        put_nodes(&mut nodes, leaf)?;
+    }
+    let formula = Formula::make(VARIABLES, clauses).map_err(|_clauses| "no formula")?;
+    let tree = ProofTree::make(nodes).map_err(|_nodes| "no tree")?;
+    assert!(rt; check_refutation(alloc, &formula, &[], &tree).is_ok());
+    let added = joining_lines(alloc, &formula, &[], &tree)?;
+    assert_eq!(rt; added.len(), 4095);
+    assert!(rt; refutes_without_tree(alloc, &formula, added.as_slice())?);
+    Ok(())
+}
