@@ -2,9 +2,9 @@
 use Rattle.std.proofs.Common.{◌≡◌, inl, inr, true, false, List, [], ◌∷◌, Some, None, codes}
 use Rattle.clap.specs.Words.{Text, fault_of}
 use Rattle.session.specs.CommandLine.{AskFor, command_line}
-use Rattle.session.specs.Deadlocks.{AskToCheck, AskToCheckIn, AskToEncode, AskToExplain, AskToProve, AskToReplay, IsAnswered, PlainWordsAreAnswered}
+use Rattle.session.specs.Deadlocks.{AskToCheck, AskToCheckIn, AskToEncode, AskToExplain, AskToExport, AskToProve, AskToReplay, IsAnswered, PlainWordsAreAnswered}
 use Rattle.session.specs.declared.request.Request.{Request}
-use Rattle.session.proofs.PlainFaults.{check_faultless, check_json_faultless, check_pieces_faultless, encode_faultless, explain_dot_faultless, explain_faultless, prove_faultless, prove_json_faultless, prove_out_faultless, replay_faultless}
+use Rattle.session.proofs.PlainFaults.{check_faultless, check_json_faultless, check_pieces_faultless, encode_dimacs_faultless, encode_faultless, explain_dot_faultless, explain_faultless, export_faultless, prove_faultless, prove_json_faultless, prove_out_faultless, replay_faultless}
 use Rattle.session.proofs.OptionWords.{option_words_are_read}
 use Rattle.session.proofs.PieceWords.{pieces_are_free}
 use Rattle.session.proofs.PlainWords.{plain_words_are_read}
@@ -35,8 +35,14 @@ plain_words_are_answered = record {
       answered (name ∷ codes "replay" ∷ p ∷ e ∷ []) (λ words. AskToReplay words p e) (replay_faultless name p e fp fe)
       (λ request asks. (request, asks, plain_words_are_read.replay name p e request fp fe asks));
   encode = λ name p fp.
-      answered (name ∷ codes "encode" ∷ p ∷ []) (λ words. AskToEncode words p) (encode_faultless name p fp)
+      answered (name ∷ codes "encode" ∷ p ∷ []) (λ words. AskToEncode words p false) (encode_faultless name p fp)
       (λ request asks. (request, asks, plain_words_are_read.encode name p request fp asks));
+  encode_dimacs = λ name p fp.
+      answered (name ∷ codes "encode" ∷ p ∷ codes "--dimacs" ∷ []) (λ words. AskToEncode words p true) (encode_dimacs_faultless name p fp)
+      (λ request asks. (request, asks, plain_words_are_read.encode_dimacs name p request fp asks));
+  export = λ name p e file fp fe ff.
+      answered (name ∷ codes "export" ∷ p ∷ e ∷ codes "--out" ∷ file ∷ []) (λ words. AskToExport words p e file) (export_faultless name p e file fp fe ff)
+      (λ request asks. (request, asks, plain_words_are_read.export name p e file request fp fe ff asks));
   explain = λ name p e fp fe.
       answered (name ∷ codes "explain" ∷ p ∷ e ∷ []) (λ words. AskToExplain words p e) (explain_faultless name p e fp fe)
       (λ request asks. (request, false, asks, plain_words_are_read.explain name p e request fp fe asks));

@@ -13,7 +13,7 @@ use Rattle.clap.specs.declared.error.kind.ErrorKind.TheVariants.{ValueValidation
 use Rattle.session.specs.CommandLine.{SpellsPieces, begins_with_hyphen, command_line}
 use Rattle.session.proofs.OptionWords.{pieces_last, pieces_walk}
 use Rattle.session.proofs.PieceWords.{pieces_are_free, pieces_pass}
-use Rattle.session.proofs.PlainWords.{after_free, check_rules, check_walk, encode_rules, explain_rules, explain_walk, free_met, no_dashes, no_long, no_short, out_walk, prove_out, prove_rules, prove_walk, prove_word, replay_rules, replay_walk, start, two_words, walked_free}
+use Rattle.session.proofs.PlainWords.{after_free, check_rules, check_walk, encode_rules, encode_walk, encode_word, explain_rules, explain_walk, export_out, export_out_walk, export_rules, export_walk, free_met, no_dashes, no_long, no_short, out_walk, prove_out, prove_rules, prove_walk, prove_word, replay_rules, replay_walk, start, two_words, walked_free}
 
 -- ---- one free word
 
@@ -68,6 +68,9 @@ encode_shape = shape_in (find (λ s. answers_to (codes "encode") (label_of s)) (
 
 abbrev pub explain_shape : Shape
 explain_shape = shape_in (find (λ s. answers_to (codes "explain") (label_of s)) (built command_line).subs)
+
+abbrev export_shape : Shape
+export_shape = shape_in (find (λ s. answers_to (codes "export") (label_of s)) (built command_line).subs)
 
 abbrev prove_shape : Shape
 prove_shape = shape_in (find (λ s. answers_to (codes "prove") (label_of s)) (built command_line).subs)
@@ -134,12 +137,50 @@ check_pieces_leaf p e pieces fp fe spells =
     leaf_by_walk check_shape (p ∷ e ∷ codes "--pieces" ∷ pieces ∷ []) (pieces_last p e pieces) turns (pieces_walk p e pieces fp fe fn)
     ∙ pieces_end p e pieces spells
 
+encode_first : (p : Text) → begins_with_hyphen p ≡ false → turn_fault encode_shape [] start p ≡ []
+unfolding clap_on_literals
+encode_first p fp = turn_at_rest encode_shape start p fp
+
 encode_leaf : (p : Text) → begins_with_hyphen p ≡ false → leaf_fault encode_shape (p ∷ []) ≡ []
 unfolding clap_on_literals
 encode_leaf p fp =
-    let first : turn_fault encode_shape [] start p ≡ [] = turn_at_rest encode_shape start p fp in
-    let turns : walk_fault encode_shape [] start (p ∷ []) ≡ [] = ap (λ (a : Kinds). or_else a []) first in
-    leaf_by_walk encode_shape (p ∷ []) (after_free encode_rules start p) turns (walked_free encode_rules start p refl refl fp)
+    let turns : walk_fault encode_shape [] start (p ∷ []) ≡ [] = ap (λ (a : Kinds). or_else a []) (encode_first p fp) in
+    leaf_by_walk encode_shape (p ∷ []) (encode_word p) turns (encode_walk p fp)
+
+encode_dimacs_leaf : (p : Text) → begins_with_hyphen p ≡ false → leaf_fault encode_shape (p ∷ codes "--dimacs" ∷ []) ≡ []
+unfolding clap_on_literals
+encode_dimacs_leaf p fp =
+    let second : turn_fault encode_shape [] (walked encode_rules [] start p) (codes "--dimacs") ≡ [] =
+    ap (λ (w : Walk). turn_fault encode_shape [] w (codes "--dimacs")) (encode_walk p fp) in
+    let turns : walk_fault encode_shape [] start (p ∷ codes "--dimacs" ∷ []) ≡ [] =
+    ap₂ (λ (a b : Kinds). or_else a (or_else b [])) (encode_first p fp) second in
+    leaf_by_walk encode_shape (p ∷ codes "--dimacs" ∷ []) (walked encode_rules [] (encode_word p) (codes "--dimacs")) turns
+    (ap (λ (w : Walk). walked encode_rules [] w (codes "--dimacs")) (encode_walk p fp))
+
+export_first : (p : Text) → begins_with_hyphen p ≡ false → turn_fault export_shape [] start p ≡ []
+unfolding clap_on_literals
+export_first p fp = turn_at_rest export_shape start p fp
+
+export_second : (p e : Text) → begins_with_hyphen p ≡ false → begins_with_hyphen e ≡ false
+    → turn_fault export_shape [] (walked export_rules [] start p) e ≡ []
+unfolding clap_on_literals
+export_second p e fp fe =
+    ap (λ (w : Walk). turn_fault export_shape [] w e) (walked_free export_rules start p refl refl fp)
+    ∙ turn_at_rest export_shape (after_free export_rules start p) e fe
+
+export_leaf : (p e file : Text) → begins_with_hyphen p ≡ false → begins_with_hyphen e ≡ false → begins_with_hyphen file ≡ false
+    → leaf_fault export_shape (p ∷ e ∷ codes "--out" ∷ file ∷ []) ≡ []
+unfolding clap_on_literals
+export_leaf p e file fp fe ff =
+    let third : turn_fault export_shape [] (walked export_rules [] (walked export_rules [] start p) e) (codes "--out") ≡ [] =
+    ap (λ (w : Walk). turn_fault export_shape [] w (codes "--out")) (export_walk p e fp fe) in
+    let fourth : turn_fault export_shape [] (walked export_rules [] (walked export_rules [] (walked export_rules [] start p) e) (codes "--out")) file ≡ [] =
+    ap (λ (w : Walk). turn_fault export_shape [] (walked export_rules [] w (codes "--out")) file) (export_walk p e fp fe)
+    ∙ turn_at_rest export_shape (walked export_rules [] (two_words export_rules p e) (codes "--out")) file ff in
+    let turns : walk_fault export_shape [] start (p ∷ e ∷ codes "--out" ∷ file ∷ []) ≡ [] =
+    ap₂ (λ (a b : Kinds). or_else a b) (export_first p fp)
+    (ap₂ (λ (a b : Kinds). or_else a b) (export_second p e fp fe) (ap₂ (λ (a b : Kinds). or_else a (or_else b [])) third fourth)) in
+    leaf_by_walk export_shape (p ∷ e ∷ codes "--out" ∷ file ∷ []) (export_out p e file) turns (export_out_walk p e file fp fe ff)
 
 replay_leaf : (p e : Text) → begins_with_hyphen p ≡ false → begins_with_hyphen e ≡ false → leaf_fault replay_shape (p ∷ e ∷ []) ≡ []
 unfolding clap_on_literals
@@ -233,6 +274,16 @@ check_pieces_faultless name p e pieces fp fe spells =
 pub encode_faultless : (name p : Text) → begins_with_hyphen p ≡ false → fault_of command_line (name ∷ codes "encode" ∷ p ∷ []) ≡ []
 unfolding clap_on_literals
 encode_faultless name p fp = ap (whole_fault (codes "encode" ∷ p ∷ [])) (encode_leaf p fp)
+
+pub encode_dimacs_faultless : (name p : Text) → begins_with_hyphen p ≡ false
+    → fault_of command_line (name ∷ codes "encode" ∷ p ∷ codes "--dimacs" ∷ []) ≡ []
+unfolding clap_on_literals
+encode_dimacs_faultless name p fp = ap (whole_fault (codes "encode" ∷ p ∷ codes "--dimacs" ∷ [])) (encode_dimacs_leaf p fp)
+
+pub export_faultless : (name p e file : Text) → begins_with_hyphen p ≡ false → begins_with_hyphen e ≡ false → begins_with_hyphen file ≡ false
+    → fault_of command_line (name ∷ codes "export" ∷ p ∷ e ∷ codes "--out" ∷ file ∷ []) ≡ []
+unfolding clap_on_literals
+export_faultless name p e file fp fe ff = ap (whole_fault (codes "export" ∷ p ∷ e ∷ codes "--out" ∷ file ∷ [])) (export_leaf p e file fp fe ff)
 
 pub explain_faultless : (name p e : Text) → begins_with_hyphen p ≡ false → begins_with_hyphen e ≡ false
     → fault_of command_line (name ∷ codes "explain" ∷ p ∷ e ∷ []) ≡ []

@@ -11,8 +11,8 @@ use Rattle.clap.specs.Simple.{label_of}
 use Rattle.clap.proofs.OnLiterals.{clap_on_literals}
 use Rattle.session.specs.declared.request.Request.{Request}
 use Rattle.session.specs.declared.request.Request.TheVariants as ask
-use Rattle.session.specs.CommandLine.{Flags, HasNumbers, HasPieces, HasUsualOptions, IsCheckOf, IsEncodeOf, IsExplainOf, IsProveOf, IsReplayOf, IsUsualProveOf, Makes, NamesRequest, PlainWordsAreRead, Reads, begins_with_hyphen, command_line}
-use Rattle.session.proofs.Requests.{check_replay, encode_check, encode_prove, encode_replay, explain_check, explain_encode, explain_prove, explain_replay, prove_check, prove_replay}
+use Rattle.session.specs.CommandLine.{Flags, HasNumbers, HasPieces, HasUsualOptions, IsCheckOf, IsEncodeOf, IsExplainOf, IsExportOf, IsProveOf, IsReplayOf, IsUsualProveOf, Makes, NamesRequest, PlainWordsAreRead, Reads, begins_with_hyphen, command_line}
+use Rattle.session.proofs.Requests.{check_replay, encode_check, encode_prove, encode_replay, explain_check, explain_encode, explain_prove, explain_replay, export_check, export_encode, export_explain, export_prove, export_replay, prove_check, prove_replay}
 use Rattle.session.proofs.SecondWords.{at}
 
 pub no_dashes : (word : Text) → begins_with_hyphen word ≡ false → bytes_eq word (45 ∷ 45 ∷ []) ≡ false
@@ -80,6 +80,9 @@ encode_rules = rules_in (find (λ s. answers_to (codes "encode") (label_of s)) (
 abbrev pub explain_rules : List Rule
 explain_rules = rules_in (find (λ s. answers_to (codes "explain") (label_of s)) (built command_line).subs)
 
+abbrev pub export_rules : List Rule
+export_rules = rules_in (find (λ s. answers_to (codes "export") (label_of s)) (built command_line).subs)
+
 abbrev pub prove_rules : List Rule
 prove_rules = rules_in (find (λ s. answers_to (codes "prove") (label_of s)) (built command_line).subs)
 
@@ -106,8 +109,30 @@ pub explain_walk : (program evidence : Text) → begins_with_hyphen program ≡ 
     → fold (walked explain_rules []) start (program ∷ evidence ∷ []) ≡ two_words explain_rules program evidence
 explain_walk program evidence p e = two_walk explain_rules program evidence p e refl refl
 
+pub export_walk : (program evidence : Text) → begins_with_hyphen program ≡ false → begins_with_hyphen evidence ≡ false
+    → fold (walked export_rules []) start (program ∷ evidence ∷ []) ≡ two_words export_rules program evidence
+export_walk program evidence p e = two_walk export_rules program evidence p e refl refl
+
+-- the walk after `--out` and a file's name too
+abbrev pub export_out : Text → Text → Text → Walk
+export_out program evidence file = after_free export_rules (walked export_rules [] (two_words export_rules program evidence) (codes "--out")) file
+
+pub export_out_walk : (program evidence file : Text) → begins_with_hyphen program ≡ false → begins_with_hyphen evidence ≡ false → begins_with_hyphen file ≡ false
+    → fold (walked export_rules []) start (program ∷ evidence ∷ codes "--out" ∷ file ∷ []) ≡ export_out program evidence file
+unfolding clap_on_literals
+export_out_walk program evidence file p e f =
+    ap (λ (w : Walk). walked export_rules [] (walked export_rules [] w (codes "--out")) file) (export_walk program evidence p e)
+    ∙ walked_free export_rules (walked export_rules [] (two_words export_rules program evidence) (codes "--out")) file refl refl f
+
 abbrev pub prove_word : Text → Walk
 prove_word program = after_free prove_rules start program
+
+-- the walk after a program's name
+abbrev pub encode_word : Text → Walk
+encode_word program = after_free encode_rules start program
+
+pub encode_walk : (program : Text) → begins_with_hyphen program ≡ false → walked encode_rules [] start program ≡ encode_word program
+encode_walk program p = walked_free encode_rules start program refl refl p
 
 pub prove_walk : (program : Text) → begins_with_hyphen program ≡ false → walked prove_rules [] start program ≡ prove_word program
 prove_walk program p = walked_free prove_rules start program refl refl p
@@ -148,8 +173,9 @@ check_by rows program evidence as_json (ask.Check p e pieces json) is_p is_e is_
     (some_same (sym is_p ∙ makes.values.0), some_same (sym is_e ∙ makes.values.1), flag_is rows (codes "json") as_json json makes.values.2 is_json)
 check_by rows program evidence as_json (ask.Prove p out options json) is_p is_e is_json makes = absurd (prove_check (sym makes.command))
 check_by rows program evidence as_json (ask.Replay p e) is_p is_e is_json makes = absurd (check_replay makes.command)
-check_by rows program evidence as_json (ask.Encode p) is_p is_e is_json makes = absurd (encode_check (sym makes.command))
+check_by rows program evidence as_json (ask.Encode p dimacs) is_p is_e is_json makes = absurd (encode_check (sym makes.command))
 check_by rows program evidence as_json (ask.Explain p e graph) is_p is_e is_json makes = absurd (explain_check (sym makes.command))
+check_by rows program evidence as_json (ask.Export p e out) is_p is_e is_json makes = absurd (export_check (sym makes.command))
 
 -- the number of pieces that is read
 pub pieces_by : (rows : List Row) (number : Text) (request : Request) → one_of (codes "pieces") rows ≡ Some number → Makes (codes "check") rows request
@@ -157,8 +183,9 @@ pub pieces_by : (rows : List Row) (number : Text) (request : Request) → one_of
 pieces_by rows number (ask.Check p e pieces json) is makes = number_is rows (codes "pieces") number pieces.number makes.values.3 is
 pieces_by rows number (ask.Prove p out options json) is makes = absurd (prove_check (sym makes.command))
 pieces_by rows number (ask.Replay p e) is makes = absurd (check_replay makes.command)
-pieces_by rows number (ask.Encode p) is makes = absurd (encode_check (sym makes.command))
+pieces_by rows number (ask.Encode p dimacs) is makes = absurd (encode_check (sym makes.command))
 pieces_by rows number (ask.Explain p e graph) is makes = absurd (explain_check (sym makes.command))
+pieces_by rows number (ask.Export p e out) is makes = absurd (export_check (sym makes.command))
 
 pub prove_by : (rows : List Row) (program : Text) (out : Option Text) (as_json : Bool) (workers depth budget : Text) (request : Request)
     → first_of (codes "PROGRAM") rows ≡ Some program → first_of (codes "out") rows ≡ out → one_of (codes "json") rows ≡ Some (flag_text as_json)
@@ -174,15 +201,17 @@ prove_by rows program out as_json workers depth budget (ask.Prove p o options js
 )
 prove_by rows program out as_json workers depth budget (ask.Check p e pieces json) is_p is_out is_json w d b makes = absurd (prove_check makes.command)
 prove_by rows program out as_json workers depth budget (ask.Replay p e) is_p is_out is_json w d b makes = absurd (prove_replay makes.command)
-prove_by rows program out as_json workers depth budget (ask.Encode p) is_p is_out is_json w d b makes = absurd (encode_prove (sym makes.command))
+prove_by rows program out as_json workers depth budget (ask.Encode p dimacs) is_p is_out is_json w d b makes = absurd (encode_prove (sym makes.command))
 prove_by rows program out as_json workers depth budget (ask.Explain p e graph) is_p is_out is_json w d b makes = absurd (explain_prove (sym makes.command))
+prove_by rows program out as_json workers depth budget (ask.Export p e o) is_p is_out is_json w d b makes = absurd (export_prove (sym makes.command))
 
 usual : (request : Request) → HasNumbers (codes "4") (codes "4") (codes "1000000") request → HasUsualOptions request
 usual (ask.Prove p out options json) numbers = numbers
 usual (ask.Check p e pieces json) numbers = numbers
 usual (ask.Replay p e) numbers = numbers
-usual (ask.Encode p) numbers = numbers
+usual (ask.Encode p dimacs) numbers = numbers
 usual (ask.Explain p e graph) numbers = numbers
+usual (ask.Export p e out) numbers = numbers
 
 usual_by : (rows : List Row) (program : Text) (out : Option Text) (as_json : Bool) (request : Request) → first_of (codes "PROGRAM") rows ≡ Some program
     → first_of (codes "out") rows ≡ out → one_of (codes "json") rows ≡ Some (flag_text as_json) → one_of (codes "workers") rows ≡ Some (codes "4")
@@ -214,8 +243,9 @@ unfolding clap_on_literals
 of_replay program evidence (ask.Replay p e) makes = (some_same makes.values.0, some_same makes.values.1)
 of_replay program evidence (ask.Prove p out options json) makes = absurd (prove_replay (sym makes.command))
 of_replay program evidence (ask.Check p e pieces json) makes = absurd (check_replay (sym makes.command))
-of_replay program evidence (ask.Encode p) makes = absurd (encode_replay (sym makes.command))
+of_replay program evidence (ask.Encode p dimacs) makes = absurd (encode_replay (sym makes.command))
 of_replay program evidence (ask.Explain p e graph) makes = absurd (explain_replay (sym makes.command))
+of_replay program evidence (ask.Export p e out) makes = absurd (export_replay (sym makes.command))
 
 explain_by : (rows : List Row) (program evidence : Text) (as_graph : Bool) (request : Request) → first_of (codes "PROGRAM") rows ≡ Some program
     → first_of (codes "EVIDENCE") rows ≡ Some evidence → one_of (codes "dot") rows ≡ Some (flag_text as_graph) → Makes (codes "explain") rows request
@@ -225,7 +255,8 @@ explain_by rows program evidence as_graph (ask.Explain p e graph) is_p is_e is_d
 explain_by rows program evidence as_graph (ask.Check p e pieces json) is_p is_e is_dot makes = absurd (explain_check makes.command)
 explain_by rows program evidence as_graph (ask.Prove p out options json) is_p is_e is_dot makes = absurd (explain_prove makes.command)
 explain_by rows program evidence as_graph (ask.Replay p e) is_p is_e is_dot makes = absurd (explain_replay makes.command)
-explain_by rows program evidence as_graph (ask.Encode p) is_p is_e is_dot makes = absurd (explain_encode makes.command)
+explain_by rows program evidence as_graph (ask.Encode p dimacs) is_p is_e is_dot makes = absurd (explain_encode makes.command)
+explain_by rows program evidence as_graph (ask.Export p e out) is_p is_e is_dot makes = absurd (export_explain (sym makes.command))
 
 of_explain : (program evidence : Text) (request : Request) → Makes (codes "explain") (finished explain_rules (two_words explain_rules program evidence).held) request
     → IsExplainOf program evidence false request
@@ -241,14 +272,44 @@ of_explain_dot program evidence request makes =
     explain_by (finished explain_rules (walked explain_rules [] (two_words explain_rules program evidence) (codes "--dot")).held) program evidence true request
     refl refl refl makes
 
-of_encode : (program : Text) (request : Request) → Makes (codes "encode") (finished encode_rules (after_free encode_rules start program).held) request
-    → IsEncodeOf program request
+encode_by : (rows : List Row) (program : Text) (as_dimacs : Bool) (request : Request) → first_of (codes "PROGRAM") rows ≡ Some program
+    → one_of (codes "dimacs") rows ≡ Some (flag_text as_dimacs) → Makes (codes "encode") rows request → IsEncodeOf program as_dimacs request
+encode_by rows program as_dimacs (ask.Encode p dimacs) is_p is_dimacs makes =
+    (some_same (sym is_p ∙ makes.values.0), flag_is rows (codes "dimacs") as_dimacs dimacs makes.values.1 is_dimacs)
+encode_by rows program as_dimacs (ask.Prove p out options json) is_p is_dimacs makes = absurd (encode_prove makes.command)
+encode_by rows program as_dimacs (ask.Check p e pieces json) is_p is_dimacs makes = absurd (encode_check makes.command)
+encode_by rows program as_dimacs (ask.Replay p e) is_p is_dimacs makes = absurd (encode_replay makes.command)
+encode_by rows program as_dimacs (ask.Explain p e graph) is_p is_dimacs makes = absurd (explain_encode (sym makes.command))
+encode_by rows program as_dimacs (ask.Export p e out) is_p is_dimacs makes = absurd (export_encode (sym makes.command))
+
+of_encode : (program : Text) (request : Request) → Makes (codes "encode") (finished encode_rules (encode_word program).held) request
+    → IsEncodeOf program false request
 unfolding clap_on_literals
-of_encode program (ask.Encode p) makes = some_same makes.values
-of_encode program (ask.Prove p out options json) makes = absurd (encode_prove makes.command)
-of_encode program (ask.Check p e pieces json) makes = absurd (encode_check makes.command)
-of_encode program (ask.Replay p e) makes = absurd (encode_replay makes.command)
-of_encode program (ask.Explain p e graph) makes = absurd (explain_encode (sym makes.command))
+of_encode program request makes = encode_by (finished encode_rules (encode_word program).held) program false request refl refl makes
+
+of_encode_dimacs : (program : Text) (request : Request)
+    → Makes (codes "encode") (finished encode_rules (walked encode_rules [] (encode_word program) (codes "--dimacs")).held) request
+    → IsEncodeOf program true request
+unfolding clap_on_literals
+of_encode_dimacs program request makes =
+    encode_by (finished encode_rules (walked encode_rules [] (encode_word program) (codes "--dimacs")).held) program true request refl refl makes
+
+export_by : (rows : List Row) (program evidence file : Text) (request : Request) → first_of (codes "PROGRAM") rows ≡ Some program
+    → first_of (codes "EVIDENCE") rows ≡ Some evidence → first_of (codes "out") rows ≡ Some file → Makes (codes "export") rows request
+    → IsExportOf program evidence file request
+export_by rows program evidence file (ask.Export p e out) is_p is_e is_out makes =
+    (some_same (sym is_p ∙ makes.values.0), some_same (sym is_e ∙ makes.values.1), some_same (sym is_out ∙ makes.values.2))
+export_by rows program evidence file (ask.Prove p out options json) is_p is_e is_out makes = absurd (export_prove makes.command)
+export_by rows program evidence file (ask.Check p e pieces json) is_p is_e is_out makes = absurd (export_check makes.command)
+export_by rows program evidence file (ask.Replay p e) is_p is_e is_out makes = absurd (export_replay makes.command)
+export_by rows program evidence file (ask.Encode p dimacs) is_p is_e is_out makes = absurd (export_encode makes.command)
+export_by rows program evidence file (ask.Explain p e graph) is_p is_e is_out makes = absurd (export_explain makes.command)
+
+of_export : (program evidence file : Text) (request : Request) → Makes (codes "export") (finished export_rules (export_out program evidence file).held) request
+    → IsExportOf program evidence file request
+unfolding clap_on_literals
+of_export program evidence file request makes =
+    export_by (finished export_rules (export_out program evidence file).held) program evidence file request refl refl refl makes
 
 of_prove : (program : Text) (request : Request) → Makes (codes "prove") (finished prove_rules (prove_word program).held) request
     → IsUsualProveOf program None false request
@@ -290,6 +351,11 @@ made_explain : (name : Text) (words : List Text) (request : Request) → NamesRe
 unfolding clap_on_literals
 made_explain name words request asks = at name (codes "explain") words request refl asks
 
+made_export : (name : Text) (words : List Text) (request : Request) → NamesRequest (name ∷ codes "export" ∷ words) request
+    → Makes (codes "export") (finished export_rules (fold (walked export_rules []) start words).held) request
+unfolding clap_on_literals
+made_export name words request asks = at name (codes "export") words request refl asks
+
 pub made_prove : (name : Text) (words : List Text) (request : Request) → NamesRequest (name ∷ codes "prove" ∷ words) request
     → Makes (codes "prove") (finished prove_rules (fold (walked prove_rules []) start words).held) request
 unfolding clap_on_literals
@@ -308,9 +374,16 @@ plain_words_are_read = record {
       of_replay program evidence request (subst (λ (w : Walk). Makes (codes "replay") (finished replay_rules w.held) request) (replay_walk program evidence p e)
       (made_replay name (program ∷ evidence ∷ []) request asks.named));
   encode = λ name program request p asks.
-      of_encode program request
-      (subst (λ (w : Walk). Makes (codes "encode") (finished encode_rules w.held) request) (walked_free encode_rules start program refl refl p)
+      of_encode program request (subst (λ (w : Walk). Makes (codes "encode") (finished encode_rules w.held) request) (encode_walk program p)
       (made_encode name (program ∷ []) request asks.named));
+  encode_dimacs = λ name program request p asks.
+      of_encode_dimacs program request
+      (subst (λ (w : Walk). Makes (codes "encode") (finished encode_rules (walked encode_rules [] w (codes "--dimacs")).held) request) (encode_walk program p)
+      (made_encode name (program ∷ codes "--dimacs" ∷ []) request asks.named));
+  export = λ name program evidence file request p e f asks.
+      of_export program evidence file request
+      (subst (λ (w : Walk). Makes (codes "export") (finished export_rules w.held) request) (export_out_walk program evidence file p e f)
+      (made_export name (program ∷ evidence ∷ codes "--out" ∷ file ∷ []) request asks.named));
   explain = λ name program evidence request p e asks.
       of_explain program evidence request (subst (λ (w : Walk). Makes (codes "explain") (finished explain_rules w.held) request) (explain_walk program evidence p e)
       (made_explain name (program ∷ evidence ∷ []) request asks.named));

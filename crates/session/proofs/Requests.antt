@@ -2,10 +2,10 @@
 use Rattle.std.proofs.Common.{◌≡◌, ◌∙◌, ◌⊎◌, arith, ap, get_or, inl, inr, refl, sym, subst, ℕ, List, [], Bool, false, Some, None, Option, codes, option_map}
 use Rattle.std.proofs.lemmas.Option.{same_Some}
 use Rattle.clap.specs.Words.{IsAmong, Kinds, Row, Text, fault_of, subcommand_of}
-use Rattle.session.specs.CommandLine.{IsCheckOf, IsProveOf, IsReplayOf, MakesSome, command_line}
-use Rattle.session.specs.Deadlocks.{AskToCheck, AskToProve, AskToReplay}
+use Rattle.session.specs.CommandLine.{IsCheckOf, IsExportOf, IsProveOf, IsReplayOf, MakesSome, command_line}
+use Rattle.session.specs.Deadlocks.{AskToCheck, AskToExport, AskToProve, AskToReplay}
 use Rattle.session.specs.Endings.{Ends, EndsUnasked, FailsEarly, RequestEnds, SessionEnds}
-use Rattle.session.specs.Pages.{IsChecked, IsEither, IsProveFile, IsProved, IsReplayed}
+use Rattle.session.specs.Pages.{IsChecked, IsEither, IsExported, IsExportFile, IsProveFile, IsProved, IsReplayed}
 use Rattle.session.specs.declared.page.Want.TheVariants as want
 use Rattle.session.specs.declared.request.Request.{Request}
 use Rattle.session.specs.declared.request.Request.TheVariants as ask
@@ -42,6 +42,21 @@ explain_replay e = omega (arith, ap (λ (l : List ℕ). get_or l 0 0) e)
 pub explain_encode : codes "explain" ≡ codes "encode" → ⊥
 explain_encode e = omega (arith, ap (λ (l : List ℕ). get_or l 1 0) e)
 
+pub export_check : codes "export" ≡ codes "check" → ⊥
+export_check e = omega (arith, ap (λ (l : List ℕ). get_or l 0 0) e)
+
+pub export_prove : codes "export" ≡ codes "prove" → ⊥
+export_prove e = omega (arith, ap (λ (l : List ℕ). get_or l 0 0) e)
+
+pub export_replay : codes "export" ≡ codes "replay" → ⊥
+export_replay e = omega (arith, ap (λ (l : List ℕ). get_or l 0 0) e)
+
+pub export_encode : codes "export" ≡ codes "encode" → ⊥
+export_encode e = omega (arith, ap (λ (l : List ℕ). get_or l 1 0) e)
+
+pub export_explain : codes "export" ≡ codes "explain" → ⊥
+export_explain e = omega (arith, ap (λ (l : List ℕ). get_or l 3 0) e)
+
 -- ---- two requests that the same words name are alike
 
 same_value : {X : Type 0} {a b c : X} {o : Option X} → o ≡ Some a → o ≡ Some b → a ≡ c → b ≡ c
@@ -52,10 +67,12 @@ check_again : (found : Option (Text × List Row)) (a b : Request) (p e : Text) (
 check_again None a b p e json one two is = absurd one
 check_again (Some f) (ask.Prove p1 o1 s1 j1) b p e json one two is = absurd is
 check_again (Some f) (ask.Replay p1 e1) b p e json one two is = absurd is
-check_again (Some f) (ask.Encode p1) b p e json one two is = absurd is
+check_again (Some f) (ask.Encode p1 d1) b p e json one two is = absurd is
 check_again (Some f) (ask.Explain p1 e1 g1) b p e json one two is = absurd is
+check_again (Some f) (ask.Export p1 e1 o1) b p e json one two is = absurd is
+check_again (Some f) (ask.Check p1 e1 n1 j1) (ask.Export p2 e2 o2) p e json one two is = absurd (export_check (sym two.command ∙ one.command))
 check_again (Some f) (ask.Check p1 e1 n1 j1) (ask.Explain p2 e2 g2) p e json one two is = absurd (explain_check (sym two.command ∙ one.command))
-check_again (Some f) (ask.Check p1 e1 n1 j1) (ask.Encode p2) p e json one two is = absurd (encode_check (sym two.command ∙ one.command))
+check_again (Some f) (ask.Check p1 e1 n1 j1) (ask.Encode p2 d2) p e json one two is = absurd (encode_check (sym two.command ∙ one.command))
 check_again (Some f) (ask.Check p1 e1 n1 j1) (ask.Prove p2 o2 s2 j2) p e json one two is = absurd (prove_check (sym two.command ∙ one.command))
 check_again (Some f) (ask.Check p1 e1 n1 j1) (ask.Replay p2 e2) p e json one two is = absurd (check_replay (sym one.command ∙ two.command))
 check_again (Some f) (ask.Check p1 e1 n1 j1) (ask.Check p2 e2 n2 j2) p e json one two is =
@@ -66,10 +83,12 @@ replay_again : (found : Option (Text × List Row)) (a b : Request) (p e : Text) 
 replay_again None a b p e one two is = absurd one
 replay_again (Some f) (ask.Prove p1 o1 s1 j1) b p e one two is = absurd is
 replay_again (Some f) (ask.Check p1 e1 n1 j1) b p e one two is = absurd is
-replay_again (Some f) (ask.Encode p1) b p e one two is = absurd is
+replay_again (Some f) (ask.Encode p1 d1) b p e one two is = absurd is
 replay_again (Some f) (ask.Explain p1 e1 g1) b p e one two is = absurd is
+replay_again (Some f) (ask.Export p1 e1 o1) b p e one two is = absurd is
+replay_again (Some f) (ask.Replay p1 e1) (ask.Export p2 e2 o2) p e one two is = absurd (export_replay (sym two.command ∙ one.command))
 replay_again (Some f) (ask.Replay p1 e1) (ask.Explain p2 e2 g2) p e one two is = absurd (explain_replay (sym two.command ∙ one.command))
-replay_again (Some f) (ask.Replay p1 e1) (ask.Encode p2) p e one two is = absurd (encode_replay (sym two.command ∙ one.command))
+replay_again (Some f) (ask.Replay p1 e1) (ask.Encode p2 d2) p e one two is = absurd (encode_replay (sym two.command ∙ one.command))
 replay_again (Some f) (ask.Replay p1 e1) (ask.Prove p2 o2 s2 j2) p e one two is = absurd (prove_replay (sym two.command ∙ one.command))
 replay_again (Some f) (ask.Replay p1 e1) (ask.Check p2 e2 n2 j2) p e one two is = absurd (check_replay (sym two.command ∙ one.command))
 replay_again (Some f) (ask.Replay p1 e1) (ask.Replay p2 e2) p e one two is =
@@ -80,14 +99,32 @@ prove_again : (found : Option (Text × List Row)) (a b : Request) (p : Text) (ou
 prove_again None a b p out json one two is = absurd one
 prove_again (Some f) (ask.Check p1 e1 n1 j1) b p out json one two is = absurd is
 prove_again (Some f) (ask.Replay p1 e1) b p out json one two is = absurd is
-prove_again (Some f) (ask.Encode p1) b p out json one two is = absurd is
+prove_again (Some f) (ask.Encode p1 d1) b p out json one two is = absurd is
 prove_again (Some f) (ask.Explain p1 e1 g1) b p out json one two is = absurd is
+prove_again (Some f) (ask.Export p1 e1 o1) b p out json one two is = absurd is
+prove_again (Some f) (ask.Prove p1 o1 s1 j1) (ask.Export p2 e2 o2) p out json one two is = absurd (export_prove (sym two.command ∙ one.command))
 prove_again (Some f) (ask.Prove p1 o1 s1 j1) (ask.Explain p2 e2 g2) p out json one two is = absurd (explain_prove (sym two.command ∙ one.command))
-prove_again (Some f) (ask.Prove p1 o1 s1 j1) (ask.Encode p2) p out json one two is = absurd (encode_prove (sym two.command ∙ one.command))
+prove_again (Some f) (ask.Prove p1 o1 s1 j1) (ask.Encode p2 d2) p out json one two is = absurd (encode_prove (sym two.command ∙ one.command))
 prove_again (Some f) (ask.Prove p1 o1 s1 j1) (ask.Check p2 e2 n2 j2) p out json one two is = absurd (prove_check (sym one.command ∙ two.command))
 prove_again (Some f) (ask.Prove p1 o1 s1 j1) (ask.Replay p2 e2) p out json one two is = absurd (prove_replay (sym one.command ∙ two.command))
 prove_again (Some f) (ask.Prove p1 o1 s1 j1) (ask.Prove p2 o2 s2 j2) p out json one two is =
     (j2, (same_value one.values.0 two.values.0 is.0, sym two.values.1 ∙ one.values.1 ∙ is.1, refl))
+
+export_again : (found : Option (Text × List Row)) (a b : Request) (p e out : Text) → MakesSome found a → MakesSome found b
+    → IsExportOf p e out a → IsExportOf p e out b
+export_again None a b p e out one two is = absurd one
+export_again (Some f) (ask.Prove p1 o1 s1 j1) b p e out one two is = absurd is
+export_again (Some f) (ask.Check p1 e1 n1 j1) b p e out one two is = absurd is
+export_again (Some f) (ask.Replay p1 e1) b p e out one two is = absurd is
+export_again (Some f) (ask.Encode p1 d1) b p e out one two is = absurd is
+export_again (Some f) (ask.Explain p1 e1 g1) b p e out one two is = absurd is
+export_again (Some f) (ask.Export p1 e1 o1) (ask.Prove p2 o2 s2 j2) p e out one two is = absurd (export_prove (sym one.command ∙ two.command))
+export_again (Some f) (ask.Export p1 e1 o1) (ask.Check p2 e2 n2 j2) p e out one two is = absurd (export_check (sym one.command ∙ two.command))
+export_again (Some f) (ask.Export p1 e1 o1) (ask.Replay p2 e2) p e out one two is = absurd (export_replay (sym one.command ∙ two.command))
+export_again (Some f) (ask.Export p1 e1 o1) (ask.Encode p2 d2) p e out one two is = absurd (export_encode (sym one.command ∙ two.command))
+export_again (Some f) (ask.Export p1 e1 o1) (ask.Explain p2 e2 g2) p e out one two is = absurd (export_explain (sym one.command ∙ two.command))
+export_again (Some f) (ask.Export p1 e1 o1) (ask.Export p2 e2 o2) p e out one two is =
+    (same_value one.values.0 two.values.0 is.0, same_value one.values.1 two.values.1 is.1, same_value one.values.2 two.values.2 is.2)
 
 -- ---- how such runs end: as the command ends, or by want of memory before it is known
 
@@ -115,8 +152,9 @@ module _ (words : List Text) (tells : Bool) (before after : List ℕ → Option 
   check_of : (request : Request) (p e : Text) (json : Bool) → IsCheckOf p e json request
       → RequestEnds tells before after request old new told_old told_new status → CheckEnds p e json
   check_of (ask.Prove p1 o1 s1 j1) p e json is ends = absurd is
-  check_of (ask.Encode p1) p e json is ends = absurd is
+  check_of (ask.Encode p1 d1) p e json is ends = absurd is
   check_of (ask.Explain p1 e1 g1) p e json is ends = absurd is
+  check_of (ask.Export p1 e1 o1) p e json is ends = absurd is
   check_of (ask.Replay p1 e1) p e json is ends = absurd is
   check_of (ask.Check p1 e1 n1 j1) p e json is ends =
       at_paths IsChecked p1.now p e1.now e json is.0 is.1 (subst (λ (x : Bool). CheckEnds p1.now e1.now x) is.2 ends.1)
@@ -135,8 +173,9 @@ module _ (words : List Text) (tells : Bool) (before after : List ℕ → Option 
   replay_of : (request : Request) (p e : Text) → IsReplayOf p e request
       → RequestEnds tells before after request old new told_old told_new status → ReplayEnds p e false
   replay_of (ask.Prove p1 o1 s1 j1) p e is ends = absurd is
-  replay_of (ask.Encode p1) p e is ends = absurd is
+  replay_of (ask.Encode p1 d1) p e is ends = absurd is
   replay_of (ask.Explain p1 e1 g1) p e is ends = absurd is
+  replay_of (ask.Export p1 e1 o1) p e is ends = absurd is
   replay_of (ask.Check p1 e1 n1 j1) p e is ends = absurd is
   replay_of (ask.Replay p1 e1) p e is ends =
       at_paths (λ program evidence json. IsReplayed program evidence) p1.now p e1.now e false is.0 is.1 ends.1
@@ -155,8 +194,9 @@ module _ (words : List Text) (tells : Bool) (before after : List ℕ → Option 
   prove_of : (request : Request) (p : Text) (out : Option Text) (json : Bool) → IsProveOf p out json request
       → RequestEnds tells before after request old new told_old told_new status → ProveEnds p out json
   prove_of (ask.Check p1 e1 n1 j1) p out json is ends = absurd is
-  prove_of (ask.Encode p1) p out json is ends = absurd is
+  prove_of (ask.Encode p1 d1) p out json is ends = absurd is
   prove_of (ask.Explain p1 e1 g1) p out json is ends = absurd is
+  prove_of (ask.Export p1 e1 o1) p out json is ends = absurd is
   prove_of (ask.Replay p1 e1) p out json is ends = absurd is
   prove_of (ask.Prove p1 o1 s1 j1) p out json is ends =
       subst (λ (x : Text). ProveEnds x out json) is.0
@@ -169,3 +209,26 @@ module _ (words : List Text) (tells : Bool) (before after : List ℕ → Option 
       let again = prove_again (subcommand_of command_line words) asks.0 asked.0 p out asks.1 asks.2.named asked.1.named asks.3 in
       inl (again.0, prove_of asked.0 p out again.0 again.1 asked.2)
   prove_ends p out asks (inr unasked) = inr (faulted asks.2.faultless unasked)
+
+  -- how an export ends
+  abbrev pub ExportEnds : Text → Text → Text → Type 0
+  ExportEnds p e out =
+      Ends (IsExported tells before after p e out) (IsExportFile p e out before after) want.Refused false before after old new told_old told_new status
+
+  export_of : (request : Request) (p e out : Text) → IsExportOf p e out request
+      → RequestEnds tells before after request old new told_old told_new status → ExportEnds p e out
+  export_of (ask.Prove p1 o1 s1 j1) p e out is ends = absurd is
+  export_of (ask.Check p1 e1 n1 j1) p e out is ends = absurd is
+  export_of (ask.Replay p1 e1) p e out is ends = absurd is
+  export_of (ask.Encode p1 d1) p e out is ends = absurd is
+  export_of (ask.Explain p1 e1 g1) p e out is ends = absurd is
+  export_of (ask.Export p1 e1 o1) p e out is ends =
+      subst (λ (x : Text). ExportEnds x e out) is.0
+      (subst (λ (x : Text). ExportEnds p1.now x out) is.1
+      (subst (λ (x : Text). ExportEnds p1.now e1.now x) is.2 ends.1))
+
+  pub export_ends : (p e out : Text) → AskToExport words p e out → SessionEnds words tells before after old new told_old told_new status
+      → ExportEnds p e out ⊎ FailsEarly old new told_old told_new status
+  export_ends p e out asks (inl asked) =
+      inl (export_of asked.0 p e out (export_again (subcommand_of command_line words) asks.0 asked.0 p e out asks.1.named asked.1.named asks.2) asked.2)
+  export_ends p e out asks (inr unasked) = inr (faulted asks.1.faultless unasked)

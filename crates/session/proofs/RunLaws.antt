@@ -14,18 +14,18 @@ use Rattle.prover.specs.Answers.{Replays}
 use Rattle.prover.specs.declared.steps.Replayed.{Replayed}
 use Rattle.prover.specs.declared.steps.Replayed.TheVariants as replays
 use Rattle.session.specs.CommandLine.{AskFor}
-use Rattle.session.specs.Deadlocks.{CheckedDeadlockIsShown, CheckedSafetyIsPrinted, CheckedSafetyIsTrue, IsRightlyTold, ProvedDeadlockIsShown, ProvedSafetyIsPrinted, ProvedSafetyIsTrue, RefutedIsChecked, ReplayedDeadlockIsShown, ShownDeadlockIsChecked, ShownDeadlockIsReplayed, TellsDeadlock, ToldDeadlockIsShown, WrittenDeadlockIsShown, WrittenSafetyIsRefuted}
+use Rattle.session.specs.Deadlocks.{CheckedDeadlockIsShown, CheckedSafetyIsPrinted, CheckedSafetyIsTrue, ExportedProofIsWritten, ExportedSafetyIsTrue, IsRightlyTold, ProvedDeadlockIsShown, ProvedSafetyIsPrinted, ProvedSafetyIsTrue, RefutedIsChecked, ReplayedDeadlockIsShown, ShownDeadlockIsChecked, ShownDeadlockIsReplayed, TellsDeadlock, ToldDeadlockIsShown, WrittenDeadlockIsShown, WrittenSafetyIsRefuted}
 use Rattle.session.specs.Endings.{Complains, Ends, EndsUnasked, Explains, FailsEarly, Prints, PrintsAlone, RequestEnds}
-use Rattle.session.specs.Lines.{IsLine, early_line, memory_line, no_deadlock_line, told_of_answer, told_of_verdict, told_status}
-use Rattle.session.specs.Pages.{IsChecked, IsEither, IsEncoded, IsExplained, IsProveFile, IsProved, IsReplayPage, IsReplayed}
+use Rattle.session.specs.Lines.{IsLine, early_line, memory_line, no_deadlock_line, told_of_answer, told_of_verdict, told_status, version_line}
+use Rattle.session.specs.Pages.{IsChecked, IsEither, IsEncoded, IsExplained, IsExported, IsExportFile, IsProveFile, IsProved, IsReplayPage, IsReplayed}
 use Rattle.session.specs.declared.page.Want.{Want}
 use Rattle.session.specs.declared.page.Want.TheVariants as want
 use Rattle.session.specs.declared.request.Request.{Request}
 use Rattle.session.specs.declared.request.Request.TheVariants as ask
 use Rattle.session.specs.declared.told.Told.TheVariants as told
-use Rattle.session.proofs.DeadlockLines.{PageTells, deadlock_page, deadlock_printed, deadlock_untold, formula_untold, help_untold, line_tells, safe_line, safety_page, safety_untold, zero_told}
-use Rattle.session.proofs.Deadlocks.{check_never, check_shows, explained_shows, file_refutes, file_shows, prove_never, prove_shows, read_as_held, read_shows, replayed_shows}
-use Rattle.session.proofs.Requests.{check_ends, prove_ends, replay_ends}
+use Rattle.session.proofs.DeadlockLines.{PageTells, deadlock_page, deadlock_printed, deadlock_untold, dimacs_untold, formula_untold, help_untold, line_tells, safe_line, safety_page, safety_untold, version_untold, zero_told}
+use Rattle.session.proofs.Deadlocks.{check_never, check_shows, explained_shows, exported_checked, exported_proof, file_refutes, file_shows, prove_never, prove_shows, read_as_held, read_shows, replayed_shows}
+use Rattle.session.proofs.Requests.{check_ends, export_ends, prove_ends, replay_ends}
 
 -- a run that complains with another status tells no deadlock
 complaint_untold : (old new told_old told_new : Option (List ℕ)) (text : List ℕ) (status result : ℕ) → (status ≡ 1 → ⊥)
@@ -245,12 +245,34 @@ proved_safe words p out tells before after old new told_old told_new status asks
       | inr fails ↦ absurd (omega (arith, fails.0, zero))
     ]
 
+-- ---- export
+
+pub exported_never : ExportedSafetyIsTrue
+exported_never words p e out tells before after program old new told_old told_new status asks held ends says =
+    elim (export_ends words tells before after old new told_old told_new status p e out asks ends) [
+      | inl ended ↦
+          let page = safety_page (IsExported tells before after p e out) (IsExportFile p e out before after) want.Refused false before after old new told_old told_new status ended says in
+          check_never (before p) (before e) false page.0 page.1 program (exported_checked tells before after p e out page.0 page.1 page.2) page.3 held
+      | inr fails ↦ absurd (safety_untold old new status (λ zero. omega (arith, fails.0, zero)) fails.1 says)
+    ]
+
+pub exported_written : ExportedProofIsWritten
+exported_written words p e out before after program evidence old new told_old told_new status asks held_p held_e ends says =
+    elim (export_ends words true before after old new told_old told_new status p e out asks ends) [
+      | inl ended ↦
+          let page = safety_page (IsExported true before after p e out) (IsExportFile p e out before after) want.Refused false before after old new told_old told_new status ended says in
+          exported_proof before after p e out page.0 page.1 program evidence page.2 page.3 held_p held_e
+      | inr fails ↦ absurd (safety_untold old new status (λ zero. omega (arith, fails.0, zero)) fails.1 says)
+    ]
+
 -- ---- any words
 
 -- the page of `encode` tells no deadlock
-encoded_untold : (file : Option (List ℕ)) (text : List ℕ) (status : ℕ) → IsEncoded file text status → PageTells text status → ⊥
-encoded_untold file text status (program, all, inl formula) tells = formula_untold (formula_of formula.0.p) text status formula.0.text_is formula.1 tells
-encoded_untold file text status (program, all, inr (reason, why, line)) tells =
+encoded_untold : (dimacs : Bool) (file : Option (List ℕ)) (text : List ℕ) (status : ℕ) → IsEncoded dimacs file text status → PageTells text status → ⊥
+encoded_untold false file text status (program, all, inl formula) tells =
+    formula_untold (formula_of formula.0.p) text status formula.0.text_is formula.1 tells
+encoded_untold true file text status (program, all, inl formula) tells = dimacs_untold formula.0.p text status formula.0.text_is formula.1 tells
+encoded_untold dimacs file text status (program, all, inr (reason, why, line)) tells =
     let other : told.Refused reason ≡ told.Deadlock = line_tells (told.Refused reason) false text status line tells in cc
 
 asked_told : (words : List Text) (tells : Bool) (before after : List ℕ → Option (List ℕ)) (old new told_old told_new : Option (List ℕ)) (status : ℕ) (request : Request)
@@ -287,21 +309,34 @@ asked_told words tells before after old new told_old told_new status (ask.Explai
     inr (
       p.now,
       e.now,
-      inr (inr (ask.Explain p e graph, graph, asks, (refl, refl, refl))),
+      inr (inr (inl (ask.Explain p e graph, graph, asks, (refl, refl, refl)))),
       λ program evidence held_p held_e.
           let page = deadlock_page (IsExplained (before p.now) (before e.now) graph) (IsEither p.now e.now) want.Refused false before after old new told_old told_new status ends.1 says in
           explained_shows (before p.now) (before e.now) graph page.0 page.1 program evidence page.2 page.3 held_p held_e,
     )
-asked_told words tells before after old new told_old told_new status (ask.Encode p) asks ends says =
-    let page = deadlock_page (IsEncoded (before p.now)) (λ path. path ≡ p.now) want.Refused false before after old new told_old told_new status ends.1 says in
-    absurd (encoded_untold (before p.now) page.0 page.1 page.2 page.3)
+asked_told words tells before after old new told_old told_new status (ask.Export p e out) asks ends says =
+    inr (
+      p.now,
+      e.now,
+      inr (inr (inr (out.now, (ask.Export p e out, asks, (refl, refl, refl))))),
+      λ program evidence held_p held_e.
+          let page = deadlock_page (IsExported tells before after p.now e.now out.now) (IsExportFile p.now e.now out.now before after) want.Refused false before after
+          old new told_old told_new status ends.1 says in
+          check_shows (before p.now) (before e.now) false page.0 page.1 program evidence
+          (exported_checked tells before after p.now e.now out.now page.0 page.1 page.2) page.3 held_p held_e,
+    )
+asked_told words tells before after old new told_old told_new status (ask.Encode p dimacs) asks ends says =
+    let page = deadlock_page (IsEncoded dimacs (before p.now)) (λ path. path ≡ p.now) want.Refused false before after old new told_old told_new status ends.1 says in
+    absurd (encoded_untold dimacs (before p.now) page.0 page.1 page.2 page.3)
 
 explained_untold : (kind : ErrorKind) (old new told_old told_new : Option (List ℕ)) (status : ℕ) → Explains kind old new told_old told_new status
     → TellsDeadlock old new status → ⊥
 explained_untold kind old new told_old told_new status (inl usage) says =
     complaint_untold old new told_old told_new usage.1.0 6 status (λ one. omega (arith, one)) usage.1.1 says
-explained_untold kind old new told_old told_new status (inr help) says =
+explained_untold kind old new told_old told_new status (inr (inl help)) says =
     help_untold help.1.0 help.1.1 (deadlock_printed old new help.1.0 0 status help.1.2.0 says)
+explained_untold kind old new told_old told_new status (inr (inr version)) says =
+    version_untold (deadlock_printed old new version_line 0 status version.1.0 says)
 
 unasked_untold : (words : List Text) (before after : List ℕ → Option (List ℕ)) (old new told_old told_new : Option (List ℕ)) (status : ℕ)
     → EndsUnasked words before after old new told_old told_new status → TellsDeadlock old new status → ⊥

@@ -29,21 +29,33 @@ second_none : (a b : Kinds) → or_else a b ≡ [] → b ≡ []
 second_none [] b e = e
 second_none (k ∷ ks) b e = cc
 
--- what is found in a list of one is that one
-find_one : {X : Type 0} (p : X → Bool) (x : X) → (find p (x ∷ []) ≡ None) ⊎ (find p (x ∷ []) ≡ Some x)
-find_one p x = go (p x) refl
+-- what is found in a list of two is one of them
+find_two : {X : Type 0} (p : X → Bool) (x y : X) → (find p (x ∷ y ∷ []) ≡ None) ⊎ ((find p (x ∷ y ∷ []) ≡ Some x) ⊎ (find p (x ∷ y ∷ []) ≡ Some y))
+find_two p x y = go (p x) (p y) refl refl
   where
-    go : (b : Bool) → p x ≡ b → (find p (x ∷ []) ≡ None) ⊎ (find p (x ∷ []) ≡ Some x)
-    go true e = inr (rw e refl)
-    go false e = inl (rw e refl)
+    go : (a b : Bool) → p x ≡ a → p y ≡ b → (find p (x ∷ y ∷ []) ≡ None) ⊎ ((find p (x ∷ y ∷ []) ≡ Some x) ⊎ (find p (x ∷ y ∷ []) ≡ Some y))
+    go true b e f = inr (inl (rw e refl))
+    go false true e f = inr (inr (rw (e, f) refl))
+    go false false e f = inl (rw (e, f) refl)
 
--- the one rule of the whole command: `--help`
+-- the two rules of the whole command line: `--help` and `--version`
 abbrev first_rule : List Rule → Rule
 first_rule [] = help_rule
 first_rule (rule ∷ rules) = rule
 
+abbrev other_rules : List Rule → List Rule
+other_rules [] = []
+other_rules (rule ∷ rules) = rules
+
 abbrev help : Rule
 help = first_rule top.rules
+
+abbrev version : Rule
+version = first_rule (other_rules top.rules)
+
+-- no rule was found, or one of the two
+abbrev IsOfTwo : Option Rule → Type 0
+IsOfTwo o = (o ≡ None) ⊎ ((o ≡ Some help) ⊎ (o ≡ Some version))
 
 abbrev is_none : Kinds → Bool
 is_none [] = true
@@ -52,26 +64,35 @@ is_none (k ∷ ks) = false
 clash : false ≡ true → ⊥
 clash e = cc
 
-long_case : (o : Option Rule) → (o ≡ None) ⊎ (o ≡ Some help) → (v : Option Text) → long_fault top.rules false o v nothing_held ≡ [] → ⊥
+-- a question is asked, or a flag isn't known
+long_fails : (o : Option Rule) (v : Option Text) → (is_none (long_fault top.rules false o v nothing_held) ≡ false) → long_fault top.rules false o v nothing_held ≡ [] → ⊥
+long_fails o v some e = clash (sym some ∙ ap is_none e)
+
+long_case : (o : Option Rule) → IsOfTwo o → (v : Option Text) → long_fault top.rules false o v nothing_held ≡ [] → ⊥
 unfolding clap_on_literals
 long_case o (inl none) v e =
-    let f : long_fault top.rules false None v nothing_held ≡ [] = subst (λ (x : Option Rule). long_fault top.rules false x v nothing_held ≡ []) none e in
-    clash (ap is_none f)
-long_case o (inr some) (Some v) e =
-    let f : long_fault top.rules false (Some help) (Some v) nothing_held ≡ [] = subst (λ (x : Option Rule). long_fault top.rules false x (Some v) nothing_held ≡ []) some e in
-    clash (ap is_none f)
-long_case o (inr some) None e =
-    let f : long_fault top.rules false (Some help) None nothing_held ≡ [] = subst (λ (x : Option Rule). long_fault top.rules false x None nothing_held ≡ []) some e in
-    clash (ap is_none f)
+    long_fails None v refl (subst (λ (x : Option Rule). long_fault top.rules false x v nothing_held ≡ []) none e)
+long_case o (inr (inl some)) (Some v) e =
+    long_fails (Some help) (Some v) refl (subst (λ (x : Option Rule). long_fault top.rules false x (Some v) nothing_held ≡ []) some e)
+long_case o (inr (inl some)) None e =
+    long_fails (Some help) None refl (subst (λ (x : Option Rule). long_fault top.rules false x None nothing_held ≡ []) some e)
+long_case o (inr (inr some)) (Some v) e =
+    long_fails (Some version) (Some v) refl (subst (λ (x : Option Rule). long_fault top.rules false x (Some v) nothing_held ≡ []) some e)
+long_case o (inr (inr some)) None e =
+    long_fails (Some version) None refl (subst (λ (x : Option Rule). long_fault top.rules false x None nothing_held ≡ []) some e)
 
-short_case : (o : Option Rule) → (o ≡ None) ⊎ (o ≡ Some help) → (rest : Text) (next : Held → Kinds) → short_fault top.rules false o rest nothing_held next ≡ [] → ⊥
+short_fails : (o : Option Rule) (rest : Text) (next : Held → Kinds) → (is_none (short_fault top.rules false o rest nothing_held next) ≡ false)
+    → short_fault top.rules false o rest nothing_held next ≡ [] → ⊥
+short_fails o rest next some e = clash (sym some ∙ ap is_none e)
+
+short_case : (o : Option Rule) → IsOfTwo o → (rest : Text) (next : Held → Kinds) → short_fault top.rules false o rest nothing_held next ≡ [] → ⊥
 unfolding clap_on_literals
 short_case o (inl none) rest next e =
-    let f : short_fault top.rules false None rest nothing_held next ≡ [] = subst (λ (x : Option Rule). short_fault top.rules false x rest nothing_held next ≡ []) none e in
-    clash (ap is_none f)
-short_case o (inr some) rest next e =
-    let f : short_fault top.rules false (Some help) rest nothing_held next ≡ [] = subst (λ (x : Option Rule). short_fault top.rules false x rest nothing_held next ≡ []) some e in
-    clash (ap is_none f)
+    short_fails None rest next refl (subst (λ (x : Option Rule). short_fault top.rules false x rest nothing_held next ≡ []) none e)
+short_case o (inr (inl some)) rest next e =
+    short_fails (Some help) rest next refl (subst (λ (x : Option Rule). short_fault top.rules false x rest nothing_held next ≡ []) some e)
+short_case o (inr (inr some)) rest next e =
+    short_fails (Some version) rest next refl (subst (λ (x : Option Rule). short_fault top.rules false x rest nothing_held next ≡ []) some e)
 
 no_char : (word flags : Text) (c : Option ℕ) (k : ℕ) → bundle_step_fault top.rules false c flags 0 nothing_held (flags_fault top.rules false k) ≡ []
     → step_fault top 1 (after_flag top.rules idle word (bundle_step top.rules c flags 0 plain nothing_held (bundle_met top.rules k)).0 (bundle_step top.rules c flags 0 plain nothing_held (bundle_met top.rules k)).1).0
@@ -79,7 +100,7 @@ no_char : (word flags : Text) (c : Option ℕ) (k : ℕ) → bundle_step_fault t
     → ⊥
 no_char word flags None k f s = clash (ap is_none s)
 no_char word flags (Some x) k f s =
-    short_case (arg_by_short top.rules x) (find_one (λ a. not (is_some a.index) && has_short a x) help) (drop (length (encode_utf8 x)) flags) _ f
+    short_case (arg_by_short top.rules x) (find_two (λ a. not (is_some a.index) && has_short a x) help version) (drop (length (encode_utf8 x)) flags) _ f
 
 no_short : (word : Text) (o : Option Text) → option_map_or (λ flags. bundle_fault top.rules false flags nothing_held) o [] ≡ []
     → step_fault top 1 (short_or_plain top.rules idle word o nothing_held).0 (short_or_plain top.rules idle word o nothing_held).1 ≡ [] → ⊥
@@ -90,7 +111,7 @@ no_short word (Some (x ∷ xs)) f s = no_char word (x ∷ xs) (slice_get (chars 
 
 no_flag : (word : Text) (l : Option (Text × Option Text)) → flag_word_fault top.rules false l word nothing_held ≡ []
     → step_fault top 1 (long_or_other top.rules idle word l nothing_held).0 (long_or_other top.rules idle word l nothing_held).1 ≡ [] → ⊥
-no_flag word (Some p) f s = long_case (arg_by_long top.rules p.0) (find_one (λ a. not (is_some a.index) && has_long a p.0) help) p.1 f
+no_flag word (Some p) f s = long_case (arg_by_long top.rules p.0) (find_two (λ a. not (is_some a.index) && has_long a p.0) help version) p.1 f
 no_flag word None f s = no_short word (short_of word) f s
 
 abbrev dashes : Text
@@ -153,6 +174,10 @@ at_explain : (w : Text) (rest : List Text) (request : Request) → NamesRequest 
 unfolding clap_on_literals
 at_explain w rest request asks = (at w (codes "explain") rest request refl asks).command
 
+at_export : (w : Text) (rest : List Text) (request : Request) → NamesRequest (w ∷ codes "export" ∷ rest) request → codes "export" ≡ command_of request
+unfolding clap_on_literals
+at_export w rest request asks = (at w (codes "export") rest request refl asks).command
+
 at_help : (w : Text) (rest : List Text) (request : Request) → NamesRequest (w ∷ codes "help" ∷ rest) request → codes "help" ≡ command_of request
 unfolding clap_on_literals
 at_help w rest request asks = (at w (codes "help") rest request refl asks).command
@@ -169,9 +194,9 @@ at_dashes w (word ∷ rest) request asks sound =
     clash (ap is_none f)
 
 unmet_by : (word : Text) → bytes_eq (codes "prove") word ≡ false → bytes_eq (codes "check") word ≡ false → bytes_eq (codes "replay") word ≡ false
-    → bytes_eq (codes "encode") word ≡ false → bytes_eq (codes "explain") word ≡ false → bytes_eq (codes "help") word ≡ false
-    → subcommand_met names idle word ≡ None
-unmet_by word a b c d x e = rw (a, b, c, d, x, e) refl
+    → bytes_eq (codes "encode") word ≡ false → bytes_eq (codes "explain") word ≡ false → bytes_eq (codes "export") word ≡ false
+    → bytes_eq (codes "help") word ≡ false → subcommand_met names idle word ≡ None
+unmet_by word a b c d x o e = rw (a, b, c, d, x, o, e) refl
 
 turn_none : (w word : Text) (rest : List Text) → fault_of command_line (w ∷ word ∷ rest) ≡ [] → turn_fault top names (walk_from nothing_held) word ≡ []
 unfolding walk_fault
@@ -198,14 +223,20 @@ command_is_second (w ∷ word ∷ rest) request asks sound = ap Some (by_name (b
     by_dashes false e unmet = absurd (first_word word unmet e (turn_none w word rest sound))
 
     by_help : (b : Bool) → bytes_eq (codes "help") word ≡ b → bytes_eq (codes "prove") word ≡ false → bytes_eq (codes "check") word ≡ false
+        → bytes_eq (codes "replay") word ≡ false → bytes_eq (codes "encode") word ≡ false → bytes_eq (codes "explain") word ≡ false
+        → bytes_eq (codes "export") word ≡ false → word ≡ command_of request
+    by_help true e p c r n x o = sym (is _ e) ∙ at_help w rest request (asked _ (is _ e))
+    by_help false e p c r n x o = by_dashes (bytes_eq word dashes) refl (unmet_by word p c r n x o e)
+
+    by_export : (b : Bool) → bytes_eq (codes "export") word ≡ b → bytes_eq (codes "prove") word ≡ false → bytes_eq (codes "check") word ≡ false
         → bytes_eq (codes "replay") word ≡ false → bytes_eq (codes "encode") word ≡ false → bytes_eq (codes "explain") word ≡ false → word ≡ command_of request
-    by_help true e p c r n x = sym (is _ e) ∙ at_help w rest request (asked _ (is _ e))
-    by_help false e p c r n x = by_dashes (bytes_eq word dashes) refl (unmet_by word p c r n x e)
+    by_export true e p c r n x = sym (is _ e) ∙ at_export w rest request (asked _ (is _ e))
+    by_export false e p c r n x = by_help (bytes_eq (codes "help") word) refl p c r n x e
 
     by_explain : (b : Bool) → bytes_eq (codes "explain") word ≡ b → bytes_eq (codes "prove") word ≡ false → bytes_eq (codes "check") word ≡ false
         → bytes_eq (codes "replay") word ≡ false → bytes_eq (codes "encode") word ≡ false → word ≡ command_of request
     by_explain true e p c r n = sym (is _ e) ∙ at_explain w rest request (asked _ (is _ e))
-    by_explain false e p c r n = by_help (bytes_eq (codes "help") word) refl p c r n e
+    by_explain false e p c r n = by_export (bytes_eq (codes "export") word) refl p c r n e
 
     by_encode : (b : Bool) → bytes_eq (codes "encode") word ≡ b → bytes_eq (codes "prove") word ≡ false → bytes_eq (codes "check") word ≡ false
         → bytes_eq (codes "replay") word ≡ false → word ≡ command_of request

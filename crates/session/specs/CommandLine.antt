@@ -63,9 +63,21 @@ dot_rule = record (option_rule (codes "dot")) { action = Some SetTrue }
 abbrev pub explain_app : App
 explain_app = with_rule (with_rule (with_rule (new_app (codes "explain")) program_rule) evidence_rule) dot_rule
 
+-- `--dimacs`, which takes no value
+abbrev pub dimacs_rule : Rule
+dimacs_rule = record (option_rule (codes "dimacs")) { action = Some SetTrue }
+
 -- the command `encode`
 abbrev pub encode_app : App
-encode_app = with_rule (new_app (codes "encode")) program_rule
+encode_app = with_rule (with_rule (new_app (codes "encode")) program_rule) dimacs_rule
+
+-- `--out FILE`, which has to be given
+abbrev pub proof_rule : Rule
+proof_rule = record out_rule { required = true }
+
+-- the command `export`
+abbrev pub export_app : App
+export_app = with_rule (with_rule (with_rule (new_app (codes "export")) program_rule) evidence_rule) proof_rule
 
 -- the command `prove`
 abbrev pub prove_app : App
@@ -86,18 +98,24 @@ prove_app =
 abbrev pub wants_subcommand : App → App
 wants_subcommand a = record a { top = record a.top { subcommand_required = true } }
 
--- the whole command line: one of the five commands
+-- the command has a version, which `--version` asks for
+abbrev pub with_version : App → App
+with_version a = record a { top = record a.top { has_version = true } }
+
+-- the whole command line: one of the six commands, or a question for help or for the version
 abbrev pub command_line : App
 command_line =
     with_subcommand
     (with_subcommand
     (with_subcommand
     (with_subcommand
-    (with_subcommand (wants_subcommand (new_app (codes "mpiprove"))) prove_app.top)
+    (with_subcommand
+    (with_subcommand (with_version (wants_subcommand (new_app (codes "mpiprove")))) prove_app.top)
     check_app.top)
     replay_app.top)
     encode_app.top)
-    explain_app.top
+    explain_app.top)
+    export_app.top
 
 -- the argument has this rule, and is of its own command alone
 pub record IsRuled (a : Arg) (rule : Rule) : Type 0 where
@@ -135,8 +153,9 @@ abbrev pub command_of : Request → Text
 command_of (ask.Prove program out options json) = codes "prove"
 command_of (ask.Check program evidence pieces json) = codes "check"
 command_of (ask.Replay program evidence) = codes "replay"
-command_of (ask.Encode program) = codes "encode"
+command_of (ask.Encode program dimacs) = codes "encode"
 command_of (ask.Explain program evidence graph) = codes "explain"
+command_of (ask.Export program evidence out) = codes "export"
 
 -- the values of a request are those of its command's arguments
 abbrev pub HasValues : List Row → Request → Type 0
@@ -148,9 +167,11 @@ HasValues rows (ask.Check program evidence pieces json) =
     × Reads rows (codes "pieces") pieces.number
 HasValues rows (ask.Replay program evidence) =
     Gives rows (codes "PROGRAM") program.now × Gives rows (codes "EVIDENCE") evidence.now
-HasValues rows (ask.Encode program) = Gives rows (codes "PROGRAM") program.now
+HasValues rows (ask.Encode program dimacs) = Gives rows (codes "PROGRAM") program.now × Flags rows (codes "dimacs") dimacs
 HasValues rows (ask.Explain program evidence graph) =
     Gives rows (codes "PROGRAM") program.now × Gives rows (codes "EVIDENCE") evidence.now × Flags rows (codes "dot") graph
+HasValues rows (ask.Export program evidence out) =
+    Gives rows (codes "PROGRAM") program.now × Gives rows (codes "EVIDENCE") evidence.now × Gives rows (codes "out") out.now
 
 -- a command's name and its matches make this request
 pub record Makes (name : Text) (rows : List Row) (request : Request) : Type 0 where
@@ -181,7 +202,8 @@ abbrev pub IsCheckOf : Text → Text → Bool → Request → Type 0
 IsCheckOf program evidence as_json (ask.Check p e pieces json) = (p.now ≡ program) × (e.now ≡ evidence) × (json ≡ as_json)
 IsCheckOf program evidence as_json (ask.Prove p out options json) = ⊥
 IsCheckOf program evidence as_json (ask.Replay p e) = ⊥
-IsCheckOf program evidence as_json (ask.Encode p) = ⊥
+IsCheckOf program evidence as_json (ask.Encode p dimacs) = ⊥
+IsCheckOf program evidence as_json (ask.Export p e out) = ⊥
 IsCheckOf program evidence as_json (ask.Explain p e graph) = ⊥
 
 -- a request to prove the program at a path, with the evidence written at another, where one is named
@@ -189,7 +211,8 @@ abbrev pub IsProveOf : Text → Option Text → Bool → Request → Type 0
 IsProveOf program file as_json (ask.Prove p out options json) = (p.now ≡ program) × (option_map (λ s. s.now) out ≡ file) × (json ≡ as_json)
 IsProveOf program file as_json (ask.Check p e pieces json) = ⊥
 IsProveOf program file as_json (ask.Replay p e) = ⊥
-IsProveOf program file as_json (ask.Encode p) = ⊥
+IsProveOf program file as_json (ask.Encode p dimacs) = ⊥
+IsProveOf program file as_json (ask.Export p e out) = ⊥
 IsProveOf program file as_json (ask.Explain p e graph) = ⊥
 
 -- the numbers are the usual ones
@@ -197,7 +220,8 @@ abbrev pub HasUsualOptions : Request → Type 0
 HasUsualOptions (ask.Prove p out options json) = AreUsual options.workers options.depth options.budget
 HasUsualOptions (ask.Check p e pieces json) = ⊥
 HasUsualOptions (ask.Replay p e) = ⊥
-HasUsualOptions (ask.Encode p) = ⊥
+HasUsualOptions (ask.Encode p dimacs) = ⊥
+HasUsualOptions (ask.Export p e out) = ⊥
 HasUsualOptions (ask.Explain p e graph) = ⊥
 
 -- the same, where no number is given
@@ -209,7 +233,8 @@ abbrev pub IsReplayOf : Text → Text → Request → Type 0
 IsReplayOf program evidence (ask.Replay p e) = (p.now ≡ program) × (e.now ≡ evidence)
 IsReplayOf program evidence (ask.Prove p out options json) = ⊥
 IsReplayOf program evidence (ask.Check p e pieces json) = ⊥
-IsReplayOf program evidence (ask.Encode p) = ⊥
+IsReplayOf program evidence (ask.Encode p dimacs) = ⊥
+IsReplayOf program evidence (ask.Export p e out) = ⊥
 IsReplayOf program evidence (ask.Explain p e graph) = ⊥
 
 -- a request to explain what the evidence at a path shows of the program at another, by a graph or not
@@ -218,22 +243,34 @@ IsExplainOf program evidence as_graph (ask.Explain p e graph) = (p.now ≡ progr
 IsExplainOf program evidence as_graph (ask.Prove p out options json) = ⊥
 IsExplainOf program evidence as_graph (ask.Check p e pieces json) = ⊥
 IsExplainOf program evidence as_graph (ask.Replay p e) = ⊥
-IsExplainOf program evidence as_graph (ask.Encode p) = ⊥
+IsExplainOf program evidence as_graph (ask.Encode p dimacs) = ⊥
+IsExplainOf program evidence as_graph (ask.Export p e out) = ⊥
 
--- a request to encode the program at a path
-abbrev pub IsEncodeOf : Text → Request → Type 0
-IsEncodeOf program (ask.Encode p) = p.now ≡ program
-IsEncodeOf program (ask.Prove p out options json) = ⊥
-IsEncodeOf program (ask.Check p e pieces json) = ⊥
-IsEncodeOf program (ask.Replay p e) = ⊥
-IsEncodeOf program (ask.Explain p e graph) = ⊥
+-- a request to export the proof that the evidence at a path makes of the program at another, to the file at a third
+abbrev pub IsExportOf : Text → Text → Text → Request → Type 0
+IsExportOf program evidence file (ask.Export p e out) = (p.now ≡ program) × (e.now ≡ evidence) × (out.now ≡ file)
+IsExportOf program evidence file (ask.Prove p out options json) = ⊥
+IsExportOf program evidence file (ask.Check p e pieces json) = ⊥
+IsExportOf program evidence file (ask.Replay p e) = ⊥
+IsExportOf program evidence file (ask.Encode p dimacs) = ⊥
+IsExportOf program evidence file (ask.Explain p e graph) = ⊥
+
+-- a request to encode the program at a path, in the DIMACS format or not
+abbrev pub IsEncodeOf : Text → Bool → Request → Type 0
+IsEncodeOf program as_dimacs (ask.Encode p dimacs) = (p.now ≡ program) × (dimacs ≡ as_dimacs)
+IsEncodeOf program as_dimacs (ask.Prove p out options json) = ⊥
+IsEncodeOf program as_dimacs (ask.Check p e pieces json) = ⊥
+IsEncodeOf program as_dimacs (ask.Replay p e) = ⊥
+IsEncodeOf program as_dimacs (ask.Explain p e graph) = ⊥
+IsEncodeOf program as_dimacs (ask.Export p e out) = ⊥
 
 -- the lines are checked in as many pieces as this text spells
 abbrev pub HasPieces : Text → Request → Type 0
 HasPieces number (ask.Check p e pieces json) = pieces.number ≡ digits_value 10 (without_leading_plus number)
 HasPieces number (ask.Prove p out options json) = ⊥
 HasPieces number (ask.Replay p e) = ⊥
-HasPieces number (ask.Encode p) = ⊥
+HasPieces number (ask.Encode p dimacs) = ⊥
+HasPieces number (ask.Export p e out) = ⊥
 HasPieces number (ask.Explain p e graph) = ⊥
 
 -- the text is a number of pieces in decimal digits, 1 to 64
@@ -250,11 +287,16 @@ pub record PlainWordsAreRead : Type 0 where
   pub replay : (name program evidence : Text) (request : Request) → begins_with_hyphen program ≡ false → begins_with_hyphen evidence ≡ false
       → AskFor (name ∷ codes "replay" ∷ program ∷ evidence ∷ []) request → IsReplayOf program evidence request
   pub encode : (name program : Text) (request : Request) → begins_with_hyphen program ≡ false
-      → AskFor (name ∷ codes "encode" ∷ program ∷ []) request → IsEncodeOf program request
+      → AskFor (name ∷ codes "encode" ∷ program ∷ []) request → IsEncodeOf program false request
+  pub encode_dimacs : (name program : Text) (request : Request) → begins_with_hyphen program ≡ false
+      → AskFor (name ∷ codes "encode" ∷ program ∷ codes "--dimacs" ∷ []) request → IsEncodeOf program true request
   pub explain : (name program evidence : Text) (request : Request) → begins_with_hyphen program ≡ false → begins_with_hyphen evidence ≡ false
       → AskFor (name ∷ codes "explain" ∷ program ∷ evidence ∷ []) request → IsExplainOf program evidence false request
   pub explain_dot : (name program evidence : Text) (request : Request) → begins_with_hyphen program ≡ false → begins_with_hyphen evidence ≡ false
       → AskFor (name ∷ codes "explain" ∷ program ∷ evidence ∷ codes "--dot" ∷ []) request → IsExplainOf program evidence true request
+  pub export : (name program evidence file : Text) (request : Request)
+      → begins_with_hyphen program ≡ false → begins_with_hyphen evidence ≡ false → begins_with_hyphen file ≡ false
+      → AskFor (name ∷ codes "export" ∷ program ∷ evidence ∷ codes "--out" ∷ file ∷ []) request → IsExportOf program evidence file request
   pub prove : (name program : Text) (request : Request) → begins_with_hyphen program ≡ false
       → AskFor (name ∷ codes "prove" ∷ program ∷ []) request → IsUsualProveOf program None false request
   pub prove_as_json : (name program : Text) (request : Request) → begins_with_hyphen program ≡ false
@@ -269,7 +311,8 @@ HasNumbers workers depth budget (ask.Prove p out options json) =
     × (options.budget ≡ digits_value 10 (without_leading_plus budget))
 HasNumbers workers depth budget (ask.Check p e pieces json) = ⊥
 HasNumbers workers depth budget (ask.Replay p e) = ⊥
-HasNumbers workers depth budget (ask.Encode p) = ⊥
+HasNumbers workers depth budget (ask.Encode p dimacs) = ⊥
+HasNumbers workers depth budget (ask.Export p e out) = ⊥
 HasNumbers workers depth budget (ask.Explain p e graph) = ⊥
 
 -- words in other orders, with all options, where no value begins with a hyphen

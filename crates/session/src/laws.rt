@@ -4,6 +4,8 @@ ghost use Rattle.session.specs.Deadlocks.{
   CheckedDeadlockIsShown,
   CheckedSafetyIsPrinted,
   CheckedSafetyIsTrue,
+  ExportedProofIsWritten,
+  ExportedSafetyIsTrue,
   PlainWordsAreAnswered,
   ProvedDeadlockIsShown,
   ProvedSafetyIsPrinted,
@@ -85,8 +87,19 @@ pub fn proved_safety_is_printed()
     ensures { ProvedSafetyIsPrinted }
 {}
 
+/// Where words ask to export a proof, and the run printed the line that tells that there is no deadlock or ended with the status 0, no
+/// run of the program of the file ends stuck.
+pub fn exported_safety_is_true()
+    ensures { ExportedSafetyIsTrue }
+{}
+
+/// And the file that they name for it holds afterwards a proof of the formula of the program.
+pub fn exported_proof_is_written()
+    ensures { ExportedProofIsWritten }
+{}
+
 /// Where any run printed the line of a deadlock or ended with the status 1, its words ask to prove, check,
-/// replay or explain a program, and a stuck run of that program is shown.
+/// replay, explain or export a program, and a stuck run of that program is shown.
 pub fn told_deadlock_is_shown()
     ensures { ToldDeadlockIsShown }
 {}

@@ -3,8 +3,8 @@
 ghost use Rattle.std.specs.Prelude.{◌≡◌, ◌⊎◌, IfErr, IfOk, IfSome, codes, map, string_bytes};
 ghost use Rattle.clap.specs.Words.{IsAmong, fault_of, found_of, kind_of, rows_of, subcommand_rows_of};
 ghost use Rattle.session.specs.CommandLine.{AskFor, IsRuled, IsShaped, Makes, MakesSome, check_app, command_line, encode_app};
-ghost use Rattle.session.specs.CommandLine.{dot_rule, evidence_rule, json_rule, number_rule, number_with, option_rule, out_rule, program_rule};
-ghost use Rattle.session.specs.CommandLine.{explain_app, prove_app, replay_app};
+ghost use Rattle.session.specs.CommandLine.{dimacs_rule, dot_rule, evidence_rule, json_rule, number_rule, number_with, option_rule, out_rule, program_rule, proof_rule};
+ghost use Rattle.session.specs.CommandLine.{explain_app, export_app, prove_app, replay_app};
 
 use clap::builder::{Command, ValueParser};
 use clap::error::ErrorKind;
@@ -34,15 +34,22 @@ pub enum Request<'a> {
         program: &'a str,
         evidence: &'a str,
     },
-    /// Print the formula of a program.
+    /// Print the formula of a program, in the DIMACS format or not.
     Encode {
         program: &'a str,
+        dimacs: bool,
     },
     /// Explain what an evidence shows of a program, by a text or by a graph.
     Explain {
         program: &'a str,
         evidence: &'a str,
         graph: bool,
+    },
+    /// Write the proof that an evidence makes of a program's formula to the file `out`.
+    Export {
+        program: &'a str,
+        evidence: &'a str,
+        out: &'a str,
     },
 }
 
@@ -108,7 +115,10 @@ fn requested<'a>(subcommand: (&'a str, &ArgMatches<'a>)) -> Option<Request<'a>>
             program,
             evidence: matches.get_str(EVIDENCE)?,
         }),
-        "encode" => Some(Request::Encode { program }),
+        "encode" => {
+            let dimacs = matches.get_flag(DIMACS);
+            Some(Request::Encode { program, dimacs })
+        }
         "explain" => {
             let evidence = matches.get_str(EVIDENCE)?;
             let graph = matches.get_flag(DOT);
@@ -118,9 +128,21 @@ fn requested<'a>(subcommand: (&'a str, &ArgMatches<'a>)) -> Option<Request<'a>>
                 graph,
             })
         }
+        "export" => {
+            let evidence = matches.get_str(EVIDENCE)?;
+            let out = matches.get_str(OUT)?;
+            Some(Request::Export {
+                program,
+                evidence,
+                out,
+            })
+        }
         _ => None,
     }
 }
+
+/// The program's version.
+pub const VERSION: &str = "0.1.0";
 
 const PROGRAM: &str = "PROGRAM";
 
@@ -140,17 +162,21 @@ const JSON: &str = "json";
 
 const DOT: &str = "dot";
 
+const DIMACS: &str = "dimacs";
+
 /// The whole command line.
 fn command<'a>(alloc: Global) -> Result<Command<'a>, AllocError>
     ensures { IfOk result (λ c. IsShaped c command_line) }
 {
     Command::new(alloc, "mpiprove")
+        .version(VERSION)
         .subcommand_required(true)
         .subcommand(prove_command(alloc)?)?
         .subcommand(check_command(alloc)?)?
         .subcommand(replay_command(alloc)?)?
         .subcommand(encode_command(alloc)?)?
-        .subcommand(explain_command(alloc)?)
+        .subcommand(explain_command(alloc)?)?
+        .subcommand(export_command(alloc)?)
 }
 
 fn prove_command<'a>(alloc: Global) -> Result<Command<'a>, AllocError>
@@ -191,7 +217,8 @@ fn encode_command<'a>(alloc: Global) -> Result<Command<'a>, AllocError>
 {
     Command::new(alloc, "encode")
         .about("Prints the formula of a program")
-        .arg(program(alloc))
+        .arg(program(alloc))?
+        .arg(dimacs(alloc))
 }
 
 fn explain_command<'a>(alloc: Global) -> Result<Command<'a>, AllocError>
@@ -202,6 +229,16 @@ fn explain_command<'a>(alloc: Global) -> Result<Command<'a>, AllocError>
         .arg(program(alloc))?
         .arg(evidence(alloc))?
         .arg(dot(alloc))
+}
+
+fn export_command<'a>(alloc: Global) -> Result<Command<'a>, AllocError>
+    ensures { IfOk result (λ c. IsShaped c export_app) }
+{
+    Command::new(alloc, "export")
+        .about("Writes a refutation as a proof in the LRAT format")
+        .arg(program(alloc))?
+        .arg(evidence(alloc))?
+        .arg(proof(alloc))
 }
 
 fn program<'a>(alloc: Global) -> Arg<'a>
@@ -236,6 +273,23 @@ fn dot<'a>(alloc: Global) -> Arg<'a>
     option(alloc, DOT)
         .action(ArgAction::SetTrue)
         .help("Print who waits for whom as a graph for Graphviz")
+}
+
+fn dimacs<'a>(alloc: Global) -> Arg<'a>
+    ensures { IsRuled result dimacs_rule }
+{
+    option(alloc, DIMACS)
+        .action(ArgAction::SetTrue)
+        .help("Print the formula in the DIMACS format")
+}
+
+fn proof<'a>(alloc: Global) -> Arg<'a>
+    ensures { IsRuled result proof_rule }
+{
+    option(alloc, OUT)
+        .value_name("FILE")
+        .required(true)
+        .help("Write the proof here")
 }
 
 fn out<'a>(alloc: Global) -> Arg<'a>

@@ -62,7 +62,10 @@ returns-in-encode c =
     let m = c.args.subcommand.1.now in
     record {
       command = search rules;
-      values = given_by_rows m _ c.get_str.result c.get_str.ensures ∙ ap (option_map (λ s. s.now)) c.in_ok-program.was;
+      values = (
+        given_by_rows m _ c.get_str.result c.get_str.ensures ∙ ap (option_map (λ s. s.now)) c.in_ok-program.was,
+        flag_by_rows m _ c.get_flag-dimacs.result c.get_flag-dimacs.ensures.value c.get_flag-dimacs.ensures.other,
+      );
     }
 
 pub returns-in_ok-evidence-in-explain : goal.returns-in_ok-evidence-in-explain
@@ -74,5 +77,17 @@ returns-in_ok-evidence-in-explain c =
         given_by_rows m _ c.get_str.result c.get_str.ensures ∙ ap (option_map (λ s. s.now)) c.in_ok-program.was,
         given_by_rows m _ c.get_str-in-explain.result c.get_str-in-explain.ensures ∙ ap (option_map (λ s. s.now)) c.in_ok-evidence-in-explain.was,
         flag_by_rows m _ c.get_flag-graph.result c.get_flag-graph.ensures.value c.get_flag-graph.ensures.other,
+      );
+    }
+
+pub returns-in_ok-out-in-export : goal.returns-in_ok-out-in-export
+returns-in_ok-out-in-export c =
+    let m = c.args.subcommand.1.now in
+    record {
+      command = search rules;
+      values = (
+        given_by_rows m _ c.get_str.result c.get_str.ensures ∙ ap (option_map (λ s. s.now)) c.in_ok-program.was,
+        given_by_rows m _ c.get_str-in-export.result c.get_str-in-export.ensures ∙ ap (option_map (λ s. s.now)) c.in_ok-evidence-in-export.was,
+        given_by_rows m _ c.get_str-in-export-2.result c.get_str-in-export-2.ensures ∙ ap (option_map (λ s. s.now)) c.in_ok-out-in-export.was,
       );
     }

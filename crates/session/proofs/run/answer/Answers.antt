@@ -2,7 +2,7 @@
 use Rattle.std.proofs.Common.{◌≡◌, IfErr, IfOk, ℕ, List, Bool, Result, Ok, Err, inl, inr, option_map}
 use Rattle.std.specs.Prelude.{Option}
 use Rattle.session.specs.Endings.{Ends, Finishes}
-use Rattle.session.specs.Pages.{IsChecked, IsEither, IsEncoded, IsExplained, IsProveFile, IsProved, IsReplayed, StopsBy}
+use Rattle.session.specs.Pages.{IsChecked, IsEither, IsEncoded, IsExplained, IsExported, IsExportFile, IsProveFile, IsProved, IsReplayed, StopsBy}
 use Rattle.session.specs.declared.commands.Stop.{Stop}
 use Rattle.session.specs.declared.commands.Stop.TheVariants as stop
 use Rattle.session.specs.declared.page.Page.{Page}
@@ -47,7 +47,7 @@ returns-in-Encode g c =
     let program = c.in-Encode.program.now in
     rw c.in-Encode.is (
       c.encode_page-page.ensures.same,
-      ended (IsEncoded (before program)) (λ path. path ≡ program) _ _ _
+      ended (IsEncoded c.in-Encode.dimacs (before program)) (λ path. path ≡ program) _ _ _
           before (g.F.FileSet.held c.encode_page-page.new.files) _ _ _ _ _
           c.encode_page-page.ensures.page c.encode_page-page.ensures.stop c.finish-in-Encode.ensures,
     )
@@ -74,4 +74,18 @@ returns-in-Explain g c =
       ended (IsExplained (before program) (before evidence) c.in-Explain.graph) (IsEither program evidence) _ _ _
           before (g.F.FileSet.held c.explain_page-page.new.files) _ _ _ _ _
           c.explain_page-page.ensures.page c.explain_page-page.ensures.stop c.finish-in-Explain.ensures,
+    )
+
+pub returns-in-Export : goal.returns-in-Export
+returns-in-Export g c =
+    let before = g.F.FileSet.held c.args.files.now in
+    let after = g.F.FileSet.held c.export_page-page.new.files in
+    let program = c.in-Export.program.now in
+    let evidence = c.in-Export.evidence.now in
+    let file = c.in-Export.file.now in
+    rw c.in-Export.is (
+      c.export_page-page.ensures.others,
+      ended (IsExported g.F.FileSet.tells_written before after program evidence file) (IsExportFile program evidence file before after) _ _ _
+          before after _ _ _ _ _
+          c.export_page-page.ensures.page c.export_page-page.ensures.stop c.finish-in-Export.ensures,
     )

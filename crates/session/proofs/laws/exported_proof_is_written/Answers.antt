@@ -1,0 +1,5 @@
+use Rattle.session.proofs.RunLaws.{exported_written}
+use Rattle.session.proofs.laws.exported_proof_is_written.Goals as goal
+
+pub returns : goal.returns
+returns c = exported_written
