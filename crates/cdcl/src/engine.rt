@@ -211,6 +211,18 @@ impl Engine {
         Ok(codes)
     }
 
+    /// How often the variable of this number took part in conflicts, later ones counting more; none where it has a value at one of the
+    /// first so many levels.
+    pub(crate) fn weight(&self, variable: u32, levels: usize) -> Option<u64> {
+        let place = variable.checked_sub(1)?;
+        if self.trail.value(place.saturating_mul(2)) != Truth::Open
+            && self.trail.level_of(place as usize) as usize <= levels
+        {
+            return None;
+        }
+        Some(self.order.activity(place))
+    }
+
     /// Begins a level, with this literal where it has no value yet.
     pub(crate) fn decide(&mut self, code: u32) -> Result<(), AllocError> {
         self.trail.open_level()?;

@@ -175,6 +175,13 @@ impl<'f> Solver<'f> {
         }
     }
 
+    /// How often the variable of this number took part in conflicts, later ones counting more. None where it had a value when the last
+    /// search ended that follows from the first so many literals of that search's cube. Nothing is promised of the answer: it helps to find a
+    /// variable that a cube is worth splitting on.
+    pub fn weight(&self, variable: u32, literals: usize) -> Option<u64> {
+        self.engine.weight(variable, literals)
+    }
+
     /// How many conflicts were counted in the last search that was neither refused as foreign nor as spent; 0 before the
     /// first.
     pub fn conflicts(&self) -> u64

@@ -1,9 +1,10 @@
 //! The variable that a cube is split on.
 
-ghost use Rattle.std.specs.Prelude.{◌≡◌, ◌++◌, ◌<◌};
+ghost use Rattle.std.specs.Prelude.{◌≡◌, ◌++◌, ◌<◌, IfSome, IsTrue};
 ghost use Rattle.std.specs.List.{find, range_with_len};
 ghost use Rattle.workers.specs.Branching.{is_decided, is_free};
 
+use cdcl::Solver;
 use clauses::Lit;
 
 /// Whether a literal of the path has this variable.
@@ -33,6 +34,27 @@ fn first_below(path: &[Lit], count: u32) -> Option<u32>
         }
     }
     None
+}
+
+/// Of these variables the one that took part in most conflicts, and the first of several such, of those that the path lacks and that
+/// have no value below it.
+pub(crate) fn most_active(solver: &Solver<'_>, path: &[Lit], variables: &[u32]) -> Option<u32>
+    ensures { IfSome result (λ variable. IsTrue (is_free path.now variable)) }
+{
+    let mut best = None;
+    let mut most = 0;
+    for variable in variables {
+        if is_decided(path, *variable) {
+            continue;
+        }
+        if let Some(weight) = solver.weight(*variable, path.len())
+            && (best.is_none() || weight > most)
+        {
+            best = Some(*variable);
+            most = weight;
+        }
+    }
+    best
 }
 
 /// The first variable that the path lacks: of the given ones, and then of those from 1 on, of which there are so many.

@@ -2,7 +2,7 @@
 
 ghost use Rattle.std.specs.Prelude.{◌≡◌};
 
-use crate::branching::branching_variable;
+use crate::branching::{branching_variable, most_active};
 use crate::events::EventCount;
 use crate::gate::Gate;
 use crate::numbers::{line_number, number_of};
@@ -156,6 +156,15 @@ impl<'e> Worker<'e> {
         Ok(())
     }
 
+    /// The variable to split a cube with this path on.
+    fn branching(&self, path: &[Lit]) -> Option<u32> {
+        let active = most_active(&self.solver, path, &self.variables);
+        if active.is_some() {
+            return active;
+        }
+        branching_variable(path, &self.variables, self.encoded.formula().variables())
+    }
+
     /// Splits a cube with this path, and puts both halves in; searches it on where there is no variable to split on, or no
     /// room in the tree.
     fn split<S: Share, C: Cubes, R: Wait>(
@@ -169,8 +178,7 @@ impl<'e> Worker<'e> {
     ) -> Result<Next, Stop>
         ensures { C.deques cubes.new ≡ C.deques cubes.old }
     {
-        let count = self.encoded.formula().variables();
-        let Some(variable) = branching_variable(path, &self.variables, count) else {
+        let Some(variable) = self.branching(path) else {
             return Ok(Next::Same);
         };
         match shared.split_leaf(rt, self.alloc, seat, cube, variable) {
@@ -290,8 +298,8 @@ fn reason<S: Share, C: Cubes, G: Gate, R: Wait>(
 /// each cube with this number of the worker.
 ///
 /// A search counts at most 2,000 conflicts, and all of them at most as many as the budget; after each the cube is closed,
-/// split or, where the tree has no room, searched on. A cube is split on the match variable that comes first in the branching
-/// order and isn't on its path; where all are on it, on the formula's first variable that isn't.
+/// split or, where the tree has no room, searched on. A cube is split on the match variable that took part in most conflicts of those that
+/// have no value below its path; where there is none, on the first variable that isn't on it, match variables first, in the branching order.
 ///
 /// The worker leaves with no reason once a schedule was found or no leaf is open, or, without a cube, once another worker left for a
 /// reason; else it pauses without a cube, and rests until the events are advanced. It advances them after each search and when it leaves. It
