@@ -14,7 +14,11 @@ fn calls_of(line: &CallLine) -> usize
     match line {
         CallLine::WaitAll { requests } => requests.as_slice().len(),
         CallLine::SendReceive { .. } => 4,
-        _ => 1,
+        CallLine::Send { .. }
+        | CallLine::Receive { .. }
+        | CallLine::MatchedProbe { .. }
+        | CallLine::MatchedReceive { .. }
+        | CallLine::Wait { .. } => 1,
     }
 }
 

@@ -32,11 +32,11 @@ pub struct Written {
 
 impl fmt::Display for Written {
     fn fmt<W: fmt::Write>(&self, f: &mut fmt::Formatter<W>) -> fmt::Result {
-        let number = self.number;
-        let line = self.line;
-        let words = self.words.as_str();
-        let part = self.part;
-        write!(f, "call {number} (line {line}: {words}{part})")
+        write!(f, "call {}", self.number)?;
+        write!(f, " (line {}: ", self.line)?;
+        f.write_str(&self.words)?;
+        f.write_str(self.part)?;
+        f.write_str(")")
     }
 }
 
