@@ -151,8 +151,17 @@ fn refuted_at_once(
     }
 }
 
+/// In how many parts lines are read that are checked in so many pieces: in more of them, so that a part that goes slowly holds up less.
+fn parts_for(pieces: usize) -> usize {
+    if pieces > 1 {
+        pieces.saturating_mul(4).min(64)
+    } else {
+        1
+    }
+}
+
 /// The formula of the program and the refutation that the evidence is, where it refutes the program; else the verdict, which
-/// is never `NoDeadlock`. A refutation's lines are read and then checked in so many pieces, 1 to 64, as by [`verdict_in`].
+/// is never `NoDeadlock`. A refutation's lines are checked in so many pieces, 1 to 64, as by [`verdict_in`].
 pub fn refuted_in<R: Threads + Sync, G: PieceGate + Sync>(
     rt: &R,
     alloc: Global,
@@ -167,7 +176,7 @@ pub fn refuted_in<R: Threads + Sync, G: PieceGate + Sync>(
     ensures other { IfErr result (λ verdict. verdict ≢ Verdict.NoDeadlock) }
     ensures judges { IfErr result (λ verdict. Judges program.now evidence.now verdict) }
 {
-    match claim_of(rt, alloc, program, evidence, pieces) {
+    match claim_of(rt, alloc, program, evidence, parts_for(pieces)) {
         Ok(claim) => {
             let lines = claim.refutation.lines();
             let lines = check_pieces(rt, alloc, &claim.formula, lines, pieces, gate);
@@ -233,8 +242,9 @@ pub fn verdict(
     judged_at_once(rt, alloc, program, evidence)
 }
 
-/// The same verdict, with the lines of a refutation read and then checked in so many pieces, 1 to 64, each in a thread of its own
-/// where one can be started, else by the calling thread. It waits for all of them.
+/// The same verdict, with the lines of a refutation checked in so many pieces, 1 to 64, each in a thread of its own where one can be
+/// started, else by the calling thread. It waits for all of them. Before that the lines are read in four times as many parts, at most
+/// 64, in the same way; in one part where there is one piece.
 pub fn verdict_in<R: Threads + Sync, G: PieceGate + Sync>(
     rt: &R,
     alloc: Global,

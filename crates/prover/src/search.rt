@@ -29,9 +29,13 @@ struct Station<B: Room> {
 
 /// The numbers of the tree's leaves, in the order of its nodes.
 fn leaves(alloc: Global, tree: &Tree) -> Result<Vec<u32>, AllocError> {
-    (0..tree.len() as u32)
-        .filter(|node| tree.is_leaf(*node))
-        .collect(alloc)
+    let mut leaves = Vec::new(alloc);
+    for node in 0..tree.len() as u32 {
+        if tree.is_leaf(node) {
+            leaves.push(node)?;
+        }
+    }
+    Ok(leaves)
 }
 
 /// Puts the cubes in, cube k into supply k modulo their number; one comes back where there is no room.
