@@ -286,18 +286,20 @@ fn dimacs<'a>(alloc: Global) -> Arg<'a>
 fn proof<'a>(alloc: Global) -> Arg<'a>
     ensures { IsRuled result proof_rule }
 {
-    option(alloc, OUT)
-        .value_name("FILE")
-        .required(true)
-        .help("Write the proof here")
+    written(alloc, "Write the proof here").required(true)
 }
 
 fn out<'a>(alloc: Global) -> Arg<'a>
     ensures { IsRuled result out_rule }
 {
-    option(alloc, OUT)
-        .value_name("FILE")
-        .help("Write the evidence here")
+    written(alloc, "Write the evidence here")
+}
+
+/// The file to write.
+fn written<'a>(alloc: Global, about: &'a str) -> Arg<'a>
+    ensures { IsRuled result out_rule }
+{
+    option(alloc, OUT).value_name("FILE").help(about)
 }
 
 fn workers<'a>(alloc: Global) -> Arg<'a>
