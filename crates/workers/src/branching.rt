@@ -1,8 +1,8 @@
 //! The variable that a cube is split on.
 
-ghost use Rattle.std.specs.Prelude.{◌≡◌, ◌++◌, ◌<◌, IfSome, IsTrue};
+ghost use Rattle.std.specs.Prelude.{◌≡◌, ◌++◌, ◌<◌, IfSome};
 ghost use Rattle.std.specs.List.{find, range_with_len};
-ghost use Rattle.workers.specs.Branching.{is_decided, is_free};
+ghost use Rattle.workers.specs.Branching.{IsOneOf, is_decided, is_free};
 
 use cdcl::Solver;
 use clauses::Lit;
@@ -39,7 +39,7 @@ fn first_below(path: &[Lit], count: u32) -> Option<u32>
 /// Of these variables the one that took part in most conflicts, and the first of several such, of those that the path lacks and that
 /// have no value below it.
 pub(crate) fn most_active(solver: &Solver<'_>, path: &[Lit], variables: &[u32]) -> Option<u32>
-    ensures { IfSome result (λ variable. IsTrue (is_free path.now variable)) }
+    ensures { IfSome result (IsOneOf path.now variables.now) }
 {
     let mut best = None;
     let mut most = 0;

@@ -1,6 +1,6 @@
-use Rattle.std.proofs.Common.{IfSome, IsTrue}
-use Rattle.workers.specs.Branching.{is_free}
+use Rattle.std.proofs.Common.{IfSome}
+use Rattle.workers.specs.Branching.{IsOneOf}
 use Rattle.workers.proofs.branching.most_active.Given as goal
 
 abbrev pub invariant-loop-variable : goal.invariant-loop-variable
-invariant-loop-variable l = IfSome l.best (λ variable. IsTrue (is_free l.path variable))
+invariant-loop-variable l = IfSome l.best (IsOneOf l.path l.variables)
