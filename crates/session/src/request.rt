@@ -141,8 +141,8 @@ fn requested<'a>(subcommand: (&'a str, &ArgMatches<'a>)) -> Option<Request<'a>>
     }
 }
 
-/// The program's version.
-pub const VERSION: &str = "0.1.0";
+/// What `--version` prints. The library is told it too, so that it knows that there is a version; its own text isn't printed.
+pub const VERSION_LINE: &str = "mpiprove 0.1.0\n";
 
 const PROGRAM: &str = "PROGRAM";
 
@@ -169,7 +169,7 @@ fn command<'a>(alloc: Global) -> Result<Command<'a>, AllocError>
     ensures { IfOk result (λ c. IsShaped c command_line) }
 {
     Command::new(alloc, "mpiprove")
-        .version(VERSION)
+        .version(VERSION_LINE)
         .subcommand_required(true)
         .subcommand(prove_command(alloc)?)?
         .subcommand(check_command(alloc)?)?
