@@ -1,7 +1,7 @@
 //! Runs of a pool: lists of calls, and what they are answered.
 
 ghost use Rattle.std.specs.Prelude.{◌≡◌, IfOk};
-ghost use Rattle.pool.specs.Runs.{IsPoolRun, IsAnswered, after_event};
+ghost use Rattle.pool.specs.Runs.{IsPoolRun, AreAnswered, IsAnswered, after_event};
 
 use crate::entry::{CloseFault, FetchFault, FoundFault, PublishFault, SplitFault};
 use crate::keep::Pool;
@@ -132,6 +132,17 @@ fn answered(alloc: Global, pool: &mut Pool, event: &Event) -> Result<Reply, Allo
     }
 }
 
+/// The replies to these calls, made in order.
+fn replies_to(alloc: Global, pool: &mut Pool, events: &[Event]) -> Result<Vec<Reply>, AllocError>
+    ensures { IfOk result (λ given. AreAnswered pool.old events.now pool.new given.items) }
+{
+    let mut replies = Vec::with_capacity(alloc, events.len())?;
+    for event in events {
+        replies.push(answered(alloc, pool, event)?)?;
+    }
+    Ok(replies)
+}
+
 /// Makes these calls, in order, of a new pool, and answers the pool with the reply to each. Want of memory in
 /// any of them ends the run.
 pub fn run(
@@ -144,9 +155,6 @@ pub fn run(
     ensures { IfOk result (λ made. IsPoolRun encoded tree events.now made.0 made.1.items) }
 {
     let mut pool = Pool::new(alloc, encoded, tree)?;
-    let mut replies = Vec::with_capacity(alloc, events.len())?;
-    for event in events {
-        replies.push(answered(alloc, &mut pool, event)?)?;
-    }
+    let replies = replies_to(alloc, &mut pool, events)?;
     Ok((pool, replies))
 }

@@ -153,6 +153,20 @@ fn keep_first(schedule: &mut Option<Vec<Step>>, steps: Vec<Step>)
     }
 }
 
+/// No number for each node of the tree, and no value for each variable of the formula.
+fn tables(
+    alloc: Global,
+    formula: &Formula,
+    tree: &Tree,
+) -> Result<(Vec<u32>, PartialAssignment), AllocError>
+    ensures closed { IfOk result (λ made. made.0.items ≡ replicate (length tree.now.nodes) 0) }
+    ensures known { IfOk result (λ made. length made.1 ≡ formula.now.variables + 1) }
+{
+    let closed = vec![in alloc; 0u32; tree.len()]?;
+    let known = PartialAssignment::new(alloc, formula.variables())?;
+    Ok((closed, known))
+}
+
 impl Pool {
     /// The pool in which all leaves of the tree are open, and nothing else is.
     pub fn new(alloc: Global, encoded: Encoded, tree: Tree) -> Result<Pool, AllocError>
@@ -161,9 +175,8 @@ impl Pool {
     {
         let _program = encoded.program();
         let _variables = tree.variables();
-        let closed = vec![in alloc; 0u32; tree.len()]?;
         let open_leaves = leaves_of(&tree);
-        let known = PartialAssignment::new(alloc, encoded.formula().variables())?;
+        let (closed, known) = tables(alloc, encoded.formula(), &tree)?;
         Ok(Pool {
             encoded,
             tree,

@@ -2,8 +2,10 @@
 
 ghost use Rattle.std.specs.Prelude.{◌≡◌, ℕ, List, IfErr, IfNone, IfOk, IfSome};
 ghost use Rattle.callorder.specs.Resolving.{IsTextOf};
+ghost use Rattle.checker.specs.Verdicts.{HasFormula};
 ghost use Rattle.prover.specs.Answers.{Answers, FinishesIfUnknown, HasNoFormulaText};
-ghost use Rattle.prover.specs.Searches.{HasFinishedRun, IsEvidenceOn, IsOver};
+ghost use Rattle.formulas.specs.Numbering.{formula_of};
+ghost use Rattle.prover.specs.Searches.{HasFinishedRun, IsEvidenceOn, IsFormulaOf, IsOver};
 
 use crate::answer::Answer;
 use crate::explore::stuck_walk;
@@ -12,6 +14,7 @@ use crate::options::Options;
 use crate::search::pool_of;
 use callorder::Program;
 use checker::{Reason, formula_of, program_of};
+use encode::Encoded;
 use pool::{AssembleFault, Pool, Why, schedule_of_run};
 use prooflog::{Evidence, write_evidence};
 use std::alloc::{AllocError, Global};
@@ -62,6 +65,44 @@ fn walked(alloc: Global, program: &Program) -> Option<Answer>
     }
 }
 
+/// The answer of a search over a formula, whose workers read `lent`.
+fn answer_over<G: Gate + Sync, R: Threads + Wait + Sync>(
+    rt: &R,
+    alloc: Global,
+    encoded: Encoded,
+    lent: &Encoded,
+    options: Options,
+    gate: &G,
+) -> Answer
+    requires formula { encoded.formula ≡ formula_of encoded.program }
+    requires within { HasFormula encoded.program }
+    ensures { (text : List ℕ) → IsTextOf text encoded.program → Answers text result }
+{
+    match pool_of(rt, alloc, encoded, lent, options, gate) {
+        Ok(pool) => answer_of(alloc, &pool),
+        Err(why) => Answer::Unknown(why),
+    }
+}
+
+/// The same for the formula of the text's program. The workers' copy of it is made from the text.
+fn searched_over<G: Gate + Sync, R: Threads + Wait + Sync>(
+    rt: &R,
+    alloc: Global,
+    text: &[u8],
+    encoded: Encoded,
+    options: Options,
+    gate: &G,
+) -> Result<Answer, Reason>
+    requires { IsFormulaOf text.now encoded }
+    ensures answer { IfOk result (Answers text.now) }
+    ensures reason { IfErr result (HasNoFormulaText text.now) }
+{
+    match encoded_of(rt, alloc, text) {
+        Ok(lent) => Ok(answer_over(rt, alloc, encoded, &lent, options, gate)),
+        Err(reason) => Err(reason),
+    }
+}
+
 /// The answer of a search over the formula of the text's program, or why it has none.
 fn searched<G: Gate + Sync, R: Threads + Wait + Sync>(
     rt: &R,
@@ -75,17 +116,9 @@ fn searched<G: Gate + Sync, R: Threads + Wait + Sync>(
     ensures answer { IfOk result (Answers text.now) }
     ensures reason { IfErr result (HasNoFormulaText text.now) }
 {
-    let encoded = match formula_of(rt, alloc, program) {
-        Ok(encoded) => encoded,
-        Err(reason) => return Err(reason),
-    };
-    let lent = match encoded_of(rt, alloc, text) {
-        Ok(lent) => lent,
-        Err(reason) => return Err(reason),
-    };
-    match pool_of(rt, alloc, encoded, &lent, options, gate) {
-        Ok(pool) => Ok(answer_of(alloc, &pool)),
-        Err(why) => Ok(Answer::Unknown(why)),
+    match formula_of(rt, alloc, program) {
+        Ok(encoded) => searched_over(rt, alloc, text, encoded, options, gate),
+        Err(reason) => Err(reason),
     }
 }
 

@@ -211,6 +211,36 @@ fn search_in<B: Room + Send + Sync, G: Gate + Sync, R: Threads + Wait + Sync>(
     ended(rt, alloc, shared, stations)
 }
 
+/// The tree that a search begins with, and its leaves.
+fn first_tree(alloc: Global, encoded: &Encoded, depth: u32) -> Result<(Tree, Vec<u32>), Why>
+    requires { depth ≤ 15 }
+    ensures { IfOk result (λ made. made.0.variables ≡ encoded.now.formula.variables) }
+{
+    let tree = match split(alloc, encoded, depth) {
+        Ok(tree) => tree,
+        Err(CubeFault::Memory) => return Err(Why::Memory),
+        Err(CubeFault::TooMany) => unreachable!(),
+    };
+    match leaves(alloc, &tree) {
+        Ok(cubes) => Ok((tree, cubes)),
+        Err(AllocError) => Err(Why::Memory),
+    }
+}
+
+/// A pool in which all leaves of that tree are open, and the leaves.
+fn opened(alloc: Global, encoded: Encoded, depth: u32) -> Result<(Pool, Vec<u32>), Why>
+    requires { depth ≤ 15 }
+    ensures program { IfOk result (λ made. made.0.held.program ≡ encoded.program) }
+    ensures formula { IfOk result (λ made. made.0.held.formula ≡ encoded.formula) }
+    ensures fresh { IfOk result (λ made. made.0.history ≡ []) }
+{
+    let (tree, cubes) = first_tree(alloc, &encoded, depth)?;
+    match Pool::new(alloc, encoded, tree) {
+        Ok(pool) => Ok((pool, cubes)),
+        Err(AllocError) => Err(Why::Memory),
+    }
+}
+
 /// The pool at the end of a search over a program's formula, or why there is none. The worker reads `lent`, which is the same program with
 /// its formula: the first is the pool's.
 pub fn pool_of<G: Gate + Sync, R: Threads + Wait + Sync>(
@@ -224,17 +254,7 @@ pub fn pool_of<G: Gate + Sync, R: Threads + Wait + Sync>(
     ensures program { IfOk result (λ pool. pool.held.program ≡ encoded.program) }
     ensures formula { IfOk result (λ pool. pool.held.formula ≡ encoded.formula) }
 {
-    let tree = match split(alloc, &encoded, options.depth()) {
-        Ok(tree) => tree,
-        Err(CubeFault::Memory) => return Err(Why::Memory),
-        Err(CubeFault::TooMany) => unreachable!(),
-    };
-    let Ok(cubes) = leaves(alloc, &tree) else {
-        return Err(Why::Memory);
-    };
-    let Ok(pool) = Pool::new(alloc, encoded, tree) else {
-        return Err(Why::Memory);
-    };
+    let (pool, cubes) = opened(alloc, encoded, options.depth())?;
     let Ok((cell, keeper)) = open_room(alloc) else {
         return Err(Why::Memory);
     };

@@ -51,6 +51,14 @@ pub fn open_room(alloc: Global) -> Result<(Cell, Token), AllocError>
     Cell::ruled(alloc, [0])
 }
 
+/// The pool with a place in its history for the first leave of each worker.
+fn with_places(mut pool: Pool, workers: u32) -> Result<Pool, AllocError>
+    ensures { IfOk result (λ kept. kept ≡ pool) }
+{
+    pool.keep_places(workers as usize)?;
+    Ok(pool)
+}
+
 /// A seat for each worker, numbered from 0.
 fn make_seats<B: Room>(
     alloc: Global,
@@ -129,7 +137,7 @@ impl<B: Room> SharedPool<B> {
         alloc: Global,
         cell: Cell,
         keeper: Token,
-        mut pool: Pool,
+        pool: Pool,
         workers: u32,
     ) -> Result<(SharedPool<B>, Vec<Seat<B>>), AllocError>
         requires room { (cell.table.shared.table_id ≡ B.table) × (keeper.table_id ≡ B.table) × (cell_view keeper ≡ knower 0 []) }
@@ -141,7 +149,7 @@ impl<B: Room> SharedPool<B> {
         ensures numbered { IfOk result (λ r. AreNumbered r.1.items) }
         ensures empty { IfOk result (λ r. All (λ seat. seat.mine ≡ []) r.1.items) }
     {
-        pool.keep_places(workers as usize)?;
+        let pool = with_places(pool, workers)?;
         let (keeper, seats) = make_seats(alloc, &cell, keeper, workers)?;
         let lock = Mutex::new(Locked::new(pool, workers, keeper));
         Ok((SharedPool { cell, lock }, seats))

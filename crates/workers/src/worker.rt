@@ -192,6 +192,49 @@ impl<'e> Worker<'e> {
         }
     }
 
+    /// Imports the lines that the log has by now and this worker hasn't seen.
+    fn catch_up<S: Share, R: Wait>(
+        &mut self,
+        rt: &R,
+        shared: &S,
+        seat: &mut S::Seat,
+    ) -> Result<(), Stop> {
+        let lines = shared.fetch(rt, self.alloc, seat, self.seen)?;
+        self.import(&lines)
+    }
+
+    /// Hands on what a search below a cube with this path found.
+    fn hand_on<S: Share, C: Cubes, R: Wait>(
+        &self,
+        rt: &R,
+        shared: &S,
+        seat: &mut S::Seat,
+        cubes: &mut C,
+        cube: u32,
+        path: &[Lit],
+        found: &Found,
+    ) -> Result<Next, Stop>
+        ensures { C.deques cubes.new ≡ C.deques cubes.old }
+    {
+        match found {
+            Found::Closed(batch, last) => {
+                self.close(rt, shared, seat, cube, batch, *last)?;
+                Ok(Next::Another)
+            }
+            Found::Model(assignment) => {
+                self.tell(rt, shared, seat, assignment)?;
+                Ok(Next::Another)
+            }
+            Found::Budget(batch) => {
+                shared.publish(rt, self.alloc, seat, batch)?;
+                if self.left == 0 {
+                    return Err(Stop { why: Why::Budget });
+                }
+                self.split(rt, shared, seat, cubes, cube, path)
+            }
+        }
+    }
+
     /// One search below a cube, with all lines that the log has by now.
     fn step<S: Share, C: Cubes, R: Wait>(
         &mut self,
@@ -203,26 +246,10 @@ impl<'e> Worker<'e> {
     ) -> Result<Next, Stop>
         ensures { C.deques cubes.new ≡ C.deques cubes.old }
     {
-        let lines = shared.fetch(rt, self.alloc, seat, self.seen)?;
-        self.import(&lines)?;
+        self.catch_up(rt, shared, seat)?;
         let path = shared.path(rt, self.alloc, cube)?;
-        match self.search(&path)? {
-            Found::Closed(batch, last) => {
-                self.close(rt, shared, seat, cube, &batch, last)?;
-                Ok(Next::Another)
-            }
-            Found::Model(assignment) => {
-                self.tell(rt, shared, seat, &assignment)?;
-                Ok(Next::Another)
-            }
-            Found::Budget(batch) => {
-                shared.publish(rt, self.alloc, seat, &batch)?;
-                if self.left == 0 {
-                    return Err(Stop { why: Why::Budget });
-                }
-                self.split(rt, shared, seat, cubes, cube, &path)
-            }
-        }
+        let found = self.search(&path)?;
+        self.hand_on(rt, shared, seat, cubes, cube, &path, &found)
     }
 
     /// Searches below one cube after another, until the search is over. Without a cube it pauses, and ends too where another worker left for a
