@@ -19,6 +19,3 @@ pub use laws::{
     following_adds_nothing, later_variable_is_larger, negation_holds_where_literal_does_not,
 };
 pub use literal::{LARGEST_VARIABLE, Lit};
-
-#[cfg(test)]
-mod tests;

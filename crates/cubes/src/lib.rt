@@ -13,6 +13,3 @@ mod splitting;
 pub use fault::CubeFault;
 pub use laws::{full_tree_size, match_variables_are_within, one_branching_order};
 pub use splitting::{GREATEST_DEPTH, branching_variables, split};
-
-#[cfg(test)]
-mod tests;

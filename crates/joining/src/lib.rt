@@ -9,6 +9,3 @@ mod literals;
 
 pub use joining::joining_lines;
 pub use laws::joined_refute;
-
-#[cfg(test)]
-mod tests;

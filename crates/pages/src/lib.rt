@@ -12,6 +12,3 @@ mod page;
 pub use extended::Extended;
 pub use lines::Lines;
 pub use log::Log;
-
-#[cfg(test)]
-mod tests;

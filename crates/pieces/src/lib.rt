@@ -12,6 +12,3 @@ mod run;
 pub use laws::one_answer;
 pub use piece::{LinesFault, check_all, check_piece};
 pub use run::{PieceGate, check_pieces};
-
-#[cfg(test)]
-mod tests;

@@ -26,11 +26,16 @@ const BUFFERED: &str = "ranks 1/policy any/rank 0/bsend 0 1/";
 /// A program that is stuck once its receive is issued.
 const LONE_RECEIVE: &str = "ranks 1/policy any/rank 0/recv 0 1/";
 
-/// The formula of this program.
-fn encoded(rt: &(impl Threads + Sync), alloc: Global, text: &str) -> Result<Encoded, Fail> {
+/// The program of this text.
+fn program_of(alloc: Global, text: &str) -> Result<Program, Fail> {
     let text = text.replace(alloc, '/', "\n")?;
     let source = read(alloc, text.as_bytes())?;
-    let program = Program::resolve(alloc, &source)?;
+    Ok(Program::resolve(alloc, &source)?)
+}
+
+/// The formula of this program.
+fn encoded(rt: &(impl Threads + Sync), alloc: Global, text: &str) -> Result<Encoded, Fail> {
+    let program = program_of(alloc, text)?;
     let pairs = pairs(alloc, &program)?;
     let earlier = earlier(rt, alloc, &program, &pairs)?;
     match encode(alloc, program, pairs, &earlier) {
@@ -240,19 +245,56 @@ fn status_text(alloc: Global, pool: &Pool) -> Result<String, Fail> {
     Ok(format!(in alloc; "{status:?}{path}")?)
 }
 
-/// The replies from this one on, the status, and the evidence.
-fn told(
+/// The pool over this program after the calls of these rows, and the replies.
+fn pool_after_rows(
     rt: &(impl Threads + Sync),
     alloc: Global,
     program: &str,
     rows: &str,
-    from: usize,
-) -> Result<(String, String, String), Fail> {
+) -> Result<(Pool, Vec<Reply>), Fail> {
     let events = events_of(alloc, rows)?;
-    let (pool, replies) = pool_after(rt, alloc, program, events.as_slice())?;
-    let replies = replies_text(alloc, replies.as_slice(), from)?;
-    let status = status_text(alloc, &pool)?;
-    Ok((replies, status, evidence_text(alloc, &pool)?))
+    pool_after(rt, alloc, program, events.as_slice())
+}
+
+/// Whether the replies from this one on are these.
+fn assert_replies(
+    rt: &impl Abort,
+    alloc: Global,
+    replies: &[Reply],
+    from: usize,
+    wanted: &str,
+) -> Result<(), Fail> {
+    let replies = replies_text(alloc, replies, from)?;
+    assert_eq!(rt; replies.as_str(), wanted);
+    Ok(())
+}
+
+/// Whether the status and the path of leaf 1 are these.
+fn assert_status(rt: &impl Abort, alloc: Global, pool: &Pool, wanted: &str) -> Result<(), Fail> {
+    let status = status_text(alloc, pool)?;
+    assert_eq!(rt; status.as_str(), wanted);
+    Ok(())
+}
+
+/// Whether the evidence is this.
+fn assert_evidence(rt: &impl Abort, alloc: Global, pool: &Pool, wanted: &str) -> Result<(), Fail> {
+    let evidence = evidence_text(alloc, pool)?;
+    assert_eq!(rt; evidence.as_str(), wanted);
+    Ok(())
+}
+
+/// Whether the replies from this one on are these, and the status, the path of leaf 1 and the evidence.
+fn assert_texts(
+    rt: &impl Abort,
+    alloc: Global,
+    pool: &Pool,
+    replies: &[Reply],
+    from: usize,
+    wanted: (&str, &str, &str),
+) -> Result<(), Fail> {
+    assert_replies(rt, alloc, replies, from, wanted.0)?;
+    assert_status(rt, alloc, pool, wanted.1)?;
+    assert_evidence(rt, alloc, pool, wanted.2)
 }
 
 /// Whether these calls of a new pool over this program are answered so from a reply on, and the status, the path of leaf 1
@@ -265,11 +307,8 @@ fn assert_told(
     from: usize,
     wanted: (&str, &str, &str),
 ) -> Result<(), Fail> {
-    let (replies, status, evidence) = told(rt, alloc, program, rows, from)?;
-    assert_eq!(rt; replies.as_str(), wanted.0);
-    assert_eq!(rt; status.as_str(), wanted.1);
-    assert_eq!(rt; evidence.as_str(), wanted.2);
-    Ok(())
+    let (pool, replies) = pool_after_rows(rt, alloc, program, rows)?;
+    assert_texts(rt, alloc, &pool, replies.as_slice(), from, wanted)
 }
 
 #[test]
@@ -379,26 +418,40 @@ fn refuses_closes(pool: &mut Pool, count: u32) -> bool {
     is_refused
 }
 
-/// Three leaves by two kept places, the last as any other call. Where an allocation fails, none of the first two does.
-#[test]
-fn kept_places(rt: HostRuntime) -> Result<(), Fail> {
-    let (mut pool, _replies) = pool_after(&rt, rt.alloc(), BUFFERED, &[])?;
+/// A new pool over the program without deadlock.
+fn new_pool(rt: &(impl Threads + Sync), alloc: Global) -> Result<Pool, Fail> {
+    let (pool, _replies) = pool_after(rt, alloc, BUFFERED, &[])?;
+    Ok(pool)
+}
+
+fn assert_leaves(rt: &impl Abort, pool: &mut Pool) -> Result<(), Fail> {
     pool.keep_places(2)?;
-    assert!(rt; refuses_closes(&mut pool, 40));
+    assert!(rt; refuses_closes(pool, 40));
     assert!(rt; pool.leave_kept(0, Some(Why::Full)).is_ok());
-    assert!(rt; refuses_closes(&mut pool, 40));
+    assert!(rt; refuses_closes(pool, 40));
     assert!(rt; pool.leave_kept(1, Some(Why::Left)).is_ok());
     pool.leave_kept(2, Some(Why::Budget))?;
     assert!(rt; pool.status().why == Some(Why::Budget));
     Ok(())
 }
 
-/// A number of places for which there is no memory is refused, and asks nothing of the calls after it.
+/// Three leaves by two kept places, the last as any other call. Where an allocation fails, none of the first two does.
 #[test]
-fn too_many_places(rt: HostRuntime) -> Result<(), Fail> {
-    let (mut pool, _replies) = pool_after(&rt, rt.alloc(), BUFFERED, &[])?;
+fn kept_places(rt: HostRuntime) -> Result<(), Fail> {
+    let mut pool = new_pool(&rt, rt.alloc())?;
+    assert_leaves(&rt, &mut pool)
+}
+
+fn assert_refusal(rt: &impl Abort, pool: &mut Pool) -> Result<(), Fail> {
     assert!(rt; pool.keep_places(usize::MAX).is_err());
     pool.leave(0, None)?;
     assert_eq!(rt; pool.history().len(), 1);
     Ok(())
+}
+
+/// A number of places for which there is no memory is refused, and asks nothing of the calls after it.
+#[test]
+fn too_many_places(rt: HostRuntime) -> Result<(), Fail> {
+    let mut pool = new_pool(&rt, rt.alloc())?;
+    assert_refusal(&rt, &mut pool)
 }

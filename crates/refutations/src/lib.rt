@@ -25,6 +25,3 @@ pub use partial::{ClauseStatus, PartialAssignment};
 pub use refutation::{FaultyLine, RefutationFault, check_lines_in, check_refutation};
 pub use tree::{Node, ProofTree, is_numbered};
 pub use tree_check::{TreeFault, check_tree, refutes};
-
-#[cfg(test)]
-mod tests;

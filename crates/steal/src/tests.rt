@@ -1,5 +1,5 @@
-ghost use Rattle.std.specs.Prelude.{◌≡◌, ◌<◌, IfOk, length};
-ghost use Rattle.steal.specs.Seats.{IsSameOwner, IsSameThief};
+ghost use Rattle.std.specs.Prelude.{◌≡◌, ◌<◌, All, IfOk, length};
+ghost use Rattle.steal.specs.Seats.{thief_count, IsSameOwner, IsSameThief, IsThiefOf};
 ghost use Rattle.steal.specs.Supplies.{AreSupplies, IsSameSupply};
 
 use super::*;
@@ -51,61 +51,89 @@ fn rob(
     Ok((thief, stolen))
 }
 
+// A deque's owner and its only thief.
+fn two_seats(alloc: Global) -> Result<(OwnerSeat, ThiefSeat), Fail>
+    ensures { IfOk result (λ r. (thief_count r.0 ≡ 1) × IsThiefOf r.0 r.1) }
+{
+    let (owner, mut thieves) = CubeDeque::make(alloc, 1)?;
+    let thief = thieves.pop().ok_or("no thief")?;
+    Ok((owner, thief))
+}
+
+// What is left of a deque.
+fn left_of(owner: OwnerSeat, thieves: Vec<ThiefSeat>) -> Result<Vec<u32>, Fail>
+    requires { All (λ thief. IsThiefOf owner thief) thieves.items }
+{
+    match settle(owner, thieves) {
+        Ok(tally) => Ok(tally.left),
+        Err(_unsettled) => Err(Fail::from("not settled")),
+    }
+}
+
+// Whether 7, 8 and 9 are pushed and the first of them is stolen.
+fn is_first_stolen(owner: &mut OwnerSeat, thief: &mut ThiefSeat) -> bool
+    ensures owner { IsSameOwner owner.old owner.new }
+    ensures thief { IsSameThief thief.old thief.new }
+{
+    let pushed = (owner.push(7), owner.push(8), owner.push(9));
+    pushed == (Ok(()), Ok(()), Ok(())) && thief.steal() == Stolen::One(7)
+}
+
+// Whether 8 and 9 are popped, and then there is no cube for either seat.
+fn is_rest_popped(owner: &mut OwnerSeat, thief: &mut ThiefSeat) -> bool
+    ensures owner { IsSameOwner owner.old owner.new }
+    ensures thief { IsSameThief thief.old thief.new }
+{
+    (owner.pop(), owner.pop(), owner.pop()) == (Some(8), Some(9), None)
+        && thief.steal() == Stolen::Empty
+}
+
 #[test]
 fn first_in_first_out(rt: HostRuntime) -> Result<(), Fail> {
-    let (mut owner, mut thieves) = CubeDeque::make(rt.alloc(), 1)?;
-    let Some(mut thief) = thieves.pop() else {
-        panic!(rt; "no thief");
-    };
-    assert_eq!(rt; owner.push(7), Ok(()));
-    assert_eq!(rt; owner.push(8), Ok(()));
-    assert_eq!(rt; owner.push(9), Ok(()));
-    assert_eq!(rt; thief.steal(), Stolen::One(7));
-    assert_eq!(rt; owner.pop(), Some(8));
-    assert_eq!(rt; owner.pop(), Some(9));
-    assert_eq!(rt; owner.pop(), None);
-    assert_eq!(rt; thief.steal(), Stolen::Empty);
-    thieves.push(thief)?;
-    let Ok(tally) = settle(owner, thieves) else {
-        panic!(rt; "not settled");
-    };
-    assert_eq!(rt; tally.left.len(), 0);
+    let alloc = rt.alloc();
+    let (mut owner, mut thief) = two_seats(alloc)?;
+    assert!(rt; is_first_stolen(&mut owner, &mut thief));
+    assert!(rt; is_rest_popped(&mut owner, &mut thief));
+    assert_eq!(rt; left_of(owner, vec![in alloc; thief]?)?.len(), 0);
     Ok(())
+}
+
+// Whether 8 and 9 are popped and the last of them is pushed again.
+fn is_last_back(owner: &mut OwnerSeat) -> bool
+    ensures { IsSameOwner owner.old owner.new }
+{
+    (owner.pop(), owner.pop()) == (Some(8), Some(9)) && owner.push(9).is_ok()
 }
 
 #[test]
 fn one_is_left(rt: HostRuntime) -> Result<(), Fail> {
-    let (mut owner, mut thieves) = CubeDeque::make(rt.alloc(), 1)?;
-    let Some(mut thief) = thieves.pop() else {
-        panic!(rt; "no thief");
-    };
-    assert_eq!(rt; owner.push(7), Ok(()));
-    assert_eq!(rt; owner.push(8), Ok(()));
-    assert_eq!(rt; owner.push(9), Ok(()));
-    assert_eq!(rt; thief.steal(), Stolen::One(7));
-    assert_eq!(rt; (owner.pop(), owner.pop()), (Some(8), Some(9)));
-    assert_eq!(rt; owner.push(9), Ok(()));
-    thieves.push(thief)?;
-    let Ok(tally) = settle(owner, thieves) else {
-        panic!(rt; "not settled");
-    };
-    assert_eq!(rt; tally.left.as_slice(), [9].as_slice());
+    let alloc = rt.alloc();
+    let (mut owner, mut thief) = two_seats(alloc)?;
+    assert!(rt; is_first_stolen(&mut owner, &mut thief));
+    assert!(rt; is_last_back(&mut owner));
+    let left = left_of(owner, vec![in alloc; thief]?)?;
+    assert_eq!(rt; left.as_slice(), [9].as_slice());
     Ok(())
+}
+
+// Settles without thieves. Answers why that is refused, and the owner.
+fn settle_alone(alloc: Global, owner: OwnerSeat) -> Result<(SettleFault, OwnerSeat), Fail>
+    ensures { IfOk result (λ r. r.1 ≡ owner) }
+{
+    match settle(owner, Vec::new(alloc)) {
+        Ok(_tally) => Err(Fail::from("settled")),
+        Err(Unsettled { fault, owner, .. }) => Ok((fault, owner)),
+    }
 }
 
 #[test]
 fn a_seat_is_missing(rt: HostRuntime) -> Result<(), Fail> {
     let (mut owner, thieves) = CubeDeque::make(rt.alloc(), 2)?;
-    assert_eq!(rt; owner.push(5), Ok(()));
-    let Err(unsettled) = settle(owner, Vec::new(rt.alloc())) else {
-        panic!(rt; "settled");
-    };
-    assert_eq!(rt; unsettled.fault, SettleFault::Missing);
-    let Unsettled { owner, .. } = unsettled;
-    let Ok(tally) = settle(owner, thieves) else {
-        panic!(rt; "not settled");
-    };
-    assert_eq!(rt; tally.left.as_slice(), [5].as_slice());
+    assert!(rt; owner.push(5).is_ok());
+    let (fault, owner) = settle_alone(rt.alloc(), owner)?;
+    assert_eq!(rt; fault, SettleFault::Missing);
+    let left = left_of(owner, thieves)?;
+    assert_eq!(rt; left.as_slice(), [5].as_slice());
     Ok(())
 }
 
@@ -123,6 +151,20 @@ fn many_in_a_row(rt: HostRuntime) -> Result<(), Fail> {
         assert_eq!(rt; *cube as usize, place);
     }
     Ok(())
+}
+
+// Whether these are the cubes below so many, each once.
+fn is_each_once(
+    mut cubes: Vec<u32>,
+    others: &[u32],
+    left: &[u32],
+    count: usize,
+) -> Result<bool, AllocError> {
+    cubes.extend_from_slice(others)?;
+    cubes.extend_from_slice(left)?;
+    cubes.sort()?;
+    let is_placed = |(place, cube): (usize, &u32)| *cube as usize == place;
+    Ok(cubes.len() == count && cubes.iter().enumerate().all(is_placed))
 }
 
 #[test]
@@ -153,14 +195,8 @@ fn each_cube_once(rt: HostRuntime) -> Result<(), Fail> {
     let Ok(Tally { left }) = settle(owner, thieves) else {
         panic!(rt; "not settled");
     };
-    let mut all = popped;
-    all.extend_from_slice(stolen.as_slice())?;
-    all.extend_from_slice(left.as_slice())?;
-    all.sort()?;
-    assert_eq!(rt; all.len(), 1_000);
-    for (place, cube) in all.iter().enumerate() {
-        assert_eq!(rt; *cube as usize, place);
-    }
+    let all = is_each_once(popped, stolen.as_slice(), left.as_slice(), 1_000)?;
+    assert!(rt; all);
     Ok(())
 }
 
@@ -186,10 +222,11 @@ fn take(supplies: &mut [Supply], worker: usize) -> Option<u32>
 fn the_next_one_steals(rt: HostRuntime) -> Result<(), Fail> {
     let mut supplies = deal(rt.alloc(), 2)?;
     for cube in 7..10_u32 {
-        assert_eq!(rt; put(supplies.as_mut_slice(), 0, cube), Ok(()));
+        assert!(rt; put(supplies.as_mut_slice(), 0, cube).is_ok());
     }
-    assert_eq!(rt; take(supplies.as_mut_slice(), 1), Some(7));
-    assert_eq!(rt; take(supplies.as_mut_slice(), 0), Some(8));
+    let stolen = take(supplies.as_mut_slice(), 1);
+    let taken = take(supplies.as_mut_slice(), 0);
+    assert_eq!(rt; (stolen, taken), (Some(7), Some(8)));
     let left = settle_all(rt.alloc(), supplies)?;
     assert_eq!(rt; left.as_slice(), [9].as_slice());
     Ok(())
@@ -199,18 +236,15 @@ fn the_next_one_steals(rt: HostRuntime) -> Result<(), Fail> {
 fn the_last_one_takes_all(rt: HostRuntime) -> Result<(), Fail> {
     let mut supplies = deal(rt.alloc(), 64)?;
     for worker in 0..64_u32 {
-        assert_eq!(rt;
-            put(supplies.as_mut_slice(), worker as usize, worker),
-            Ok(())
-        );
+        assert!(rt; put(supplies.as_mut_slice(), worker as usize, worker).is_ok());
     }
-    assert_eq!(rt; take(supplies.as_mut_slice(), 63), Some(63));
+    assert!(rt; take(supplies.as_mut_slice(), 63) == Some(63));
     for cube in 0..63_u32 {
-        assert_eq!(rt; take(supplies.as_mut_slice(), 63), Some(cube));
+        assert!(rt; take(supplies.as_mut_slice(), 63) == Some(cube));
     }
-    assert_eq!(rt; take(supplies.as_mut_slice(), 63), None);
+    assert!(rt; take(supplies.as_mut_slice(), 63).is_none());
     let left = settle_all(rt.alloc(), supplies)?;
-    assert_eq!(rt; left.len(), 0);
+    assert!(rt; left.is_empty());
     Ok(())
 }
 
@@ -276,16 +310,11 @@ fn two_take_each_cube_once(rt: HostRuntime) -> Result<(), Fail> {
     let Ok(other) = other else {
         panic!(rt; "no memory for the second");
     };
-    let (first, mut all) = one;
+    let (first, cubes) = one;
     let (second, taken) = other;
     supplies.push(first)?;
     supplies.push(second)?;
-    all.extend_from_slice(taken.as_slice())?;
-    all.extend_from_slice(settle_all(alloc, supplies)?.as_slice())?;
-    all.sort()?;
-    assert_eq!(rt; all.len(), 1_000);
-    for (place, cube) in all.iter().enumerate() {
-        assert_eq!(rt; *cube as usize, place);
-    }
+    let left = settle_all(alloc, supplies)?;
+    assert!(rt; is_each_once(cubes, taken.as_slice(), left.as_slice(), 1_000)?);
     Ok(())
 }

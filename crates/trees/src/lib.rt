@@ -15,6 +15,3 @@ pub use laws::{
     splits_change_one_leaf,
 };
 pub use tree::{GREATEST_DEPTH, Kind, MOST_NODES, Tree};
-
-#[cfg(test)]
-mod tests;

@@ -1,6 +1,8 @@
 //! In the programs' texts `/` stands for the end of a line.
 mod fake;
 
+ghost use Rattle.std.specs.Prelude.{◌≡◌, IfOk};
+
 use callorder::Program;
 use calltext::read;
 use candidates::pairs;
@@ -17,6 +19,7 @@ use std::sync::{Mutex, Wait};
 use std::test::Fail;
 use std::thread::Threads;
 use steal::{Supply, deal};
+use trees::Tree;
 use workers::{Common, Cubes, EventCount, Gate, work};
 
 /// More conflicts than any search here needs.
@@ -93,6 +96,17 @@ fn encoded(rt: &(impl Threads + Sync), alloc: Global, text: &str) -> Result<Enco
     }
 }
 
+/// A tree of this depth over the formula's variables.
+fn tree_of(alloc: Global, encoded: &Encoded, depth: u32) -> Result<Tree, Fail>
+    ensures { IfOk result (λ tree. tree.variables ≡ encoded.now.formula.variables) }
+{
+    let tree = split(alloc, encoded, depth)?;
+    if tree.variables() != encoded.formula().variables() {
+        return Err(Fail::from("another formula"));
+    }
+    Ok(tree)
+}
+
 /// A share of the pool of a program with a tree of this depth.
 fn opened(
     rt: &(impl Threads + Sync),
@@ -102,10 +116,7 @@ fn opened(
     lie: Lie,
 ) -> Result<Fake, Fail> {
     let encoded = encoded(rt, alloc, text)?;
-    let tree = split(alloc, &encoded, depth)?;
-    if tree.variables() != encoded.formula().variables() {
-        return Err(Fail::from("another formula"));
-    }
+    let tree = tree_of(alloc, &encoded, depth)?;
     let pool = Mutex::new(Pool::new(alloc, encoded, tree)?);
     Ok(Fake { pool, lie })
 }
@@ -123,7 +134,32 @@ fn leaves(rt: &impl Wait, alloc: Global, share: &Fake) -> Result<Supply, Fail> {
     Ok(cubes)
 }
 
-/// Has one worker search over the share, and answers how many cubes it took.
+/// Has one worker search this formula over the share, and answers how many cubes it took.
+fn worked_on<R: Threads + Wait + Sync, C: Cubes>(
+    rt: &R,
+    alloc: Global,
+    encoded: &Encoded,
+    share: &Fake,
+    cubes: &mut C,
+    budget: u32,
+) -> Result<u64, Fail> {
+    let gate = Counter {
+        cubes: AtomicU64::new(0),
+    };
+    let events = EventCount::new();
+    let common = Common {
+        encoded,
+        shared: share,
+        gate: &gate,
+        events: &events,
+        budget,
+    };
+    let mut seat = 0;
+    work(rt, alloc, &common, &mut seat, cubes, 0)?;
+    Ok(gate.cubes.load(Ordering::SeqCst))
+}
+
+/// The same, where the formula is that of a program.
 fn worked<R: Threads + Wait + Sync, C: Cubes>(
     rt: &R,
     alloc: Global,
@@ -133,20 +169,7 @@ fn worked<R: Threads + Wait + Sync, C: Cubes>(
     budget: u32,
 ) -> Result<u64, Fail> {
     let encoded = encoded(rt, alloc, text)?;
-    let gate = Counter {
-        cubes: AtomicU64::new(0),
-    };
-    let events = EventCount::new();
-    let common = Common {
-        encoded: &encoded,
-        shared: share,
-        gate: &gate,
-        events: &events,
-        budget,
-    };
-    let mut seat = 0;
-    work(rt, alloc, &common, &mut seat, cubes, 0)?;
-    Ok(gate.cubes.load(Ordering::SeqCst))
+    worked_on(rt, alloc, &encoded, share, cubes, budget)
 }
 
 /// Whether the share has a refutation.

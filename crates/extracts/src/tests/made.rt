@@ -5,7 +5,7 @@ use clauses::Assignment;
 use encode::Encoded;
 use extract::{ExtractFault, schedule_of};
 use semantics::{End, Step, replay};
-use std::alloc::Global;
+use std::alloc::{AllocError, Global};
 use std::process::Abort;
 use std::test::Fail;
 use std::thread::Threads;
@@ -43,16 +43,39 @@ fn assert_stuck(
     Ok(())
 }
 
+/// What the assignment gives of which the columns tell the facts and the events by their clocks.
+fn answer_of(
+    alloc: Global,
+    encoded: &Encoded,
+    facts: &str,
+    order: &str,
+) -> Result<Result<Vec<Step>, ExtractFault>, Fail> {
+    let world = world_of(alloc, encoded, facts, order)?;
+    let assignment = world.assignment(alloc, encoded)?;
+    Ok(schedule_of(alloc, encoded, &assignment))
+}
+
 /// Asserts that the assignment that the columns tell gives this schedule, or is refused.
-fn assert_row(rt: &(impl Threads + Abort + Sync), alloc: Global, row: &str) -> Result<(), Fail> {
-    let (program, rest) = column(row)?;
+fn assert_columns(
+    rt: &impl Abort,
+    alloc: Global,
+    encoded: &Encoded,
+    row: &str,
+) -> Result<(), Fail> {
+    let (_program, rest) = column(row)?;
     let (facts, rest) = column(rest)?;
     let (order, wanted) = column(rest)?;
+    let answer = answer_of(alloc, encoded, facts, order)?;
+    let is_wanted = told(alloc, &answer)?.as_str() == wanted;
+    assert!(rt; is_wanted, "{row}");
+    assert_stuck(rt, alloc, encoded, &answer)
+}
+
+/// Asserts what the row tells of the program in its first column.
+fn assert_row(rt: &(impl Threads + Abort + Sync), alloc: Global, row: &str) -> Result<(), Fail> {
+    let (program, _columns) = column(row)?;
     let encoded = encoded(rt, alloc, program)?;
-    let assignment = world_of(alloc, &encoded, facts, order)?.assignment(alloc, &encoded)?;
-    let answer = schedule_of(alloc, &encoded, &assignment);
-    assert_eq!(rt; told(alloc, &answer)?.as_str(), wanted, "{row}");
-    assert_stuck(rt, alloc, &encoded, &answer)
+    assert_columns(rt, alloc, &encoded, row)
 }
 
 #[test]
@@ -63,12 +86,22 @@ fn gives_schedules_of_assignments(rt: HostRuntime) -> Result<(), Fail> {
     Ok(())
 }
 
+/// What is told where all is false.
+fn told_of_none(alloc: Global, encoded: &Encoded) -> Result<String, AllocError> {
+    let assignment = Assignment::make(Vec::new(alloc));
+    told(alloc, &schedule_of(alloc, encoded, &assignment))
+}
+
+/// Asserts that there is no schedule where all is false.
+fn assert_none(rt: &impl Abort, alloc: Global, encoded: &Encoded) -> Result<(), Fail> {
+    let told = told_of_none(alloc, encoded)?;
+    assert_eq!(rt; told.as_str(), "no schedule");
+    Ok(())
+}
+
 #[test]
 fn gives_none_where_all_is_false(rt: HostRuntime) -> Result<(), Fail> {
     let alloc = rt.alloc();
     let encoded = encoded(&rt, alloc, "ranks 1/policy any/rank 0/send 0 1/recv 0 1/")?;
-    let assignment = Assignment::make(Vec::new(alloc));
-    let answer = schedule_of(alloc, &encoded, &assignment);
-    assert_eq!(rt; told(alloc, &answer)?.as_str(), "no schedule");
-    Ok(())
+    assert_none(&rt, alloc, &encoded)
 }

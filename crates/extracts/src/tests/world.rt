@@ -96,17 +96,36 @@ fn facts_of(alloc: Global, lines: &str) -> Result<Vec<Fact>, Fail> {
     Ok(facts)
 }
 
+/// The events that the lines tell.
+fn events_of(alloc: Global, lines: &str) -> Result<Vec<Event>, Fail> {
+    let mut events = Vec::new(alloc);
+    for line in lines.split('/') {
+        events.push(event_of(line)?)?;
+    }
+    Ok(events)
+}
+
+/// The places of the events.
+pub fn places_of(
+    alloc: Global,
+    encoded: &Encoded,
+    events: &[Event],
+) -> Result<Vec<usize>, AllocError> {
+    let variables = encoded.variables(alloc)?;
+    let mut places = Vec::new(alloc);
+    for event in events {
+        places.push(variables.event_place(event))?;
+    }
+    Ok(places)
+}
+
 /// The places of the events that the lines tell; none where all happen at once.
 fn order_of(alloc: Global, encoded: &Encoded, lines: &str) -> Result<Vec<usize>, Fail> {
-    let variables = encoded.variables(alloc)?;
-    let mut order = Vec::new(alloc);
     if lines == "at once" {
-        return Ok(order);
+        return Ok(Vec::new(alloc));
     }
-    for line in lines.split('/') {
-        order.push(variables.event_place(&event_of(line)?))?;
-    }
-    Ok(order)
+    let events = events_of(alloc, lines)?;
+    Ok(places_of(alloc, encoded, events.as_slice())?)
 }
 
 /// The world of which lines tell the facts, and the events by their clocks.

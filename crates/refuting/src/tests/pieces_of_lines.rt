@@ -1,7 +1,8 @@
+//! Lines that are checked in pieces.
 ghost use Rattle.std.specs.Prelude.{◌≤◌, ◌<◌};
 
-use super::*;
-use clauses::{Clause, Formula, Lit};
+use super::texts::one_send;
+use pieces::{LinesFault, PieceGate, check_all, check_piece, check_pieces};
 use refutations::Line;
 use std::alloc::Global;
 use std::sync::atomic::{AtomicBool, AtomicUsize, Ordering};
@@ -46,31 +47,6 @@ impl PieceGate for Turns {
             }
             thread::yield_now();
         }
-    }
-}
-
-fn push_clause(
-    alloc: Global,
-    clauses: &mut Vec<Clause>,
-    signs: &[(u32, bool)],
-) -> Result<(), Fail> {
-    let mut literals = Vec::new(alloc);
-    for (variable, positive) in signs {
-        literals.push(Lit::make(*variable, *positive).ok_or("no literal")?)?;
-    }
-    clauses.push(Clause::make(alloc, literals.as_slice())?)?;
-    Ok(())
-}
-
-/// The formula of a program that sends once: `1`, `-1 -2`, `2`.
-fn one_send(alloc: Global) -> Result<Formula, Fail> {
-    let mut clauses = Vec::new(alloc);
-    push_clause(alloc, &mut clauses, &[(1, true)])?;
-    push_clause(alloc, &mut clauses, &[(1, false), (2, false)])?;
-    push_clause(alloc, &mut clauses, &[(2, true)])?;
-    match Formula::make(2, clauses) {
-        Ok(formula) => Ok(formula),
-        Err(_clauses) => Err(Fail::from("no formula")),
     }
 }
 

@@ -1,4 +1,5 @@
-use super::*;
+//! Logs of lines in pages, and lists that are handed out.
+use pages::{Extended, Lines, Log};
 use refutations::{Line, LineList};
 use std::alloc::Global;
 use std::test::Fail;

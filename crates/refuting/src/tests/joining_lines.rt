@@ -1,63 +1,10 @@
-use super::*;
+//! Lines that join the leaves of a tree.
+use super::texts::{formula, literal, tree};
 use clauses::{Clause, Formula, Lit};
+use joining::joining_lines;
 use refutations::{Line, Node, ProofTree, check_refutation};
 use std::alloc::Global;
 use std::test::Fail;
-
-fn number(text: &str) -> Result<u32, Fail> {
-    match text.parse::<u32>() {
-        Ok(number) => Ok(number),
-        Err(_fault) => Err(Fail::from("no number")),
-    }
-}
-
-fn literal(word: &str) -> Result<Lit, Fail> {
-    let made = match word.strip_prefix("-") {
-        Some(digits) => Lit::make(number(digits)?, false),
-        None => Lit::make(number(word)?, true),
-    };
-    Ok(made.ok_or("no literal")?)
-}
-
-/// The clause of literals such as `1 -2`.
-fn clause(alloc: Global, text: &str) -> Result<Clause, Fail> {
-    let mut literals = Vec::new(alloc);
-    for word in text.split_whitespace() {
-        literals.push(literal(word)?)?;
-    }
-    Ok(Clause::make(alloc, literals.as_slice())?)
-}
-
-/// The formula of these clauses, each before a comma, over three variables.
-fn formula(alloc: Global, text: &str) -> Result<Formula, Fail> {
-    let mut clauses = Vec::new(alloc);
-    for part in text.split(',') {
-        clauses.push(clause(alloc, part)?)?;
-    }
-    match Formula::make(3, clauses) {
-        Ok(formula) => Ok(formula),
-        Err(_clauses) => Err(Fail::from("no formula")),
-    }
-}
-
-fn node(word: &str) -> Result<Node, Fail> {
-    match word.strip_prefix("s") {
-        Some(digits) => Ok(Node::Split(number(digits)?)),
-        None => Ok(Node::Leaf(number(word)?)),
-    }
-}
-
-/// The tree of nodes such as `s1 4 3`: a split by variable 1 over the leaves of clauses 4 and 3.
-fn tree(alloc: Global, text: &str) -> Result<ProofTree, Fail> {
-    let mut nodes = Vec::new(alloc);
-    for word in text.split_whitespace() {
-        nodes.push(node(word)?)?;
-    }
-    match ProofTree::make(nodes) {
-        Ok(tree) => Ok(tree),
-        Err(_nodes) => Err(Fail::from("no tree")),
-    }
-}
 
 fn line_text(alloc: Global, line: &Line) -> Result<String, Fail> {
     let mut text = String::new(alloc);
@@ -114,7 +61,7 @@ fn joined(
 #[test]
 fn an_empty_line_needs_no_other(rt: HostRuntime) -> Result<(), Fail> {
     let alloc = rt.alloc();
-    let formula = formula(alloc, "1,-1 -2,2")?;
+    let formula = formula(alloc, 3, "1,-1 -2,2")?;
     let mut lines = Vec::new(alloc);
     lines.push(Line::make(alloc, &[], &[1, 3, 2])?)?;
     assert_eq!(rt; joined(alloc, &formula, lines, "4")?.as_str(), "");
@@ -124,7 +71,7 @@ fn an_empty_line_needs_no_other(rt: HostRuntime) -> Result<(), Fail> {
 #[test]
 fn an_empty_clause_of_the_formula(rt: HostRuntime) -> Result<(), Fail> {
     let alloc = rt.alloc();
-    let formula = formula(alloc, "1,")?;
+    let formula = formula(alloc, 3, "1,")?;
     assert_eq!(rt;
         joined(alloc, &formula, Vec::new(alloc), "2")?.as_str(),
         ": 2;"
@@ -139,12 +86,12 @@ fn an_empty_clause_of_the_formula(rt: HostRuntime) -> Result<(), Fail> {
 #[test]
 fn two_splits(rt: HostRuntime) -> Result<(), Fail> {
     let alloc = rt.alloc();
-    let whole = formula(alloc, "1 2,1 -2,-1 2,-1 -2")?;
+    let whole = formula(alloc, 3, "1 2,1 -2,-1 2,-1 -2")?;
     assert_eq!(rt;
         joined(alloc, &whole, Vec::new(alloc), "s1 s2 4 3 s2 2 1")?.as_str(),
         "1 : 2 1;-1 : 4 3;: 6 5;"
     );
-    let short = formula(alloc, "-1,-1 2,1")?;
+    let short = formula(alloc, 3, "-1,-1 2,1")?;
     assert_eq!(rt;
         joined(alloc, &short, Vec::new(alloc), "s1 s2 1 2 3")?.as_str(),
         ": 1 3;"
@@ -155,7 +102,7 @@ fn two_splits(rt: HostRuntime) -> Result<(), Fail> {
 #[test]
 fn lines_before_those_added(rt: HostRuntime) -> Result<(), Fail> {
     let alloc = rt.alloc();
-    let formula = formula(alloc, "1 2,1 -2,-1 2,-1 -2")?;
+    let formula = formula(alloc, 3, "1 2,1 -2,-1 2,-1 -2")?;
     let mut lines = Vec::new(alloc);
     lines.push(Line::make(alloc, &[literal("1")?], &[1, 2])?)?;
     assert_eq!(rt;
@@ -168,12 +115,12 @@ fn lines_before_those_added(rt: HostRuntime) -> Result<(), Fail> {
 #[test]
 fn a_variable_split_twice(rt: HostRuntime) -> Result<(), Fail> {
     let alloc = rt.alloc();
-    let two = formula(alloc, "-1 -3,1 3,-1,1")?;
+    let two = formula(alloc, 3, "-1 -3,1 3,-1,1")?;
     assert_eq!(rt;
         joined(alloc, &two, Vec::new(alloc), "s1 s1 3 s3 1 2 4")?.as_str(),
         ": 3 4;"
     );
-    let three = formula(alloc, "-1 -2 -3,1 3,1 2,-1,1")?;
+    let three = formula(alloc, 3, "-1 -2 -3,1 3,1 2,-1,1")?;
     assert_eq!(rt;
         joined(alloc, &three, Vec::new(alloc), "s1 s1 4 s2 s3 1 2 3 5")?.as_str(),
         ": 4 5;"

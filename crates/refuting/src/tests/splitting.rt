@@ -1,8 +1,9 @@
-use super::*;
+//! Trees whose leaves are split.
 use clauses::Lit;
 use refutations::{Node, is_numbered};
 use std::alloc::Global;
 use std::test::Fail;
+use trees::{Kind, SplitFault, Tree};
 
 /// The numbers of the new leaves, or the refusal.
 fn split(alloc: Global, tree: &mut Tree, leaf: u32, variable: u32) -> Result<String, Fail> {

@@ -1,0 +1,4 @@
+mod branching;
+mod earlier_calls;
+mod pairs;
+mod programs;
