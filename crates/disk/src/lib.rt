@@ -5,8 +5,6 @@
 mod disk;
 mod shelf;
 mod stream;
-#[cfg(test)]
-mod tests;
 
 pub use disk::{Disk, DiskFiles, DiskReader, DiskWriter, Trouble};
 pub use shelf::Shelf;

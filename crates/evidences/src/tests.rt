@@ -3,12 +3,9 @@
 mod fronts;
 mod limits;
 mod making;
-mod one_send;
 mod parts;
 mod round_trips;
 mod schedules;
-mod shapes;
-mod tree_shapes;
 
 use clauses::Lit;
 use prooflog::{Evidence, EvidenceFault, Refutation, read_evidence, write_evidence};
@@ -63,15 +60,6 @@ fn assert_rows_below(rt: &impl Abort, alloc: Global, above: &str, rows: &str) ->
         assert_eq!(rt; told(alloc, text.as_bytes())?.as_str(), wanted, "{row}");
     }
     Ok(())
-}
-
-/// The refutation of a text, in which `/` stands for the end of a line.
-fn refutation_of(alloc: Global, text: &str) -> Result<Refutation, Fail> {
-    let text = lines(alloc, text)?;
-    match read_evidence(alloc, text.as_bytes())? {
-        Evidence::Refutation(refutation) => Ok(refutation),
-        Evidence::Schedule(_schedule) => Err(Fail::from("a schedule")),
-    }
 }
 
 /// The literals that are written as a variable with a sign.

@@ -7,8 +7,6 @@ mod comments;
 mod dimacs;
 mod events;
 mod lrat;
-#[cfg(test)]
-mod tests;
 mod words;
 
 pub use dimacs::dimacs_text;

@@ -8,6 +8,3 @@ mod tables;
 pub use laws::last_below_is_last;
 pub use numbers::number;
 pub use tables::{last_places, previous_places};
-
-#[cfg(test)]
-mod tests;

@@ -2,6 +2,7 @@
 mod cut;
 mod limits;
 mod long;
+mod shelves;
 mod troubles;
 
 use runs::{Scene, run};

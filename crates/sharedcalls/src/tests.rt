@@ -70,10 +70,21 @@ fn two_lines(alloc: Global) -> Result<Batch, Fail> {
     Ok(Batch { lines })
 }
 
-/// Whether this is the text of the pool's evidence; `/` stands for the end of a line.
-fn tells(alloc: Global, pool: &Pool, text: &str) -> Result<bool, Fail> {
-    let written = write_evidence(alloc, &pool.assemble(alloc)?)?;
-    Ok(written.as_slice() == text.replace(alloc, '/', "\n")?.as_bytes())
+/// The evidence of a pool, or why there is none; `/` stands for the end of a line.
+fn evidence_text(alloc: Global, pool: &Pool) -> Result<String, Fail> {
+    match pool.assemble(alloc) {
+        Ok(evidence) => {
+            let written = write_evidence(alloc, &evidence)?;
+            Ok(String::from_utf8(written)?.replace(alloc, '\n', "/")?)
+        }
+        Err(fault) => Ok(format!(in alloc; "{fault}")?),
+    }
+}
+
+/// The same behind how many calls each worker made.
+fn told(alloc: Global, pool: &Pool, counts: &[usize]) -> Result<String, Fail> {
+    let evidence = evidence_text(alloc, pool)?;
+    Ok(format!(in alloc; "{counts:?} {evidence}")?)
 }
 
 fn publishes<S: Share, R: Wait>(
@@ -311,35 +322,51 @@ fn finished<R: Threads + Wait + Sync>(
     finished_in::<Brand, R>(rt, alloc, cell, keeper, pool, batch, example)
 }
 
+/// What is told of the pool after the example's calls.
+fn told_after(
+    rt: &(impl Threads + Wait + Sync),
+    alloc: Global,
+    batch: &Batch,
+    example: Example,
+) -> Result<String, Fail> {
+    let (pool, counts) = finished(rt, alloc, batch, example)?;
+    told(alloc, &pool, counts.as_slice())
+}
+
 #[test]
 fn one_leaf(rt: HostRuntime) -> Result<(), Fail> {
-    let alloc = rt.alloc();
-    let batch = empty_clause(alloc)?;
-    let (pool, counts) = finished(&rt, alloc, &batch, Example::OneLeaf)?;
-    assert_eq!(rt; counts.as_slice(), [4, 3].as_slice());
-    let text = "evidence 1/refutation 2 3/line : 1 3 2/line : 1 3 2/tree/leaf 5/";
-    assert!(rt; tells(alloc, &pool, text)?);
+    let batch = empty_clause(rt.alloc())?;
+    let told = told_after(&rt, rt.alloc(), &batch, Example::OneLeaf)?;
+    let wanted = "[4, 3] evidence 1/refutation 2 3/line : 1 3 2/line : 1 3 2/tree/leaf 5/";
+    assert_eq!(rt; told.as_str(), wanted);
     Ok(())
 }
 
 #[test]
 fn two_leaves(rt: HostRuntime) -> Result<(), Fail> {
-    let alloc = rt.alloc();
-    let batch = two_lines(alloc)?;
-    let (pool, counts) = finished(&rt, alloc, &batch, Example::TwoLeaves)?;
-    assert_eq!(rt; counts.as_slice(), [3, 3].as_slice());
-    let text = "evidence 1/refutation 2 3/line -2 : 1 2/line : 4 3/tree/split 2/leaf 4/leaf 3/";
-    assert!(rt; tells(alloc, &pool, text)?);
+    let batch = two_lines(rt.alloc())?;
+    let told = told_after(&rt, rt.alloc(), &batch, Example::TwoLeaves)?;
+    let wanted =
+        "[3, 3] evidence 1/refutation 2 3/line -2 : 1 2/line : 4 3/tree/split 2/leaf 4/leaf 3/";
+    assert_eq!(rt; told.as_str(), wanted);
     Ok(())
+}
+
+/// How many calls the second worker made where both leave, and the reason that is known then.
+fn left(
+    rt: &(impl Threads + Wait + Sync),
+    alloc: Global,
+    batch: &Batch,
+) -> Result<(Option<usize>, Option<Why>), Fail> {
+    let (pool, counts) = finished(rt, alloc, batch, Example::Leaving)?;
+    Ok((counts.get(1).copied(), pool.status().why))
 }
 
 /// Where an allocation fails in the calls, each worker can leave all the same.
 #[test]
 fn each_worker_leaves(rt: HostRuntime) -> Result<(), Fail> {
-    let alloc = rt.alloc();
-    let batch = empty_clause(alloc)?;
-    let (pool, counts) = finished(&rt, alloc, &batch, Example::Leaving)?;
-    assert!(rt; counts.get(1) == Some(&1));
-    assert!(rt; pool.status().why == Some(Why::Budget));
+    let batch = empty_clause(rt.alloc())?;
+    let left = left(&rt, rt.alloc(), &batch)?;
+    assert_eq!(rt; left, (Some(1), Some(Why::Budget)));
     Ok(())
 }

@@ -5,7 +5,7 @@ mod lines;
 mod refusals;
 
 use batches::{Batch, BatchLine, Hint};
-use cdcl::{Found, Solver};
+use cdcl::{Found, SolveFault, Solver};
 use clauses::{Clause, Formula, Lit};
 use refutations::{Line, check_line};
 use std::alloc::Global;
@@ -149,6 +149,32 @@ fn search_on(
         give_back(alloc, solver, base, &batch)?;
     }
     Err(Fail::from("a search without end"))
+}
+
+/// The word for what a search answered.
+fn word_of(answer: Result<Found, SolveFault>) -> &'static str {
+    match answer {
+        Ok(Found::Closed(_batch, _last)) => "closed",
+        Ok(Found::Model(_assignment)) => "model",
+        Ok(Found::Budget(batch)) if batch.lines.is_empty() => "budget without lines",
+        Ok(Found::Budget(_batch)) => "budget",
+        Err(SolveFault::Foreign) => "foreign",
+        Err(SolveFault::Spent) => "spent",
+        Err(SolveFault::Memory) => "memory",
+    }
+}
+
+/// The word for the end of searches below the cube, with so many conflicts for each.
+fn end_of(
+    alloc: Global,
+    formula: &Formula,
+    solver: &mut Solver<'_>,
+    lines: &mut Vec<Line>,
+    cube: &[Lit],
+    budget: u64,
+) -> Result<&'static str, Fail> {
+    let found = search_on(alloc, formula, solver, lines, cube, budget)?;
+    Ok(word_of(Ok(found)))
 }
 
 /// So many pigeons each sit in one of the holes, which are one fewer, and no two in one.

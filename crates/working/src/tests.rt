@@ -215,16 +215,25 @@ fn evidence_of(rt: &impl Wait, alloc: Global, share: &Fake) -> Result<Vec<u8>, F
     Ok(write_evidence(alloc, &evidence)?)
 }
 
-/// What the evidence that one worker comes to shows of a program.
+/// The text of the evidence that one worker comes to.
+fn found_by_one<R: Threads + Wait + Sync>(
+    rt: &R,
+    alloc: Global,
+    text: &str,
+) -> Result<Vec<u8>, Fail> {
+    let share = opened(rt, alloc, text, 4, Lie::Nothing)?;
+    let mut cubes = leaves(rt, alloc, &share)?;
+    worked(rt, alloc, text, &share, &mut cubes, ENOUGH)?;
+    evidence_of(rt, alloc, &share)
+}
+
+/// What that evidence shows of the program.
 fn shown<R: Threads + Wait + Sync>(
     rt: &R,
     alloc: Global,
     text: &str,
 ) -> Result<&'static str, Fail> {
-    let share = opened(rt, alloc, text, 4, Lie::Nothing)?;
-    let mut cubes = leaves(rt, alloc, &share)?;
-    worked(rt, alloc, text, &share, &mut cubes, ENOUGH)?;
-    let evidence = evidence_of(rt, alloc, &share)?;
+    let evidence = found_by_one(rt, alloc, text)?;
     let text = text.replace(alloc, '/', "\n")?;
     match verdict(rt, alloc, text.as_bytes(), evidence.as_slice()) {
         Verdict::NoDeadlock => Ok("no deadlock"),
@@ -276,15 +285,22 @@ fn refusals_are_left(rt: HostRuntime) -> Result<(), Fail> {
     Ok(())
 }
 
+/// How many cubes the worker takes that can't put one back, and why it leaves.
+fn without_room<R: Threads + Wait + Sync>(
+    rt: &R,
+    alloc: Global,
+) -> Result<(u64, Option<Why>), Fail> {
+    let share = opened(rt, alloc, SENDERS, 0, Lie::Nothing)?;
+    let cubes = leaves(rt, alloc, &share)?;
+    let mut cubes = Narrow { cubes };
+    let count = worked(rt, alloc, SENDERS, &share, &mut cubes, ENOUGH)?;
+    Ok((count, share.status(rt).why))
+}
+
 #[test]
 fn halves_without_room_are_want_of_memory(rt: HostRuntime) -> Result<(), Fail> {
-    let alloc = rt.alloc();
-    let share = opened(&rt, alloc, SENDERS, 0, Lie::Nothing)?;
-    let cubes = leaves(&rt, alloc, &share)?;
-    let mut cubes = Narrow { cubes };
-    let count = worked(&rt, alloc, SENDERS, &share, &mut cubes, ENOUGH)?;
-    assert_eq!(rt; count, 1);
-    assert_eq!(rt; share.status(&rt).why, Some(Why::Memory));
+    let left = without_room(&rt, rt.alloc())?;
+    assert_eq!(rt; left, (1, Some(Why::Memory)));
     Ok(())
 }
 

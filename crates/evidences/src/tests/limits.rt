@@ -1,5 +1,5 @@
 //! Each limit of a refutation's text, at its value and one beyond.
-use super::{assert_rows, assert_rows_below, lines, refutation_of};
+use super::{assert_rows, assert_rows_below, lines};
 use std::alloc::{AllocError, Global};
 use std::process::Abort;
 use std::test::Fail;
@@ -72,65 +72,4 @@ fn most_nodes(rt: HostRuntime) -> Result<(), Fail> {
     assert_rows(&rt, alloc, &most, AFTER_NODES)?;
     let larger = format!(in alloc; "{ABOVE}tree/split 1/{nodes}{nodes}")?;
     assert_rows(&rt, alloc, &larger, " | evidence too large")
-}
-
-/// The largest tree that is read has all its nodes.
-#[test]
-fn nodes_of_a_full_tree(rt: HostRuntime) -> Result<(), Fail> {
-    let alloc = rt.alloc();
-    let nodes = full_tree(alloc, 15)?;
-    let text = format!(in alloc; "{ABOVE}tree/{nodes}")?;
-    let read = refutation_of(alloc, &text)?;
-    assert_eq!(rt; read.tree().nodes().len(), 65_535);
-    Ok(())
-}
-
-/// What follows 65 splits, each the first child of the one above it.
-const BELOW_FIRST: &str = "\
-leaf/ | evidence line 69 syntax
-leaf 0/ | evidence line 69 range
-leaf 4/ | evidence too large
-split 1/ | evidence too large
- | evidence line 69 syntax";
-
-/// A node of depth 64 is read below first children, and one of depth 65 is too deep where nothing else
-/// is wrong with it.
-#[test]
-fn deepest_first_child(rt: HostRuntime) -> Result<(), Fail> {
-    let alloc = rt.alloc();
-    let splits = "split 1/".repeat(alloc, 64)?;
-    let leaves = "leaf 4/".repeat(alloc, 65)?;
-    let above = format!(in alloc; "{ABOVE}tree/{splits}")?;
-    let rows = format!(in alloc; " | evidence line 68 syntax\n{leaves} | read")?;
-    assert_rows(&rt, alloc, &above, &rows)?;
-    let above = format!(in alloc; "{above}split 1/")?;
-    assert_rows(&rt, alloc, &above, BELOW_FIRST)
-}
-
-/// What follows 64 splits, each the second child of the one above it.
-const BELOW_SECOND: &str = "\
-leaf 4/ | read
-split 1/ | evidence line 133 syntax
-split 1/leaf/ | evidence line 133 syntax
-split 1/leaf 0/ | evidence line 133 range
-split 1/leaf 4/ | evidence too large
- | evidence line 132 syntax";
-
-/// The same below second children.
-#[test]
-fn deepest_second_child(rt: HostRuntime) -> Result<(), Fail> {
-    let alloc = rt.alloc();
-    let pairs = "split 1/leaf 4/".repeat(alloc, 64)?;
-    let above = format!(in alloc; "{ABOVE}tree/{pairs}")?;
-    assert_rows(&rt, alloc, &above, BELOW_SECOND)
-}
-
-/// After a deep branch the depth is again that of the node, and not of the one above it in the text.
-#[test]
-fn depth_after_a_deep_branch(rt: HostRuntime) -> Result<(), Fail> {
-    let alloc = rt.alloc();
-    let splits = "split 1/".repeat(alloc, 63)?;
-    let leaves = "leaf 4/".repeat(alloc, 64)?;
-    let rest = format!(in alloc; "tree/split 1/{splits}{leaves}{splits}{leaves} | read")?;
-    assert_rows(&rt, alloc, ABOVE, &rest)
 }

@@ -20,28 +20,6 @@ fn is_made(
     }
 }
 
-/// A refutation has the parts that it was made of.
-#[test]
-fn parts(rt: HostRuntime) -> Result<(), Fail> {
-    let alloc = rt.alloc();
-    let mut lines = Vec::new(alloc);
-    lines.push(line(alloc, &[(2, false)], &[1, 2])?)?;
-    let nodes = [Node::Split(2), Node::Leaf(4), Node::Leaf(3)];
-    let made = Refutation::make(alloc, 2, 3, lines, tree(nodes.to_vec(alloc)?)?)?;
-    assert_eq!(rt; made.variables(), 2);
-    assert_eq!(rt; made.clauses(), 3);
-    assert_eq!(rt; made.lines().len(), 1);
-    for found in made.lines() {
-        assert_eq!(rt;
-            found.literals(),
-            line(alloc, &[(2, false)], &[])?.literals()
-        );
-        assert_eq!(rt; found.hints(), [1, 2].as_slice());
-    }
-    assert_eq!(rt; made.tree().nodes(), nodes.as_slice());
-    Ok(())
-}
-
 /// Whether a refutation of one leaf is made with these counts.
 fn has_counts(alloc: Global, variables: u32, clauses: u32) -> Result<bool, Fail> {
     let nodes = [Node::Leaf(1)].to_vec(alloc)?;
@@ -138,15 +116,5 @@ fn deepest_node(rt: HostRuntime) -> Result<(), Fail> {
             assert_eq!(rt; made, depth == 64, "{depth} {second}");
         }
     }
-    Ok(())
-}
-
-/// The words of each fault.
-#[test]
-fn texts_of_faults(rt: HostRuntime) -> Result<(), Fail> {
-    let memory = format!(in rt.alloc(); "{}", MakeRefutationFault::Memory)?;
-    assert_eq!(rt; memory.as_str(), "memory");
-    let too_large = format!(in rt.alloc(); "{}", MakeRefutationFault::TooLarge)?;
-    assert_eq!(rt; too_large.as_str(), "too large");
     Ok(())
 }

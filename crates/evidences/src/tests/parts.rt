@@ -1,7 +1,9 @@
 //! Texts whose proof lines are read in parts.
 use super::{column, lines, told_of};
 use prooflog::read_evidence_in;
+use std::alloc::Global;
 use std::test::Fail;
+use std::thread::Threads;
 
 /// What follows `evidence 1`, with what is told of it. Some lines are long, so that a part may hold none.
 const TEXTS: &str = "\
@@ -18,18 +20,38 @@ refutation 2 3/ | evidence line 3 syntax
 refutation 2 3/line : 1/tree/leaf 1/tree/ | evidence line 6 syntax
 schedule/issue 0/issue 1/match 1 2/ | read";
 
+/// What is told of the text, read in so many parts.
+fn told_in(
+    rt: &(impl Threads + Sync),
+    alloc: Global,
+    text: &str,
+    parts: usize,
+) -> Result<String, Fail> {
+    let read = read_evidence_in(rt, alloc, text.as_bytes(), parts);
+    told_of(alloc, text.as_bytes(), read)
+}
+
+/// Whether this is told of the text, read in any number of parts.
+fn is_told(
+    rt: &(impl Threads + Sync),
+    alloc: Global,
+    text: &str,
+    wanted: &str,
+) -> Result<bool, Fail> {
+    let text = lines(alloc, &format!(in alloc; "evidence 1/{text}")?)?;
+    for parts in [0, 1, 2, 3, 4, 5, 9, 64] {
+        if told_in(rt, alloc, text.as_str(), parts)?.as_str() != wanted {
+            return Ok(false);
+        }
+    }
+    Ok(true)
+}
+
 #[test]
 fn is_read_in_any_number_of_parts(rt: HostRuntime) -> Result<(), Fail> {
-    let alloc = rt.alloc();
     for row in TEXTS.lines() {
         let (text, wanted) = column(row)?;
-        let text = lines(alloc, &format!(in alloc; "evidence 1/{text}")?)?;
-        let bytes = text.as_bytes();
-        for parts in [0, 1, 2, 3, 4, 5, 9, 64] {
-            let read = read_evidence_in(&rt, alloc, bytes, parts);
-            let told = told_of(alloc, bytes, read)?;
-            assert_eq!(rt; told.as_str(), wanted, "{parts} parts: {row}");
-        }
+        assert!(rt; is_told(&rt, rt.alloc(), text, wanted)?, "{row}");
     }
     Ok(())
 }

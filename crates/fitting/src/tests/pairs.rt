@@ -1,6 +1,6 @@
 //! Fitting pairs.
 use super::programs::{many, program_of};
-use candidates::{MOST_PAIRS, Pairs, pairs};
+use candidates::{MOST_PAIRS, PairFault, Pairs, pairs};
 use std::alloc::{AllocError, Global};
 use std::process::Abort;
 use std::test::Fail;
@@ -27,11 +27,17 @@ fn told_pairs(alloc: Global, pairs: &Pairs) -> Result<String, AllocError> {
     Ok(told)
 }
 
-/// The pairs of a program are these.
-fn judge_pairs(rt: &impl Abort, alloc: Global, text: &str, want: &str) -> Result<(), Fail> {
+/// The pairs of the program of a text, as text.
+fn told_of(alloc: Global, text: &str) -> Result<String, Fail> {
     let program = program_of(alloc, text)?;
     let pairs = pairs(alloc, &program)?;
-    assert_eq!(rt; told_pairs(alloc, &pairs)?.as_str(), want, "{text}");
+    Ok(told_pairs(alloc, &pairs)?)
+}
+
+/// The pairs of a program are these.
+fn judge_pairs(rt: &impl Abort, alloc: Global, text: &str, want: &str) -> Result<(), Fail> {
+    let told = told_of(alloc, text)?;
+    assert_eq!(rt; told.as_str(), want, "{text}");
     Ok(())
 }
 
@@ -71,55 +77,60 @@ fn pairs_by_send_then_by_taker(rt: HostRuntime) -> Result<(), Fail> {
     judge_pairs(&rt, alloc, "ranks 1\npolicy any\nrank 0\n", "")
 }
 
-/// The pairs with this call as their send, and those with it as their taker, are these.
-fn judge_call(
-    rt: &impl Abort,
-    alloc: Global,
-    pairs: &Pairs,
-    call: usize,
-    with_send: &str,
-    with_taker: &str,
-) -> Result<(), Fail> {
+/// The pairs with this call as their send, and those with it as their taker.
+fn told_call(alloc: Global, pairs: &Pairs, call: usize) -> Result<String, Fail> {
     let sends = told_places(alloc, pairs.with_send(call))?;
     let takers = told_places(alloc, pairs.with_taker(call))?;
-    assert_eq!(rt; sends.as_str(), with_send, "{call}");
-    assert_eq!(rt; takers.as_str(), with_taker, "{call}");
-    Ok(())
+    Ok(format!(in alloc; "{sends} |{takers}\n")?)
+}
+
+/// The same of the first five calls, after the number of pairs.
+fn told_calls(alloc: Global, pairs: &Pairs) -> Result<String, Fail> {
+    let mut told = format!(in alloc; "{}\n", pairs.len())?;
+    for call in 0..5 {
+        told.push_str(told_call(alloc, pairs, call)?.as_str())?;
+    }
+    Ok(told)
+}
+
+/// The same of the program of a text.
+fn told_calls_of(alloc: Global, text: &str) -> Result<String, Fail> {
+    let program = program_of(alloc, text)?;
+    let pairs = pairs(alloc, &program)?;
+    told_calls(alloc, &pairs)
 }
 
 #[test]
 fn pairs_of_a_call(rt: HostRuntime) -> Result<(), Fail> {
     let text = "ranks 2\npolicy any\nrank 0\nsend 1 1\nsend 1 2\nrank 1\nrecv 0 *\nrecv 0 2\n";
-    let alloc = rt.alloc();
-    let program = program_of(alloc, text)?;
-    let pairs = pairs(alloc, &program)?;
-    assert_eq!(rt; pairs.len(), 3);
-    judge_call(&rt, alloc, &pairs, 0, " 0", "")?;
-    judge_call(&rt, alloc, &pairs, 1, " 1 2", "")?;
-    judge_call(&rt, alloc, &pairs, 2, "", " 0 1")?;
-    judge_call(&rt, alloc, &pairs, 3, "", " 2")?;
-    judge_call(&rt, alloc, &pairs, 4, "", "")
+    let told = told_calls_of(rt.alloc(), text)?;
+    assert_eq!(rt; told.as_str(), "3\n 0 |\n 1 2 |\n | 0 1\n | 2\n |\n");
+    Ok(())
+}
+
+/// How many pairs a program of so many sends and receives has, and how many the last send and the first receive; none where
+/// there are too many.
+fn counts_of(
+    alloc: Global,
+    sends: usize,
+    receives: usize,
+) -> Result<Option<(usize, usize, usize)>, Fail> {
+    let program = program_of(alloc, many(alloc, sends, receives)?.as_str())?;
+    match pairs(alloc, &program) {
+        Ok(pairs) => {
+            let last = pairs.with_send(sends.saturating_sub(1)).len();
+            Ok(Some((pairs.len(), last, pairs.with_taker(sends).len())))
+        }
+        Err(PairFault::TooMany) => Ok(None),
+        Err(PairFault::Memory) => Err(Fail::from("no memory")),
+    }
 }
 
 #[test]
 fn most_pairs(rt: HostRuntime) -> Result<(), Fail> {
-    let alloc = rt.alloc();
-    let program = program_of(alloc, many(alloc, 128, 64)?.as_str())?;
-    let pairs = pairs(alloc, &program)?;
-    assert_eq!(rt; pairs.len(), MOST_PAIRS);
-    assert_eq!(rt; pairs.with_send(127).len(), 64);
-    assert_eq!(rt; pairs.with_taker(128).len(), 128);
-    Ok(())
-}
-
-#[test]
-fn too_many_pairs(rt: HostRuntime) -> Result<(), Fail> {
-    let alloc = rt.alloc();
-    let program = program_of(alloc, many(alloc, 91, 91)?.as_str())?;
-    let told = match pairs(alloc, &program) {
-        Ok(_pairs) => format!(in alloc; "few pairs")?,
-        Err(fault) => format!(in alloc; "{fault}")?,
-    };
-    assert_eq!(rt; told.as_str(), "pairs too many");
+    let most = counts_of(rt.alloc(), 128, 64)?;
+    let more = counts_of(rt.alloc(), 91, 91)?;
+    assert_eq!(rt; most, Some((MOST_PAIRS, 64, 128)));
+    assert_eq!(rt; more, None);
     Ok(())
 }

@@ -4,6 +4,7 @@ use clauses::{Clause, Formula, Lit};
 use joining::joining_lines;
 use refutations::{Line, Node, ProofTree, check_refutation};
 use std::alloc::Global;
+use std::process::Abort;
 use std::test::Fail;
 
 fn line_text(alloc: Global, line: &Line) -> Result<String, Fail> {
@@ -58,73 +59,58 @@ fn joined(
     Ok(text)
 }
 
-#[test]
-fn an_empty_line_needs_no_other(rt: HostRuntime) -> Result<(), Fail> {
-    let alloc = rt.alloc();
-    let formula = formula(alloc, 3, "1,-1 -2,2")?;
-    let mut lines = Vec::new(alloc);
-    lines.push(Line::make(alloc, &[], &[1, 3, 2])?)?;
-    assert_eq!(rt; joined(alloc, &formula, lines, "4")?.as_str(), "");
+/// The lines that join this tree over clauses with a `,` between them, after these lines.
+fn told(alloc: Global, clauses: &str, lines: Vec<Line>, nodes: &str) -> Result<String, Fail> {
+    let formula = formula(alloc, 3, clauses)?;
+    joined(alloc, &formula, lines, nodes)
+}
+
+/// The same with no lines before it.
+fn assert_joined(
+    rt: &impl Abort,
+    alloc: Global,
+    clauses: &str,
+    nodes: &str,
+    wanted: &str,
+) -> Result<(), Fail> {
+    let told = told(alloc, clauses, Vec::new(alloc), nodes)?;
+    assert_eq!(rt; told.as_str(), wanted, "{nodes}");
     Ok(())
 }
 
 #[test]
-fn an_empty_clause_of_the_formula(rt: HostRuntime) -> Result<(), Fail> {
+fn splits(rt: HostRuntime) -> Result<(), Fail> {
     let alloc = rt.alloc();
-    let formula = formula(alloc, 3, "1,")?;
-    assert_eq!(rt;
-        joined(alloc, &formula, Vec::new(alloc), "2")?.as_str(),
-        ": 2;"
-    );
-    assert_eq!(rt;
-        joined(alloc, &formula, Vec::new(alloc), "s3 2 2")?.as_str(),
-        ": 2;"
-    );
-    Ok(())
-}
-
-#[test]
-fn two_splits(rt: HostRuntime) -> Result<(), Fail> {
-    let alloc = rt.alloc();
-    let whole = formula(alloc, 3, "1 2,1 -2,-1 2,-1 -2")?;
-    assert_eq!(rt;
-        joined(alloc, &whole, Vec::new(alloc), "s1 s2 4 3 s2 2 1")?.as_str(),
-        "1 : 2 1;-1 : 4 3;: 6 5;"
-    );
-    let short = formula(alloc, 3, "-1,-1 2,1")?;
-    assert_eq!(rt;
-        joined(alloc, &short, Vec::new(alloc), "s1 s2 1 2 3")?.as_str(),
-        ": 1 3;"
-    );
-    Ok(())
+    assert_joined(&rt, alloc, "1,", "2", ": 2;")?;
+    assert_joined(&rt, alloc, "1,", "s3 2 2", ": 2;")?;
+    let four = "1 2,1 -2,-1 2,-1 -2";
+    assert_joined(
+        &rt,
+        alloc,
+        four,
+        "s1 s2 4 3 s2 2 1",
+        "1 : 2 1;-1 : 4 3;: 6 5;",
+    )?;
+    assert_joined(&rt, alloc, "-1,-1 2,1", "s1 s2 1 2 3", ": 1 3;")?;
+    assert_joined(&rt, alloc, "-1 -3,1 3,-1,1", "s1 s1 3 s3 1 2 4", ": 3 4;")?;
+    let five = "-1 -2 -3,1 3,1 2,-1,1";
+    assert_joined(&rt, alloc, five, "s1 s1 4 s2 s3 1 2 3 5", ": 4 5;")
 }
 
 #[test]
 fn lines_before_those_added(rt: HostRuntime) -> Result<(), Fail> {
     let alloc = rt.alloc();
-    let formula = formula(alloc, 3, "1 2,1 -2,-1 2,-1 -2")?;
-    let mut lines = Vec::new(alloc);
-    lines.push(Line::make(alloc, &[literal("1")?], &[1, 2])?)?;
-    assert_eq!(rt;
-        joined(alloc, &formula, lines, "s3 s1 s2 4 3 5 s1 s2 4 3 5")?.as_str(),
-        "-1 : 4 3;: 6 5;-1 : 4 3;: 8 5;"
-    );
-    Ok(())
-}
-
-#[test]
-fn a_variable_split_twice(rt: HostRuntime) -> Result<(), Fail> {
-    let alloc = rt.alloc();
-    let two = formula(alloc, 3, "-1 -3,1 3,-1,1")?;
-    assert_eq!(rt;
-        joined(alloc, &two, Vec::new(alloc), "s1 s1 3 s3 1 2 4")?.as_str(),
-        ": 3 4;"
-    );
-    let three = formula(alloc, 3, "-1 -2 -3,1 3,1 2,-1,1")?;
-    assert_eq!(rt;
-        joined(alloc, &three, Vec::new(alloc), "s1 s1 4 s2 s3 1 2 3 5")?.as_str(),
-        ": 4 5;"
-    );
+    let lines = vec![in alloc; Line::make(alloc, &[], &[1, 3, 2])?]?;
+    let none = told(alloc, "1,-1 -2,2", lines, "4")?;
+    assert_eq!(rt; none.as_str(), "");
+    let lines = vec![in alloc; Line::make(alloc, &[literal("1")?], &[1, 2])?]?;
+    let told = told(
+        alloc,
+        "1 2,1 -2,-1 2,-1 -2",
+        lines,
+        "s3 s1 s2 4 3 5 s1 s2 4 3 5",
+    )?;
+    assert_eq!(rt; told.as_str(), "-1 : 4 3;: 6 5;-1 : 4 3;: 8 5;");
     Ok(())
 }
 
@@ -155,20 +141,43 @@ fn put_nodes(nodes: &mut Vec<Node>, leaf: u32) -> Result<(), Fail> {
     Ok(())
 }
 
-#[test]
-fn a_tree_of_4096_leaves(rt: HostRuntime) -> Result<(), Fail> {
-    let alloc = rt.alloc();
+/// The formula that has the clause of each leaf.
+fn each_leaf(alloc: Global) -> Result<Formula, Fail> {
     let mut clauses = Vec::new(alloc);
-    let mut nodes = Vec::new(alloc);
     for leaf in 0..1_u32 << VARIABLES {
         clauses.push(clause_of(alloc, leaf)?)?;
+    }
+    Ok(Formula::make(VARIABLES, clauses).map_err(|_clauses| "no formula")?)
+}
+
+/// The full tree.
+fn full_tree(alloc: Global) -> Result<ProofTree, Fail> {
+    let mut nodes = Vec::new(alloc);
+    for leaf in 0..1_u32 << VARIABLES {
         put_nodes(&mut nodes, leaf)?;
     }
-    let formula = Formula::make(VARIABLES, clauses).map_err(|_clauses| "no formula")?;
-    let tree = ProofTree::make(nodes).map_err(|_nodes| "no tree")?;
-    assert!(rt; check_refutation(alloc, &formula, &[], &tree).is_ok());
-    let added = joining_lines(alloc, &formula, &[], &tree)?;
-    assert_eq!(rt; added.len(), 4095);
-    assert!(rt; refutes_without_tree(alloc, &formula, added.as_slice())?);
+    Ok(ProofTree::make(nodes).map_err(|_nodes| "no tree")?)
+}
+
+/// How many lines join the full tree, where both it and they are accepted.
+fn joining_count(alloc: Global, formula: &Formula, tree: &ProofTree) -> Result<usize, Fail> {
+    check_refutation(alloc, formula, &[], tree)?;
+    let added = joining_lines(alloc, formula, &[], tree)?;
+    if refutes_without_tree(alloc, formula, added.as_slice())? {
+        return Ok(added.len());
+    }
+    Err(Fail::from("not joined"))
+}
+
+/// The same of the formula of all leaves.
+fn count_of_leaves(alloc: Global, formula: &Formula) -> Result<usize, Fail> {
+    let tree = full_tree(alloc)?;
+    joining_count(alloc, formula, &tree)
+}
+
+#[test]
+fn a_tree_of_4096_leaves(rt: HostRuntime) -> Result<(), Fail> {
+    let formula = each_leaf(rt.alloc())?;
+    assert_eq!(rt; count_of_leaves(rt.alloc(), &formula)?, 4095);
     Ok(())
 }

@@ -4,6 +4,7 @@ use refutations::{Line, LineList};
 use std::alloc::Global;
 use std::test::Fail;
 use std::thread;
+use std::thread::Threads;
 
 /// Lines without literals, each with one hint: these numbers from `first` on.
 fn numbered(alloc: Global, first: u32, count: u32) -> Result<Vec<Line>, Fail> {
@@ -71,41 +72,36 @@ fn extended_tells(alloc: Global, count: u32, taken: usize) -> Result<bool, Fail>
     Ok(tells(&extended, 0, taken.wrapping_add(count as usize)))
 }
 
-#[test]
-fn no_lines(rt: HostRuntime) -> Result<(), Fail> {
-    let alloc = rt.alloc();
-    let log = log_of(alloc, 0)?;
-    assert!(rt; tells(&log, 0, 0));
-    assert!(rt; after_tells(alloc, &log, 0, 0)?);
-    assert!(rt; vector_tells(alloc, 0)?);
-    Ok(())
+/// Whether a log of so many lines, and then of one more, tells them, and those after each of these places; and whether a list taken
+/// before still tells what it did.
+fn one_more_tells(alloc: Global, count: u32, places: &[u32]) -> Result<bool, Fail> {
+    let mut log = log_of(alloc, count)?;
+    let before = lines_after(alloc, &log, 0)?;
+    grow(alloc, &mut log, 1)?;
+    let all = log.len();
+    Ok(
+        tells(&before, 0, count as usize)
+            && tells(&log, 0, (count as usize).saturating_add(1))
+            && all_after_tell(alloc, &log, all, places)?,
+    )
+}
+
+/// Whether the lines after each of these places are told, where the log has so many.
+fn all_after_tell(alloc: Global, log: &Log, all: usize, places: &[u32]) -> Result<bool, Fail> {
+    for place in places {
+        if !after_tells(alloc, log, *place, all.saturating_sub(*place as usize))? {
+            return Ok(false);
+        }
+    }
+    Ok(true)
 }
 
 #[test]
-fn a_page_becomes_full(rt: HostRuntime) -> Result<(), Fail> {
+fn one_line_more(rt: HostRuntime) -> Result<(), Fail> {
     let alloc = rt.alloc();
-    let mut log = log_of(alloc, 255)?;
-    let open = lines_after(alloc, &log, 0)?;
-    grow(alloc, &mut log, 1)?;
-    assert!(rt; tells(&log, 0, 256));
-    assert!(rt; after_tells(alloc, &log, 0, 256)?);
-    assert!(rt; after_tells(alloc, &log, 255, 1)?);
-    assert!(rt; after_tells(alloc, &log, 256, 0)?);
-    assert!(rt; tells(&open, 0, 255));
-    Ok(())
-}
-
-#[test]
-fn lines_after_a_full_page(rt: HostRuntime) -> Result<(), Fail> {
-    let alloc = rt.alloc();
-    let mut log = log_of(alloc, 256)?;
-    let full = lines_after(alloc, &log, 0)?;
-    grow(alloc, &mut log, 1)?;
-    assert!(rt; tells(&log, 0, 257));
-    assert!(rt; after_tells(alloc, &log, 255, 2)?);
-    assert!(rt; after_tells(alloc, &log, 256, 1)?);
-    assert!(rt; after_tells(alloc, &log, 257, 0)?);
-    assert!(rt; tells(&full, 0, 256));
+    assert!(rt; one_more_tells(alloc, 0, &[0, 1])?);
+    assert!(rt; one_more_tells(alloc, 255, &[0, 255, 256])?);
+    assert!(rt; one_more_tells(alloc, 256, &[255, 256, 257])?);
     Ok(())
 }
 
@@ -117,18 +113,23 @@ fn lines_from_a_vector(rt: HostRuntime) -> Result<(), Fail> {
     Ok(())
 }
 
+/// Whether a log that grows by batches tells its lines each time, and those after each of these places at the end.
+fn batches_tell(alloc: Global, batches: &[u32], places: &[u32]) -> Result<bool, Fail> {
+    let mut log = Log::new(alloc);
+    for batch in batches {
+        grow(alloc, &mut log, *batch)?;
+        if !tells(&log, 0, log.len()) {
+            return Ok(false);
+        }
+    }
+    all_after_tell(alloc, &log, 1_000, places)
+}
+
 #[test]
 fn batches(rt: HostRuntime) -> Result<(), Fail> {
-    let alloc = rt.alloc();
-    let mut log = Log::new(alloc);
-    for batch in [1, 7, 300, 1, 7, 300, 84, 300] {
-        grow(alloc, &mut log, batch)?;
-        assert!(rt; tells(&log, 0, log.len()));
-    }
-    assert!(rt; tells(&log, 0, 1_000));
-    for from in [1u32, 255, 256, 257, 511, 512, 767, 768, 999, 1_000] {
-        assert!(rt; after_tells(alloc, &log, from, 1_000usize.saturating_sub(from as usize))?);
-    }
+    let batches = [1, 7, 300, 1, 7, 300, 84, 300];
+    let places = [0, 1, 255, 256, 257, 511, 512, 767, 768, 999, 1_000];
+    assert!(rt; batches_tell(rt.alloc(), &batches, &places)?);
     Ok(())
 }
 
@@ -142,19 +143,21 @@ fn lines_after_a_log(rt: HostRuntime) -> Result<(), Fail> {
     Ok(())
 }
 
-/// The log grows, and a list that was taken from it is read, at the same time.
-#[test]
-fn lines_read_by_another_thread(rt: HostRuntime) -> Result<(), Fail> {
-    let alloc = rt.alloc();
-    let mut log = log_of(alloc, 300)?;
+/// Whether a list that was taken from a log is read right by another thread while the log grows.
+fn is_read_beside(rt: &(impl Threads + Sync), alloc: Global, mut log: Log) -> Result<bool, Fail> {
     let lines = lines_after(alloc, &log, 10)?;
     let more = numbered(alloc, 301, 300)?;
     let (read, grown) = thread::join(
-        &rt,
+        rt,
         move || tells(&lines, 10, 290),
         move || log.append(alloc, more).is_ok() && tells(&log, 0, 600),
     );
-    assert!(rt; read);
-    assert!(rt; grown);
+    Ok(read && grown)
+}
+
+#[test]
+fn lines_read_by_another_thread(rt: HostRuntime) -> Result<(), Fail> {
+    let log = log_of(rt.alloc(), 300)?;
+    assert!(rt; is_read_beside(&rt, rt.alloc(), log)?);
     Ok(())
 }

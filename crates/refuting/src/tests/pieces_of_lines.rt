@@ -2,7 +2,7 @@
 ghost use Rattle.std.specs.Prelude.{◌≤◌, ◌<◌};
 
 use super::texts::one_send;
-use pieces::{LinesFault, PieceGate, check_all, check_piece, check_pieces};
+use pieces::{LinesFault, PieceGate, check_piece, check_pieces};
 use refutations::Line;
 use std::alloc::Global;
 use std::sync::atomic::{AtomicBool, AtomicUsize, Ordering};
@@ -53,12 +53,6 @@ impl PieceGate for Turns {
 fn push_line(alloc: Global, lines: &mut Vec<Line>, hints: &[u32]) -> Result<(), Fail> {
     lines.push(Line::make(alloc, &[], hints)?)?;
     Ok(())
-}
-
-fn derived_line(alloc: Global) -> Result<Vec<Line>, Fail> {
-    let mut lines = Vec::new(alloc);
-    push_line(alloc, &mut lines, &[1, 3, 2])?;
-    Ok(lines)
 }
 
 /// Four lines, of which the second has no conflict and the fourth an idle hint.
@@ -117,18 +111,6 @@ fn the_first_fault_in_any_pieces(rt: HostRuntime) -> Result<(), Fail> {
 }
 
 #[test]
-fn derived_in_any_pieces(rt: HostRuntime) -> Result<(), Fail> {
-    let alloc = rt.alloc();
-    let lines = derived_line(alloc)?;
-    for pieces in 1..65 {
-        let told = told(&rt, alloc, lines.as_slice(), pieces, &Open)?;
-        assert_eq!(rt; told.as_str(), "derived");
-    }
-    assert_eq!(rt; told(&rt, alloc, &[], 3, &Open)?.as_str(), "derived");
-    Ok(())
-}
-
-#[test]
 fn pieces_have_faults_of_their_own(rt: HostRuntime) -> Result<(), Fail> {
     let alloc = rt.alloc();
     let told = told_of_piece(alloc, 4, 0)?;
@@ -137,19 +119,6 @@ fn pieces_have_faults_of_their_own(rt: HostRuntime) -> Result<(), Fail> {
     assert_eq!(rt; told.as_str(), "proof line 5 no conflict");
     let told = told_of_piece(alloc, 2, 1)?;
     assert_eq!(rt; told.as_str(), "proof line 7 hint 2 idle");
-    Ok(())
-}
-
-#[test]
-fn all_lines_without_threads(rt: HostRuntime) -> Result<(), Fail> {
-    let alloc = rt.alloc();
-    let formula = one_send(alloc)?;
-    let lines = derived_line(alloc)?;
-    let told = as_text(alloc, check_all(alloc, &formula, lines.as_slice()))?;
-    assert_eq!(rt; told.as_str(), "derived");
-    let lines = four_lines(alloc)?;
-    let told = as_text(alloc, check_all(alloc, &formula, lines.as_slice()))?;
-    assert_eq!(rt; told.as_str(), "proof line 5 no conflict");
     Ok(())
 }
 

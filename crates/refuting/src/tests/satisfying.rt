@@ -80,32 +80,6 @@ fn are_kept(alloc: Global, words: &str, rises: bool) -> Result<bool, Fail> {
     }
 }
 
-/// Literals in a vector are kept where their variables rise strictly, and come back where they don't.
-#[test]
-fn clauses_from_vectors(rt: HostRuntime) -> Result<(), Fail> {
-    let alloc = rt.alloc();
-    for words in ", -2147483647, -1 4 -5".split(',') {
-        assert!(rt; are_kept(alloc, words, true)?, "{words}");
-    }
-    for words in "2 1, 1 1, 1 3 -3, 3 7 5".split(',') {
-        assert!(rt; are_kept(alloc, words, false)?, "{words}");
-    }
-    Ok(())
-}
-
-#[test]
-fn texts_of_faults(rt: HostRuntime) -> Result<(), Fail> {
-    let cases = [
-        (ClauseFault::Memory, "memory"),
-        (ClauseFault::Order, "order"),
-    ];
-    for (fault, text) in cases {
-        let shown = format!(in rt.alloc(); "{fault}")?;
-        assert_eq!(rt; shown.as_str(), text);
-    }
-    Ok(())
-}
-
 /// The clauses `1 -2`, `2 3` and `-1 -3`.
 fn three_clauses(alloc: Global) -> Result<Vec<Clause>, Fail> {
     let mut clauses = Vec::new(alloc);
@@ -149,23 +123,6 @@ fn clauses_by_number(rt: HostRuntime) -> Result<(), Fail> {
     assert!(rt; are_numbered(alloc, 4_294_967_295)?);
     let empty = formula_of(0, Vec::new(alloc))?;
     assert!(rt; empty.len() == 0 && empty.clause(1).is_none());
-    Ok(())
-}
-
-/// Whether the three clauses come back, and no formula over so many variables is made of them.
-fn come_back(alloc: Global, variables: u32) -> Result<bool, Fail> {
-    let second = literals(alloc, "2 3")?;
-    match Formula::make(variables, three_clauses(alloc)?) {
-        Ok(_formula) => Ok(false),
-        Err(clauses) => Ok(clauses.len() == 3 && clauses[1].literals() == second.as_slice()),
-    }
-}
-
-#[test]
-fn clauses_come_back(rt: HostRuntime) -> Result<(), Fail> {
-    let alloc = rt.alloc();
-    assert!(rt; come_back(alloc, 0)?);
-    assert!(rt; come_back(alloc, 2)?);
     Ok(())
 }
 
@@ -214,28 +171,6 @@ fn values_past_the_list(rt: HostRuntime) -> Result<(), Fail> {
     let last = literal("2147483647")?;
     let two = assignment(alloc, "11")?;
     assert!(rt; are_two(&two) && !two.holds(&last) && two.holds(&last.negated()));
-    Ok(())
-}
-
-/// Whether the formula of this clause alone, over no variables, is satisfied, or the clause is.
-fn satisfies_either(alloc: Global, assignment: &Assignment, clause: Clause) -> Result<bool, Fail> {
-    let is_satisfied = assignment.satisfies_clause(&clause);
-    let mut clauses = Vec::new(alloc);
-    clauses.push(clause)?;
-    Ok(is_satisfied || assignment.satisfies(&formula_of(0, clauses)?))
-}
-
-/// Whether the formula of no clauses is satisfied.
-fn satisfies_none(alloc: Global, assignment: &Assignment) -> Result<bool, Fail> {
-    Ok(assignment.satisfies(&formula_of(0, Vec::new(alloc))?))
-}
-
-#[test]
-fn empty_clause_and_empty_formula(rt: HostRuntime) -> Result<(), Fail> {
-    let alloc = rt.alloc();
-    let assignment = assignment(alloc, "1")?;
-    assert!(rt; satisfies_none(alloc, &assignment)?);
-    assert!(rt; !satisfies_either(alloc, &assignment, clause(alloc, "")?)?);
     Ok(())
 }
 

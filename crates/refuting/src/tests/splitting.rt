@@ -3,7 +3,7 @@ use clauses::Lit;
 use refutations::{Node, is_numbered};
 use std::alloc::Global;
 use std::test::Fail;
-use trees::{Kind, SplitFault, Tree};
+use trees::{SplitFault, Tree};
 
 /// The numbers of the new leaves, or the refusal.
 fn split(alloc: Global, tree: &mut Tree, leaf: u32, variable: u32) -> Result<String, Fail> {
@@ -40,25 +40,41 @@ fn paths(alloc: Global, tree: &Tree) -> Result<String, Fail> {
     Ok(text)
 }
 
+/// Splits the root by 2 and its second child by 1, and tells the new leaves and the paths of all nodes each time.
+fn told_splits(alloc: Global, tree: &mut Tree) -> Result<String, Fail> {
+    let before = paths(alloc, tree)?;
+    let first = split(alloc, tree, 0, 2)?;
+    let between = paths(alloc, tree)?;
+    let second = split(alloc, tree, 2, 1)?;
+    let after = paths(alloc, tree)?;
+    Ok(format!(in alloc; "{before}/{first}{between}/{second}{after}")?)
+}
+
+/// The kinds of nodes 2 and 5, and which of nodes 2, 4 and 5 are leaves.
+fn told_kinds(alloc: Global, tree: &Tree) -> Result<String, Fail> {
+    let kinds = format!(in alloc; "{:?}/{:?}", tree.kind(2), tree.kind(5))?;
+    let leaves = (tree.is_leaf(2), tree.is_leaf(4), tree.is_leaf(5));
+    Ok(format!(in alloc; "{kinds}/{leaves:?}")?)
+}
+
+/// Both of a new tree over two variables.
+fn told_of_two(alloc: Global) -> Result<(String, String), Fail> {
+    let mut tree = Tree::new(alloc, 2)?;
+    let splits = told_splits(alloc, &mut tree)?;
+    Ok((splits, told_kinds(alloc, &tree)?))
+}
+
 #[test]
 fn splits_of_two_variables(rt: HostRuntime) -> Result<(), Fail> {
-    let alloc = rt.alloc();
-    let mut tree = Tree::new(alloc, 2)?;
-    assert_eq!(rt; paths(alloc, &tree)?.as_str(), " |");
-    assert_eq!(rt; split(alloc, &mut tree, 0, 2)?.as_str(), "1 2");
-    assert_eq!(rt; paths(alloc, &tree)?.as_str(), " | | 2 | -2");
-    assert_eq!(rt; split(alloc, &mut tree, 2, 1)?.as_str(), "3 4");
-    assert_eq!(rt; paths(alloc, &tree)?.as_str(), " | | 2 | -2 | 1 -2 | -1 -2");
+    let (splits, kinds) = told_of_two(rt.alloc())?;
     assert_eq!(rt;
-        tree.kind(2),
-        Some(Kind::Split {
-            variable: 1,
-            if_true: 3,
-            if_false: 4
-        })
+        splits.as_str(),
+        " |/1 2 | | 2 | -2/3 4 | | 2 | -2 | 1 -2 | -1 -2"
     );
-    assert_eq!(rt; tree.kind(5), None);
-    assert!(rt; tree.is_leaf(4) && !tree.is_leaf(2) && !tree.is_leaf(5));
+    assert_eq!(rt;
+        kinds.as_str(),
+        "Some(Split { variable: 1, if_true: 3, if_false: 4 })/None/(false, true, false)"
+    );
     Ok(())
 }
 
@@ -85,18 +101,22 @@ fn preorder_text(alloc: Global, tree: &Tree, numbers: &[u32]) -> Result<String, 
     Ok(text)
 }
 
+/// The preorder of a new tree over three variables, and that after three splits.
+fn told_preorders(alloc: Global) -> Result<(String, String), Fail> {
+    let mut tree = Tree::new(alloc, 3)?;
+    let before = preorder_text(alloc, &tree, &[7])?;
+    split(alloc, &mut tree, 0, 2)?;
+    split(alloc, &mut tree, 2, 1)?;
+    split(alloc, &mut tree, 1, 3)?;
+    let after = preorder_text(alloc, &tree, &[9, 9, 9, 13, 14, 15, 2_147_483_647])?;
+    Ok((before, after))
+}
+
 #[test]
 fn preorders(rt: HostRuntime) -> Result<(), Fail> {
-    let alloc = rt.alloc();
-    let mut tree = Tree::new(alloc, 3)?;
-    assert_eq!(rt; preorder_text(alloc, &tree, &[7])?.as_str(), " (7)");
-    let _first = split(alloc, &mut tree, 0, 2)?;
-    let _second = split(alloc, &mut tree, 2, 1)?;
-    let _third = split(alloc, &mut tree, 1, 3)?;
-    assert_eq!(rt;
-        preorder_text(alloc, &tree, &[9, 9, 9, 13, 14, 15, 2_147_483_647])?.as_str(),
-        " 2 3 (15) (2147483647) 1 (13) (14)"
-    );
+    let (before, after) = told_preorders(rt.alloc())?;
+    assert_eq!(rt; before.as_str(), " (7)");
+    assert_eq!(rt; after.as_str(), " 2 3 (15) (2147483647) 1 (13) (14)");
     Ok(())
 }
 
@@ -108,39 +128,46 @@ fn split_last(alloc: Global, tree: &mut Tree) -> Result<(), Fail> {
     Ok(())
 }
 
-#[test]
-fn longest_paths(rt: HostRuntime) -> Result<(), Fail> {
-    let alloc = rt.alloc();
+/// What splits of the deepest leaves and of one above them tell, with the number of nodes before and after.
+fn told_deepest(alloc: Global) -> Result<String, Fail> {
     let mut tree = Tree::new(alloc, 1)?;
     split_last(alloc, &mut tree)?;
-    assert_eq!(rt; tree.len(), 129);
-    assert_eq!(rt; split(alloc, &mut tree, 128, 1)?.as_str(), "tree too many");
-    assert_eq!(rt; split(alloc, &mut tree, 127, 1)?.as_str(), "tree too many");
-    assert_eq!(rt; tree.len(), 129);
-    assert_eq!(rt; split(alloc, &mut tree, 125, 1)?.as_str(), "129 130");
+    let one = split(alloc, &mut tree, 128, 1)?;
+    let other = split(alloc, &mut tree, 127, 1)?;
+    let count = tree.len();
+    let above = split(alloc, &mut tree, 125, 1)?;
+    Ok(format!(in alloc; "{one}/{other}/{count}/{above}")?)
+}
+
+#[test]
+fn longest_paths(rt: HostRuntime) -> Result<(), Fail> {
+    let told = told_deepest(rt.alloc())?;
+    assert_eq!(rt; told.as_str(), "tree too many/tree too many/129/129 130");
     Ok(())
+}
+
+/// What one split more tells where there are 65,535 nodes, with the number of nodes before and after.
+fn told_largest(alloc: Global) -> Result<String, Fail> {
+    let mut tree = Tree::new(alloc, 1)?;
+    for leaf in 0..32_767u32 {
+        split(alloc, &mut tree, leaf, 1)?;
+    }
+    let before = tree.len();
+    let more = split(alloc, &mut tree, 40_000, 1)?;
+    let after = tree.len();
+    Ok(format!(in alloc; "{before}/{more}/{after}")?)
 }
 
 #[test]
 fn most_nodes(rt: HostRuntime) -> Result<(), Fail> {
-    let alloc = rt.alloc();
-    let mut tree = Tree::new(alloc, 1)?;
-    for leaf in 0..32_767u32 {
-        let _numbers = split(alloc, &mut tree, leaf, 1)?;
-    }
-    assert_eq!(rt; tree.len(), 65_535);
-    assert_eq!(rt;
-        split(alloc, &mut tree, 40_000, 1)?.as_str(),
-        "tree too many"
-    );
-    assert_eq!(rt; tree.len(), 65_535);
+    let told = told_largest(rt.alloc())?;
+    assert_eq!(rt; told.as_str(), "65535/tree too many/65535");
     Ok(())
 }
 
 #[test]
 fn texts_of_refusals(rt: HostRuntime) -> Result<(), Fail> {
-    let alloc = rt.alloc();
-    let memory = SplitFault::Memory;
-    assert_eq!(rt; format!(in alloc; "{memory}")?.as_str(), "memory");
+    let memory = format!(in rt.alloc(); "{}", SplitFault::Memory)?;
+    assert_eq!(rt; memory.as_str(), "memory");
     Ok(())
 }

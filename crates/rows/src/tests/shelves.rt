@@ -1,5 +1,5 @@
 //! Long contents, in pieces, and files that tell what they hold.
-use crate::{Disk, DiskFiles, Shelf, Trouble};
+use disk::{Disk, DiskFiles, Shelf, Trouble};
 use files::{FileSet, OpenFault, load, store};
 use std::alloc::{AllocError, Global};
 use std::cell::{Cell, RefCell};
