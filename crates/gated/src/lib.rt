@@ -1,4 +1,4 @@
-//! Tests of searches by several workers, which a gate holds back.
+//! Tests of searches by several workers, which a gate holds back, and of what is told meanwhile.
 #![tactic(auto)]
 
 #[cfg(test)]

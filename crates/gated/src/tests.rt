@@ -1,5 +1,7 @@
 //! In the programs' texts `/` stands for the end of a line.
 
+mod telling;
+
 use prover::{Answer, Gate, Options, Verdict, Why, prove, verdict};
 use std::alloc::Global;
 use std::sync::Wait;

@@ -159,7 +159,8 @@ fn answered<G: Gate + Sync, R: Threads + Wait + Sync>(
 /// buffer, whether they match or issue first, and which rank and which match comes first, and then for each rank one holds it back as long
 /// as it can. Where none ends stuck, as many workers as the options say search the cubes of the tree that `split` gives at the depth of the
 /// options, each with the budget of the options and in a thread of its own where one can be started. Cube k of the first tree, from 0 in the order of its
-/// nodes, goes to worker k modulo their number; a worker without cubes takes another's. `gate.before` is called before each cube.
+/// nodes, goes to worker k modulo their number; a worker without cubes takes another's. `gate.before` is called before each cube, and
+/// `gate.after` after each search below one.
 pub fn prove<G: Gate + Sync, R: Threads + Wait + Sync>(
     rt: &R,
     alloc: Global,

@@ -12,6 +12,7 @@ use std::str;
 use std::sync::Wait;
 use std::test::Fail;
 use std::thread::Threads;
+use std::time::Clock;
 
 /// A text whose lines end where a `/` stands.
 fn lines(alloc: Global, text: &str) -> Result<String, AllocError> {
@@ -26,7 +27,7 @@ fn column(row: &str) -> Result<(&str, &str), Fail> {
 /// Asserts that the words end with this status and print this line, that standard error stays empty,
 /// and that no file is written.
 fn assert_answer(
-    rt: &(impl Abort + Threads + Wait + Sync),
+    rt: &(impl Abort + Threads + Wait + Clock + Sync),
     alloc: Global,
     words: &str,
     scene: Scene<'_>,

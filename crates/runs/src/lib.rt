@@ -7,6 +7,7 @@ use std::alloc::{AllocError, Global};
 use std::cell::{Cell, RefCell};
 use std::sync::Wait;
 use std::thread::Threads;
+use std::time::Clock;
 
 /// What a run left.
 #[derive(Debug, Drop)]
@@ -56,7 +57,7 @@ const ROOM: usize = 4096;
 /// Runs the program with these words, which blanks part, after its own name. Fails where there is no memory for the words or
 /// for standard error; want of memory of the run itself is told by what it left.
 pub fn run(
-    rt: &(impl Threads + Wait + Sync),
+    rt: &(impl Threads + Wait + Clock + Sync),
     alloc: Global,
     words: &str,
     scene: Scene<'_>,

@@ -74,18 +74,22 @@ abbrev four : Walk → Text → Text → Text → Text → Walk
 four w file workers depth budget =
     valued (valued (valued (valued w (codes "--out") file) (codes "--workers") workers) (codes "--depth") depth) (codes "--budget") budget
 
--- the four options with values, and then `--json`
+-- `--progress` and `--json` after that
+abbrev with_flags : Walk → Walk
+with_flags w = walked prove_rules [] (walked prove_rules [] w (codes "--progress")) (codes "--json")
+
+-- the four options with values, and then `--progress` and `--json`
 abbrev option_words : Text → Text → Text → Text → List Text → List Text
 option_words file workers depth budget rest =
-    codes "--out" ∷ file ∷ codes "--workers" ∷ workers ∷ codes "--depth" ∷ depth ∷ codes "--budget" ∷ budget ∷ codes "--json" ∷ rest
+    codes "--out" ∷ file ∷ codes "--workers" ∷ workers ∷ codes "--depth" ∷ depth ∷ codes "--budget" ∷ budget ∷ codes "--progress" ∷ codes "--json" ∷ rest
 
 -- the options before the file
 abbrev options_first : Text → Text → Text → Text → Text → Walk
-options_first p file workers depth budget = after_free prove_rules (walked prove_rules [] (four start file workers depth budget) (codes "--json")) p
+options_first p file workers depth budget = after_free prove_rules (with_flags (four start file workers depth budget)) p
 
 -- the options after it
 abbrev options_last : Text → Text → Text → Text → Text → Walk
-options_last p file workers depth budget = walked prove_rules [] (four (after_free prove_rules start p) file workers depth budget) (codes "--json")
+options_last p file workers depth budget = with_flags (four (after_free prove_rules start p) file workers depth budget)
 
 first_four : (file workers depth budget : Text) → begins_with_hyphen file ≡ false → begins_with_hyphen workers ≡ false
     → begins_with_hyphen depth ≡ false → begins_with_hyphen budget ≡ false
@@ -109,8 +113,8 @@ first_walk : (p file workers depth budget : Text) → begins_with_hyphen p ≡ f
     → fold (walked prove_rules []) start (option_words file workers depth budget (p ∷ [])) ≡ options_first p file workers depth budget
 unfolding clap_on_literals
 first_walk p file workers depth budget fp ff fw fd fb =
-    ap (λ (w : Walk). walked prove_rules [] (walked prove_rules [] w (codes "--json")) p) (first_four file workers depth budget ff fw fd fb)
-    ∙ walked_free prove_rules (walked prove_rules [] (four start file workers depth budget) (codes "--json")) p refl refl fp
+    ap (λ (w : Walk). walked prove_rules [] (with_flags w) p) (first_four file workers depth budget ff fw fd fb)
+    ∙ walked_free prove_rules (with_flags (four start file workers depth budget)) p refl refl fp
 
 last_walk : (p file workers depth budget : Text) → begins_with_hyphen p ≡ false → begins_with_hyphen file ≡ false → begins_with_hyphen workers ≡ false
     → begins_with_hyphen depth ≡ false → begins_with_hyphen budget ≡ false
@@ -121,7 +125,7 @@ last_walk p file workers depth budget fp ff fw fd fb =
     let one = valued zero_th (codes "--out") file in
     let two = valued one (codes "--workers") workers in
     let three = valued two (codes "--depth") depth in
-    ap (λ (w : Walk). walked prove_rules [] w (codes "--json"))
+    ap with_flags
     (ap (λ (w : Walk). walked prove_rules [] (walked prove_rules [] w (codes "--budget")) budget)
     (ap (λ (w : Walk). walked prove_rules [] (walked prove_rules [] w (codes "--depth")) depth)
     (ap (λ (w : Walk). walked prove_rules [] (walked prove_rules [] w (codes "--workers")) workers)
@@ -133,18 +137,18 @@ last_walk p file workers depth budget fp ff fw fd fb =
 
 first_read : (p file workers depth budget : Text) (request : Request) → begins_with_hyphen workers ≡ false → begins_with_hyphen depth ≡ false
     → begins_with_hyphen budget ≡ false → Makes (codes "prove") (finished prove_rules (options_first p file workers depth budget).held) request
-    → IsProveOf p (Some file) true request × HasNumbers workers depth budget request
+    → IsProveOf p (Some file) true true request × HasNumbers workers depth budget request
 unfolding clap_on_literals
 first_read p file workers depth budget request fw fd fb makes =
-    prove_by (finished prove_rules (options_first p file workers depth budget).held) p (Some file) true workers depth budget request refl refl refl
+    prove_by (finished prove_rules (options_first p file workers depth budget).held) p (Some file) true true workers depth budget request refl refl refl refl
     (no_minus workers fw) (no_minus depth fd) (no_minus budget fb) makes
 
 last_read : (p file workers depth budget : Text) (request : Request) → begins_with_hyphen workers ≡ false → begins_with_hyphen depth ≡ false
     → begins_with_hyphen budget ≡ false → Makes (codes "prove") (finished prove_rules (options_last p file workers depth budget).held) request
-    → IsProveOf p (Some file) true request × HasNumbers workers depth budget request
+    → IsProveOf p (Some file) true true request × HasNumbers workers depth budget request
 unfolding clap_on_literals
 last_read p file workers depth budget request fw fd fb makes =
-    prove_by (finished prove_rules (options_last p file workers depth budget).held) p (Some file) true workers depth budget request refl refl refl
+    prove_by (finished prove_rules (options_last p file workers depth budget).held) p (Some file) true true workers depth budget request refl refl refl refl
     (no_minus workers fw) (no_minus depth fd) (no_minus budget fb) makes
 
 pub option_words_are_read : OptionWordsAreRead

@@ -2,9 +2,9 @@
 use Rattle.std.proofs.Common.{◌≡◌, inl, inr, true, false, List, [], ◌∷◌, Some, None, codes}
 use Rattle.clap.specs.Words.{Text, fault_of}
 use Rattle.session.specs.CommandLine.{AskFor, command_line}
-use Rattle.session.specs.Deadlocks.{AskToCheck, AskToCheckIn, AskToEncode, AskToExplain, AskToExport, AskToProve, AskToReplay, IsAnswered, PlainWordsAreAnswered}
+use Rattle.session.specs.Deadlocks.{AskToCheck, AskToCheckIn, AskToEncode, AskToExplain, AskToExport, AskToProveTelling, AskToReplay, IsAnswered, PlainWordsAreAnswered}
 use Rattle.session.specs.declared.request.Request.{Request}
-use Rattle.session.proofs.PlainFaults.{check_faultless, check_json_faultless, check_pieces_faultless, encode_dimacs_faultless, encode_faultless, explain_dot_faultless, explain_faultless, export_faultless, prove_faultless, prove_json_faultless, prove_out_faultless, replay_faultless}
+use Rattle.session.proofs.PlainFaults.{check_faultless, check_json_faultless, check_pieces_faultless, encode_dimacs_faultless, encode_faultless, explain_dot_faultless, explain_faultless, export_faultless, prove_faultless, prove_json_faultless, prove_out_faultless, prove_progress_faultless, replay_faultless}
 use Rattle.session.proofs.OptionWords.{option_words_are_read}
 use Rattle.session.proofs.PieceWords.{pieces_are_free}
 use Rattle.session.proofs.PlainWords.{plain_words_are_read}
@@ -50,12 +50,15 @@ plain_words_are_answered = record {
       answered (name ∷ codes "explain" ∷ p ∷ e ∷ codes "--dot" ∷ []) (λ words. AskToExplain words p e) (explain_dot_faultless name p e fp fe)
       (λ request asks. (request, true, asks, plain_words_are_read.explain_dot name p e request fp fe asks));
   prove = λ name p fp.
-      answered (name ∷ codes "prove" ∷ p ∷ []) (λ words. AskToProve words p None) (prove_faultless name p fp)
+      answered (name ∷ codes "prove" ∷ p ∷ []) (λ words. AskToProveTelling words p None false) (prove_faultless name p fp)
       (λ request asks. (request, false, asks, (plain_words_are_read.prove name p request fp asks).0));
   prove_as_json = λ name p fp.
-      answered (name ∷ codes "prove" ∷ p ∷ codes "--json" ∷ []) (λ words. AskToProve words p None) (prove_json_faultless name p fp)
+      answered (name ∷ codes "prove" ∷ p ∷ codes "--json" ∷ []) (λ words. AskToProveTelling words p None false) (prove_json_faultless name p fp)
       (λ request asks. (request, true, asks, (plain_words_are_read.prove_as_json name p request fp asks).0));
+  prove_progress = λ name p fp.
+      answered (name ∷ codes "prove" ∷ p ∷ codes "--progress" ∷ []) (λ words. AskToProveTelling words p None true) (prove_progress_faultless name p fp)
+      (λ request asks. (request, false, asks, (plain_words_are_read.prove_progress name p request fp asks).0));
   prove_out = λ name p file fp ff.
-      answered (name ∷ codes "prove" ∷ p ∷ codes "--out" ∷ file ∷ []) (λ words. AskToProve words p (Some file)) (prove_out_faultless name p file fp ff)
+      answered (name ∷ codes "prove" ∷ p ∷ codes "--out" ∷ file ∷ []) (λ words. AskToProveTelling words p (Some file) false) (prove_out_faultless name p file fp ff)
       (λ request asks. (request, false, asks, (plain_words_are_read.prove_out name p file request fp ff asks).0));
 }

@@ -242,6 +242,16 @@ prove_json_leaf p fp =
     leaf_by_walk prove_shape (p ∷ codes "--json" ∷ []) (walked prove_rules [] (prove_word p) (codes "--json")) turns
     (ap (λ (w : Walk). walked prove_rules [] w (codes "--json")) (prove_walk p fp))
 
+prove_progress_leaf : (p : Text) → begins_with_hyphen p ≡ false → leaf_fault prove_shape (p ∷ codes "--progress" ∷ []) ≡ []
+unfolding clap_on_literals
+prove_progress_leaf p fp =
+    let second : turn_fault prove_shape [] (walked prove_rules [] start p) (codes "--progress") ≡ [] =
+    ap (λ (w : Walk). turn_fault prove_shape [] w (codes "--progress")) (prove_walk p fp) in
+    let turns : walk_fault prove_shape [] start (p ∷ codes "--progress" ∷ []) ≡ [] =
+    ap₂ (λ (a b : Kinds). or_else a (or_else b [])) (prove_first p fp) second in
+    leaf_by_walk prove_shape (p ∷ codes "--progress" ∷ []) (walked prove_rules [] (prove_word p) (codes "--progress")) turns
+    (ap (λ (w : Walk). walked prove_rules [] w (codes "--progress")) (prove_walk p fp))
+
 prove_out_leaf : (p file : Text) → begins_with_hyphen p ≡ false → begins_with_hyphen file ≡ false
     → leaf_fault prove_shape (p ∷ codes "--out" ∷ file ∷ []) ≡ []
 unfolding clap_on_literals
@@ -308,6 +318,11 @@ pub prove_json_faultless : (name p : Text) → begins_with_hyphen p ≡ false
     → fault_of command_line (name ∷ codes "prove" ∷ p ∷ codes "--json" ∷ []) ≡ []
 unfolding clap_on_literals
 prove_json_faultless name p fp = ap (whole_fault (codes "prove" ∷ p ∷ codes "--json" ∷ [])) (prove_json_leaf p fp)
+
+pub prove_progress_faultless : (name p : Text) → begins_with_hyphen p ≡ false
+    → fault_of command_line (name ∷ codes "prove" ∷ p ∷ codes "--progress" ∷ []) ≡ []
+unfolding clap_on_literals
+prove_progress_faultless name p fp = ap (whole_fault (codes "prove" ∷ p ∷ codes "--progress" ∷ [])) (prove_progress_leaf p fp)
 
 pub prove_out_faultless : (name p file : Text) → begins_with_hyphen p ≡ false → begins_with_hyphen file ≡ false
     → fault_of command_line (name ∷ codes "prove" ∷ p ∷ codes "--out" ∷ file ∷ []) ≡ []

@@ -171,7 +171,7 @@ pub check_by : (rows : List Row) (program evidence : Text) (as_json : Bool) (req
     → IsCheckOf program evidence as_json request
 check_by rows program evidence as_json (ask.Check p e pieces json) is_p is_e is_json makes =
     (some_same (sym is_p ∙ makes.values.0), some_same (sym is_e ∙ makes.values.1), flag_is rows (codes "json") as_json json makes.values.2 is_json)
-check_by rows program evidence as_json (ask.Prove p out options json) is_p is_e is_json makes = absurd (prove_check (sym makes.command))
+check_by rows program evidence as_json (ask.Prove p out options progress json) is_p is_e is_json makes = absurd (prove_check (sym makes.command))
 check_by rows program evidence as_json (ask.Replay p e) is_p is_e is_json makes = absurd (check_replay makes.command)
 check_by rows program evidence as_json (ask.Encode p dimacs) is_p is_e is_json makes = absurd (encode_check (sym makes.command))
 check_by rows program evidence as_json (ask.Explain p e graph) is_p is_e is_json makes = absurd (explain_check (sym makes.command))
@@ -181,44 +181,50 @@ check_by rows program evidence as_json (ask.Export p e out) is_p is_e is_json ma
 pub pieces_by : (rows : List Row) (number : Text) (request : Request) → one_of (codes "pieces") rows ≡ Some number → Makes (codes "check") rows request
     → HasPieces number request
 pieces_by rows number (ask.Check p e pieces json) is makes = number_is rows (codes "pieces") number pieces.number makes.values.3 is
-pieces_by rows number (ask.Prove p out options json) is makes = absurd (prove_check (sym makes.command))
+pieces_by rows number (ask.Prove p out options progress json) is makes = absurd (prove_check (sym makes.command))
 pieces_by rows number (ask.Replay p e) is makes = absurd (check_replay makes.command)
 pieces_by rows number (ask.Encode p dimacs) is makes = absurd (encode_check (sym makes.command))
 pieces_by rows number (ask.Explain p e graph) is makes = absurd (explain_check (sym makes.command))
 pieces_by rows number (ask.Export p e out) is makes = absurd (export_check (sym makes.command))
 
-pub prove_by : (rows : List Row) (program : Text) (out : Option Text) (as_json : Bool) (workers depth budget : Text) (request : Request)
-    → first_of (codes "PROGRAM") rows ≡ Some program → first_of (codes "out") rows ≡ out → one_of (codes "json") rows ≡ Some (flag_text as_json)
-    → one_of (codes "workers") rows ≡ Some workers → one_of (codes "depth") rows ≡ Some depth → one_of (codes "budget") rows ≡ Some budget
-    → Makes (codes "prove") rows request → IsProveOf program out as_json request × HasNumbers workers depth budget request
-prove_by rows program out as_json workers depth budget (ask.Prove p o options json) is_p is_out is_json w d b makes = (
-  (some_same (sym is_p ∙ makes.values.0), sym makes.values.1 ∙ is_out, flag_is rows (codes "json") as_json json makes.values.2 is_json),
+pub prove_by : (rows : List Row) (program : Text) (out : Option Text) (telling as_json : Bool) (workers depth budget : Text) (request : Request)
+    → first_of (codes "PROGRAM") rows ≡ Some program → first_of (codes "out") rows ≡ out → one_of (codes "progress") rows ≡ Some (flag_text telling)
+    → one_of (codes "json") rows ≡ Some (flag_text as_json) → one_of (codes "workers") rows ≡ Some workers → one_of (codes "depth") rows ≡ Some depth → one_of (codes "budget") rows ≡ Some budget
+    → Makes (codes "prove") rows request → IsProveOf program out telling as_json request × HasNumbers workers depth budget request
+prove_by rows program out telling as_json workers depth budget (ask.Prove p o options progress json) is_p is_out is_progress is_json w d b makes = (
+  (
+    some_same (sym is_p ∙ makes.values.0),
+    sym makes.values.1 ∙ is_out,
+    flag_is rows (codes "progress") telling progress makes.values.4 is_progress,
+    flag_is rows (codes "json") as_json json makes.values.2 is_json,
+  ),
   (
     number_is rows (codes "workers") workers options.workers makes.values.3.workers w,
     number_is rows (codes "depth") depth options.depth makes.values.3.depth d,
     number_is rows (codes "budget") budget options.budget makes.values.3.budget b,
   ),
 )
-prove_by rows program out as_json workers depth budget (ask.Check p e pieces json) is_p is_out is_json w d b makes = absurd (prove_check makes.command)
-prove_by rows program out as_json workers depth budget (ask.Replay p e) is_p is_out is_json w d b makes = absurd (prove_replay makes.command)
-prove_by rows program out as_json workers depth budget (ask.Encode p dimacs) is_p is_out is_json w d b makes = absurd (encode_prove (sym makes.command))
-prove_by rows program out as_json workers depth budget (ask.Explain p e graph) is_p is_out is_json w d b makes = absurd (explain_prove (sym makes.command))
-prove_by rows program out as_json workers depth budget (ask.Export p e o) is_p is_out is_json w d b makes = absurd (export_prove (sym makes.command))
+prove_by rows program out telling as_json workers depth budget (ask.Check p e pieces json) is_p is_out is_progress is_json w d b makes = absurd (prove_check makes.command)
+prove_by rows program out telling as_json workers depth budget (ask.Replay p e) is_p is_out is_progress is_json w d b makes = absurd (prove_replay makes.command)
+prove_by rows program out telling as_json workers depth budget (ask.Encode p dimacs) is_p is_out is_progress is_json w d b makes = absurd (encode_prove (sym makes.command))
+prove_by rows program out telling as_json workers depth budget (ask.Explain p e graph) is_p is_out is_progress is_json w d b makes = absurd (explain_prove (sym makes.command))
+prove_by rows program out telling as_json workers depth budget (ask.Export p e o) is_p is_out is_progress is_json w d b makes = absurd (export_prove (sym makes.command))
 
 usual : (request : Request) → HasNumbers (codes "4") (codes "4") (codes "1000000") request → HasUsualOptions request
-usual (ask.Prove p out options json) numbers = numbers
+usual (ask.Prove p out options progress json) numbers = numbers
 usual (ask.Check p e pieces json) numbers = numbers
 usual (ask.Replay p e) numbers = numbers
 usual (ask.Encode p dimacs) numbers = numbers
 usual (ask.Explain p e graph) numbers = numbers
 usual (ask.Export p e out) numbers = numbers
 
-usual_by : (rows : List Row) (program : Text) (out : Option Text) (as_json : Bool) (request : Request) → first_of (codes "PROGRAM") rows ≡ Some program
-    → first_of (codes "out") rows ≡ out → one_of (codes "json") rows ≡ Some (flag_text as_json) → one_of (codes "workers") rows ≡ Some (codes "4")
+usual_by : (rows : List Row) (program : Text) (out : Option Text) (telling as_json : Bool) (request : Request)
+    → first_of (codes "PROGRAM") rows ≡ Some program → first_of (codes "out") rows ≡ out → one_of (codes "progress") rows ≡ Some (flag_text telling)
+    → one_of (codes "json") rows ≡ Some (flag_text as_json) → one_of (codes "workers") rows ≡ Some (codes "4")
     → one_of (codes "depth") rows ≡ Some (codes "4") → one_of (codes "budget") rows ≡ Some (codes "1000000") → Makes (codes "prove") rows request
-    → IsUsualProveOf program out as_json request
-usual_by rows program out as_json request is_p is_out is_json w d b makes =
-    let read = prove_by rows program out as_json (codes "4") (codes "4") (codes "1000000") request is_p is_out is_json w d b makes in
+    → IsUsualProveOf program out telling as_json request
+usual_by rows program out telling as_json request is_p is_out is_progress is_json w d b makes =
+    let read = prove_by rows program out telling as_json (codes "4") (codes "4") (codes "1000000") request is_p is_out is_progress is_json w d b makes in
     (read.0, usual request read.1)
 
 -- ---- the words in their usual order
@@ -241,7 +247,7 @@ of_replay : (program evidence : Text) (request : Request) → Makes (codes "repl
     → IsReplayOf program evidence request
 unfolding clap_on_literals
 of_replay program evidence (ask.Replay p e) makes = (some_same makes.values.0, some_same makes.values.1)
-of_replay program evidence (ask.Prove p out options json) makes = absurd (prove_replay (sym makes.command))
+of_replay program evidence (ask.Prove p out options progress json) makes = absurd (prove_replay (sym makes.command))
 of_replay program evidence (ask.Check p e pieces json) makes = absurd (check_replay (sym makes.command))
 of_replay program evidence (ask.Encode p dimacs) makes = absurd (encode_replay (sym makes.command))
 of_replay program evidence (ask.Explain p e graph) makes = absurd (explain_replay (sym makes.command))
@@ -253,7 +259,7 @@ explain_by : (rows : List Row) (program evidence : Text) (as_graph : Bool) (requ
 explain_by rows program evidence as_graph (ask.Explain p e graph) is_p is_e is_dot makes =
     (some_same (sym is_p ∙ makes.values.0), some_same (sym is_e ∙ makes.values.1), flag_is rows (codes "dot") as_graph graph makes.values.2 is_dot)
 explain_by rows program evidence as_graph (ask.Check p e pieces json) is_p is_e is_dot makes = absurd (explain_check makes.command)
-explain_by rows program evidence as_graph (ask.Prove p out options json) is_p is_e is_dot makes = absurd (explain_prove makes.command)
+explain_by rows program evidence as_graph (ask.Prove p out options progress json) is_p is_e is_dot makes = absurd (explain_prove makes.command)
 explain_by rows program evidence as_graph (ask.Replay p e) is_p is_e is_dot makes = absurd (explain_replay makes.command)
 explain_by rows program evidence as_graph (ask.Encode p dimacs) is_p is_e is_dot makes = absurd (explain_encode makes.command)
 explain_by rows program evidence as_graph (ask.Export p e out) is_p is_e is_dot makes = absurd (export_explain (sym makes.command))
@@ -276,7 +282,7 @@ encode_by : (rows : List Row) (program : Text) (as_dimacs : Bool) (request : Req
     → one_of (codes "dimacs") rows ≡ Some (flag_text as_dimacs) → Makes (codes "encode") rows request → IsEncodeOf program as_dimacs request
 encode_by rows program as_dimacs (ask.Encode p dimacs) is_p is_dimacs makes =
     (some_same (sym is_p ∙ makes.values.0), flag_is rows (codes "dimacs") as_dimacs dimacs makes.values.1 is_dimacs)
-encode_by rows program as_dimacs (ask.Prove p out options json) is_p is_dimacs makes = absurd (encode_prove makes.command)
+encode_by rows program as_dimacs (ask.Prove p out options progress json) is_p is_dimacs makes = absurd (encode_prove makes.command)
 encode_by rows program as_dimacs (ask.Check p e pieces json) is_p is_dimacs makes = absurd (encode_check makes.command)
 encode_by rows program as_dimacs (ask.Replay p e) is_p is_dimacs makes = absurd (encode_replay makes.command)
 encode_by rows program as_dimacs (ask.Explain p e graph) is_p is_dimacs makes = absurd (explain_encode (sym makes.command))
@@ -299,7 +305,7 @@ export_by : (rows : List Row) (program evidence file : Text) (request : Request)
     → IsExportOf program evidence file request
 export_by rows program evidence file (ask.Export p e out) is_p is_e is_out makes =
     (some_same (sym is_p ∙ makes.values.0), some_same (sym is_e ∙ makes.values.1), some_same (sym is_out ∙ makes.values.2))
-export_by rows program evidence file (ask.Prove p out options json) is_p is_e is_out makes = absurd (export_prove makes.command)
+export_by rows program evidence file (ask.Prove p out options progress json) is_p is_e is_out makes = absurd (export_prove makes.command)
 export_by rows program evidence file (ask.Check p e pieces json) is_p is_e is_out makes = absurd (export_check makes.command)
 export_by rows program evidence file (ask.Replay p e) is_p is_e is_out makes = absurd (export_replay makes.command)
 export_by rows program evidence file (ask.Encode p dimacs) is_p is_e is_out makes = absurd (export_encode makes.command)
@@ -312,24 +318,33 @@ of_export program evidence file request makes =
     export_by (finished export_rules (export_out program evidence file).held) program evidence file request refl refl refl makes
 
 of_prove : (program : Text) (request : Request) → Makes (codes "prove") (finished prove_rules (prove_word program).held) request
-    → IsUsualProveOf program None false request
+    → IsUsualProveOf program None false false request
 unfolding clap_on_literals
 of_prove program request makes =
-    usual_by (finished prove_rules (prove_word program).held) program None false request refl refl refl refl refl refl makes
+    usual_by (finished prove_rules (prove_word program).held) program None false false request refl refl refl refl refl refl refl makes
 
 of_prove_json : (program : Text) (request : Request)
     → Makes (codes "prove") (finished prove_rules (walked prove_rules [] (prove_word program) (codes "--json")).held) request
-    → IsUsualProveOf program None true request
+    → IsUsualProveOf program None false true request
 unfolding clap_on_literals
 of_prove_json program request makes =
-    usual_by (finished prove_rules (walked prove_rules [] (prove_word program) (codes "--json")).held) program None true request
-    refl refl refl refl refl refl makes
+    usual_by (finished prove_rules (walked prove_rules [] (prove_word program) (codes "--json")).held) program None false true request
+    refl refl refl refl refl refl refl makes
+
+of_prove_progress : (program : Text) (request : Request)
+    → Makes (codes "prove") (finished prove_rules (walked prove_rules [] (prove_word program) (codes "--progress")).held) request
+    → IsUsualProveOf program None true false request
+unfolding clap_on_literals
+of_prove_progress program request makes =
+    usual_by (finished prove_rules (walked prove_rules [] (prove_word program) (codes "--progress")).held) program None true false request
+    refl refl refl refl refl refl refl makes
 
 of_prove_out : (program file : Text) (request : Request) → Makes (codes "prove") (finished prove_rules (prove_out program file).held) request
-    → IsUsualProveOf program (Some file) false request
+    → IsUsualProveOf program (Some file) false false request
 unfolding clap_on_literals
 of_prove_out program file request makes =
-    usual_by (finished prove_rules (prove_out program file).held) program (Some file) false request refl refl refl refl refl refl makes
+    usual_by (finished prove_rules (prove_out program file).held) program (Some file) false false request
+    refl refl refl refl refl refl refl makes
 
 pub made_check : (name : Text) (words : List Text) (request : Request) → NamesRequest (name ∷ codes "check" ∷ words) request
     → Makes (codes "check") (finished check_rules (fold (walked check_rules []) start words).held) request
@@ -398,6 +413,10 @@ plain_words_are_read = record {
       of_prove_json program request
       (subst (λ (w : Walk). Makes (codes "prove") (finished prove_rules (walked prove_rules [] w (codes "--json")).held) request) (prove_walk program p)
       (made_prove name (program ∷ codes "--json" ∷ []) request asks.named));
+  prove_progress = λ name program request p asks.
+      of_prove_progress program request
+      (subst (λ (w : Walk). Makes (codes "prove") (finished prove_rules (walked prove_rules [] w (codes "--progress")).held) request) (prove_walk program p)
+      (made_prove name (program ∷ codes "--progress" ∷ []) request asks.named));
   prove_out = λ name program file request p f asks.
       of_prove_out program file request (subst (λ (w : Walk). Makes (codes "prove") (finished prove_rules w.held) request) (out_walk program file p f)
       (made_prove name (program ∷ codes "--out" ∷ file ∷ []) request asks.named));

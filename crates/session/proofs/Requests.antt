@@ -3,8 +3,8 @@ use Rattle.std.proofs.Common.{◌≡◌, ◌∙◌, ◌⊎◌, arith, ap, get_or
 use Rattle.std.proofs.lemmas.Option.{same_Some}
 use Rattle.clap.specs.Words.{IsAmong, Kinds, Row, Text, fault_of, subcommand_of}
 use Rattle.session.specs.CommandLine.{IsCheckOf, IsExportOf, IsProveOf, IsReplayOf, MakesSome, command_line}
-use Rattle.session.specs.Deadlocks.{AskToCheck, AskToExport, AskToProve, AskToReplay}
-use Rattle.session.specs.Endings.{Ends, EndsUnasked, FailsEarly, RequestEnds, SessionEnds}
+use Rattle.session.specs.Deadlocks.{AskToCheck, AskToExport, AskToProve, AskToProveTelling, AskToReplay}
+use Rattle.session.specs.Endings.{Ends, EndsFollowed, EndsUnasked, FailsEarly, RequestEnds, SessionEnds}
 use Rattle.session.specs.Pages.{IsChecked, IsEither, IsExported, IsExportFile, IsProveFile, IsProved, IsReplayed}
 use Rattle.session.specs.declared.page.Want.TheVariants as want
 use Rattle.session.specs.declared.request.Request.{Request}
@@ -65,7 +65,7 @@ same_value {X} {a} {b} {c} {o} one two is = same_Some b a (sym two ∙ one) ∙ 
 check_again : (found : Option (Text × List Row)) (a b : Request) (p e : Text) (json : Bool) → MakesSome found a → MakesSome found b
     → IsCheckOf p e json a → (as_json : Bool) × IsCheckOf p e as_json b
 check_again None a b p e json one two is = absurd one
-check_again (Some f) (ask.Prove p1 o1 s1 j1) b p e json one two is = absurd is
+check_again (Some f) (ask.Prove p1 o1 s1 g1 j1) b p e json one two is = absurd is
 check_again (Some f) (ask.Replay p1 e1) b p e json one two is = absurd is
 check_again (Some f) (ask.Encode p1 d1) b p e json one two is = absurd is
 check_again (Some f) (ask.Explain p1 e1 g1) b p e json one two is = absurd is
@@ -73,7 +73,7 @@ check_again (Some f) (ask.Export p1 e1 o1) b p e json one two is = absurd is
 check_again (Some f) (ask.Check p1 e1 n1 j1) (ask.Export p2 e2 o2) p e json one two is = absurd (export_check (sym two.command ∙ one.command))
 check_again (Some f) (ask.Check p1 e1 n1 j1) (ask.Explain p2 e2 g2) p e json one two is = absurd (explain_check (sym two.command ∙ one.command))
 check_again (Some f) (ask.Check p1 e1 n1 j1) (ask.Encode p2 d2) p e json one two is = absurd (encode_check (sym two.command ∙ one.command))
-check_again (Some f) (ask.Check p1 e1 n1 j1) (ask.Prove p2 o2 s2 j2) p e json one two is = absurd (prove_check (sym two.command ∙ one.command))
+check_again (Some f) (ask.Check p1 e1 n1 j1) (ask.Prove p2 o2 s2 g2 j2) p e json one two is = absurd (prove_check (sym two.command ∙ one.command))
 check_again (Some f) (ask.Check p1 e1 n1 j1) (ask.Replay p2 e2) p e json one two is = absurd (check_replay (sym one.command ∙ two.command))
 check_again (Some f) (ask.Check p1 e1 n1 j1) (ask.Check p2 e2 n2 j2) p e json one two is =
     (j2, (same_value one.values.0 two.values.0 is.0, same_value one.values.1 two.values.1 is.1, refl))
@@ -81,7 +81,7 @@ check_again (Some f) (ask.Check p1 e1 n1 j1) (ask.Check p2 e2 n2 j2) p e json on
 replay_again : (found : Option (Text × List Row)) (a b : Request) (p e : Text) → MakesSome found a → MakesSome found b
     → IsReplayOf p e a → IsReplayOf p e b
 replay_again None a b p e one two is = absurd one
-replay_again (Some f) (ask.Prove p1 o1 s1 j1) b p e one two is = absurd is
+replay_again (Some f) (ask.Prove p1 o1 s1 g1 j1) b p e one two is = absurd is
 replay_again (Some f) (ask.Check p1 e1 n1 j1) b p e one two is = absurd is
 replay_again (Some f) (ask.Encode p1 d1) b p e one two is = absurd is
 replay_again (Some f) (ask.Explain p1 e1 g1) b p e one two is = absurd is
@@ -89,36 +89,36 @@ replay_again (Some f) (ask.Export p1 e1 o1) b p e one two is = absurd is
 replay_again (Some f) (ask.Replay p1 e1) (ask.Export p2 e2 o2) p e one two is = absurd (export_replay (sym two.command ∙ one.command))
 replay_again (Some f) (ask.Replay p1 e1) (ask.Explain p2 e2 g2) p e one two is = absurd (explain_replay (sym two.command ∙ one.command))
 replay_again (Some f) (ask.Replay p1 e1) (ask.Encode p2 d2) p e one two is = absurd (encode_replay (sym two.command ∙ one.command))
-replay_again (Some f) (ask.Replay p1 e1) (ask.Prove p2 o2 s2 j2) p e one two is = absurd (prove_replay (sym two.command ∙ one.command))
+replay_again (Some f) (ask.Replay p1 e1) (ask.Prove p2 o2 s2 g2 j2) p e one two is = absurd (prove_replay (sym two.command ∙ one.command))
 replay_again (Some f) (ask.Replay p1 e1) (ask.Check p2 e2 n2 j2) p e one two is = absurd (check_replay (sym two.command ∙ one.command))
 replay_again (Some f) (ask.Replay p1 e1) (ask.Replay p2 e2) p e one two is =
     (same_value one.values.0 two.values.0 is.0, same_value one.values.1 two.values.1 is.1)
 
-prove_again : (found : Option (Text × List Row)) (a b : Request) (p : Text) (out : Option Text) (json : Bool) → MakesSome found a → MakesSome found b
-    → IsProveOf p out json a → (as_json : Bool) × IsProveOf p out as_json b
-prove_again None a b p out json one two is = absurd one
-prove_again (Some f) (ask.Check p1 e1 n1 j1) b p out json one two is = absurd is
-prove_again (Some f) (ask.Replay p1 e1) b p out json one two is = absurd is
-prove_again (Some f) (ask.Encode p1 d1) b p out json one two is = absurd is
-prove_again (Some f) (ask.Explain p1 e1 g1) b p out json one two is = absurd is
-prove_again (Some f) (ask.Export p1 e1 o1) b p out json one two is = absurd is
-prove_again (Some f) (ask.Prove p1 o1 s1 j1) (ask.Export p2 e2 o2) p out json one two is = absurd (export_prove (sym two.command ∙ one.command))
-prove_again (Some f) (ask.Prove p1 o1 s1 j1) (ask.Explain p2 e2 g2) p out json one two is = absurd (explain_prove (sym two.command ∙ one.command))
-prove_again (Some f) (ask.Prove p1 o1 s1 j1) (ask.Encode p2 d2) p out json one two is = absurd (encode_prove (sym two.command ∙ one.command))
-prove_again (Some f) (ask.Prove p1 o1 s1 j1) (ask.Check p2 e2 n2 j2) p out json one two is = absurd (prove_check (sym one.command ∙ two.command))
-prove_again (Some f) (ask.Prove p1 o1 s1 j1) (ask.Replay p2 e2) p out json one two is = absurd (prove_replay (sym one.command ∙ two.command))
-prove_again (Some f) (ask.Prove p1 o1 s1 j1) (ask.Prove p2 o2 s2 j2) p out json one two is =
-    (j2, (same_value one.values.0 two.values.0 is.0, sym two.values.1 ∙ one.values.1 ∙ is.1, refl))
+prove_again : (found : Option (Text × List Row)) (a b : Request) (p : Text) (out : Option Text) (progress json : Bool) → MakesSome found a
+    → MakesSome found b → IsProveOf p out progress json a → (telling : Bool) × (as_json : Bool) × IsProveOf p out telling as_json b
+prove_again None a b p out progress json one two is = absurd one
+prove_again (Some f) (ask.Check p1 e1 n1 j1) b p out progress json one two is = absurd is
+prove_again (Some f) (ask.Replay p1 e1) b p out progress json one two is = absurd is
+prove_again (Some f) (ask.Encode p1 d1) b p out progress json one two is = absurd is
+prove_again (Some f) (ask.Explain p1 e1 g1) b p out progress json one two is = absurd is
+prove_again (Some f) (ask.Export p1 e1 o1) b p out progress json one two is = absurd is
+prove_again (Some f) (ask.Prove p1 o1 s1 g1 j1) (ask.Export p2 e2 o2) p out progress json one two is = absurd (export_prove (sym two.command ∙ one.command))
+prove_again (Some f) (ask.Prove p1 o1 s1 g1 j1) (ask.Explain p2 e2 g2) p out progress json one two is = absurd (explain_prove (sym two.command ∙ one.command))
+prove_again (Some f) (ask.Prove p1 o1 s1 g1 j1) (ask.Encode p2 d2) p out progress json one two is = absurd (encode_prove (sym two.command ∙ one.command))
+prove_again (Some f) (ask.Prove p1 o1 s1 g1 j1) (ask.Check p2 e2 n2 j2) p out progress json one two is = absurd (prove_check (sym one.command ∙ two.command))
+prove_again (Some f) (ask.Prove p1 o1 s1 g1 j1) (ask.Replay p2 e2) p out progress json one two is = absurd (prove_replay (sym one.command ∙ two.command))
+prove_again (Some f) (ask.Prove p1 o1 s1 g1 j1) (ask.Prove p2 o2 s2 g2 j2) p out progress json one two is =
+    (g2, j2, (same_value one.values.0 two.values.0 is.0, sym two.values.1 ∙ one.values.1 ∙ is.1, refl, refl))
 
 export_again : (found : Option (Text × List Row)) (a b : Request) (p e out : Text) → MakesSome found a → MakesSome found b
     → IsExportOf p e out a → IsExportOf p e out b
 export_again None a b p e out one two is = absurd one
-export_again (Some f) (ask.Prove p1 o1 s1 j1) b p e out one two is = absurd is
+export_again (Some f) (ask.Prove p1 o1 s1 g1 j1) b p e out one two is = absurd is
 export_again (Some f) (ask.Check p1 e1 n1 j1) b p e out one two is = absurd is
 export_again (Some f) (ask.Replay p1 e1) b p e out one two is = absurd is
 export_again (Some f) (ask.Encode p1 d1) b p e out one two is = absurd is
 export_again (Some f) (ask.Explain p1 e1 g1) b p e out one two is = absurd is
-export_again (Some f) (ask.Export p1 e1 o1) (ask.Prove p2 o2 s2 j2) p e out one two is = absurd (export_prove (sym one.command ∙ two.command))
+export_again (Some f) (ask.Export p1 e1 o1) (ask.Prove p2 o2 s2 g2 j2) p e out one two is = absurd (export_prove (sym one.command ∙ two.command))
 export_again (Some f) (ask.Export p1 e1 o1) (ask.Check p2 e2 n2 j2) p e out one two is = absurd (export_check (sym one.command ∙ two.command))
 export_again (Some f) (ask.Export p1 e1 o1) (ask.Replay p2 e2) p e out one two is = absurd (export_replay (sym one.command ∙ two.command))
 export_again (Some f) (ask.Export p1 e1 o1) (ask.Encode p2 d2) p e out one two is = absurd (export_encode (sym one.command ∙ two.command))
@@ -151,7 +151,7 @@ module _ (words : List Text) (tells : Bool) (before after : List ℕ → Option 
 
   check_of : (request : Request) (p e : Text) (json : Bool) → IsCheckOf p e json request
       → RequestEnds tells before after request old new told_old told_new status → CheckEnds p e json
-  check_of (ask.Prove p1 o1 s1 j1) p e json is ends = absurd is
+  check_of (ask.Prove p1 o1 s1 g1 j1) p e json is ends = absurd is
   check_of (ask.Encode p1 d1) p e json is ends = absurd is
   check_of (ask.Explain p1 e1 g1) p e json is ends = absurd is
   check_of (ask.Export p1 e1 o1) p e json is ends = absurd is
@@ -172,7 +172,7 @@ module _ (words : List Text) (tells : Bool) (before after : List ℕ → Option 
 
   replay_of : (request : Request) (p e : Text) → IsReplayOf p e request
       → RequestEnds tells before after request old new told_old told_new status → ReplayEnds p e false
-  replay_of (ask.Prove p1 o1 s1 j1) p e is ends = absurd is
+  replay_of (ask.Prove p1 o1 s1 g1 j1) p e is ends = absurd is
   replay_of (ask.Encode p1 d1) p e is ends = absurd is
   replay_of (ask.Explain p1 e1 g1) p e is ends = absurd is
   replay_of (ask.Export p1 e1 o1) p e is ends = absurd is
@@ -187,28 +187,31 @@ module _ (words : List Text) (tells : Bool) (before after : List ℕ → Option 
   replay_ends p e asks (inr unasked) = inr (faulted asks.1.faultless unasked)
 
   -- how a search ends
-  abbrev pub ProveEnds : Text → Option Text → Bool → Type 0
-  ProveEnds p out json =
-      Ends (IsProved tells before after p out json) (IsProveFile p out before after) want.Unknown json before after old new told_old told_new status
+  abbrev pub ProveEnds : Text → Option Text → Bool → Bool → Type 0
+  ProveEnds p out progress json =
+      EndsFollowed progress (IsProved tells before after p out json) (IsProveFile p out before after) want.Unknown json
+      before after old new told_old told_new status
 
-  prove_of : (request : Request) (p : Text) (out : Option Text) (json : Bool) → IsProveOf p out json request
-      → RequestEnds tells before after request old new told_old told_new status → ProveEnds p out json
-  prove_of (ask.Check p1 e1 n1 j1) p out json is ends = absurd is
-  prove_of (ask.Encode p1 d1) p out json is ends = absurd is
-  prove_of (ask.Explain p1 e1 g1) p out json is ends = absurd is
-  prove_of (ask.Export p1 e1 o1) p out json is ends = absurd is
-  prove_of (ask.Replay p1 e1) p out json is ends = absurd is
-  prove_of (ask.Prove p1 o1 s1 j1) p out json is ends =
-      subst (λ (x : Text). ProveEnds x out json) is.0
-      (subst (λ (x : Option Text). ProveEnds p1.now x json) is.1
-      (subst (λ (x : Bool). ProveEnds p1.now (option_map (λ s. s.now) o1) x) is.2 ends.1))
+  prove_of : (request : Request) (p : Text) (out : Option Text) (progress json : Bool) → IsProveOf p out progress json request
+      → RequestEnds tells before after request old new told_old told_new status → ProveEnds p out progress json
+  prove_of (ask.Check p1 e1 n1 j1) p out progress json is ends = absurd is
+  prove_of (ask.Encode p1 d1) p out progress json is ends = absurd is
+  prove_of (ask.Explain p1 e1 g1) p out progress json is ends = absurd is
+  prove_of (ask.Export p1 e1 o1) p out progress json is ends = absurd is
+  prove_of (ask.Replay p1 e1) p out progress json is ends = absurd is
+  prove_of (ask.Prove p1 o1 s1 g1 j1) p out progress json is ends =
+      subst (λ (x : Text). ProveEnds x out progress json) is.0
+      (subst (λ (x : Option Text). ProveEnds p1.now x progress json) is.1
+      (subst (λ (x : Bool). ProveEnds p1.now (option_map (λ s. s.now) o1) x json) is.2
+      (subst (λ (x : Bool). ProveEnds p1.now (option_map (λ s. s.now) o1) g1 x) is.3 ends.1)))
 
   pub prove_ends : (p : Text) (out : Option Text) → AskToProve words p out → SessionEnds words tells before after old new told_old told_new status
-      → ((json : Bool) × ProveEnds p out json) ⊎ FailsEarly old new told_old told_new status
+      → ((progress : Bool) × (json : Bool) × AskToProveTelling words p out progress × ProveEnds p out progress json)
+      ⊎ FailsEarly old new told_old told_new status
   prove_ends p out asks (inl asked) =
-      let again = prove_again (subcommand_of command_line words) asks.0 asked.0 p out asks.1 asks.2.named asked.1.named asks.3 in
-      inl (again.0, prove_of asked.0 p out again.0 again.1 asked.2)
-  prove_ends p out asks (inr unasked) = inr (faulted asks.2.faultless unasked)
+      let again = prove_again (subcommand_of command_line words) asks.0 asked.0 p out asks.1 asks.2 asks.3.named asked.1.named asks.4 in
+      inl (again.0, again.1, (asked.0, again.1, asked.1, again.2), prove_of asked.0 p out again.0 again.1 again.2 asked.2)
+  prove_ends p out asks (inr unasked) = inr (faulted asks.3.faultless unasked)
 
   -- how an export ends
   abbrev pub ExportEnds : Text → Text → Text → Type 0
@@ -217,7 +220,7 @@ module _ (words : List Text) (tells : Bool) (before after : List ℕ → Option 
 
   export_of : (request : Request) (p e out : Text) → IsExportOf p e out request
       → RequestEnds tells before after request old new told_old told_new status → ExportEnds p e out
-  export_of (ask.Prove p1 o1 s1 j1) p e out is ends = absurd is
+  export_of (ask.Prove p1 o1 s1 g1 j1) p e out is ends = absurd is
   export_of (ask.Check p1 e1 n1 j1) p e out is ends = absurd is
   export_of (ask.Replay p1 e1) p e out is ends = absurd is
   export_of (ask.Encode p1 d1) p e out is ends = absurd is

@@ -14,8 +14,8 @@ use Rattle.prover.specs.Answers.{Replays}
 use Rattle.prover.specs.declared.steps.Replayed.{Replayed}
 use Rattle.prover.specs.declared.steps.Replayed.TheVariants as replays
 use Rattle.session.specs.CommandLine.{AskFor}
-use Rattle.session.specs.Deadlocks.{CheckedDeadlockIsShown, CheckedSafetyIsPrinted, CheckedSafetyIsTrue, ExportedProofIsWritten, ExportedSafetyIsTrue, IsRightlyTold, ProvedDeadlockIsShown, ProvedSafetyIsPrinted, ProvedSafetyIsTrue, RefutedIsChecked, ReplayedDeadlockIsShown, ShownDeadlockIsChecked, ShownDeadlockIsReplayed, TellsDeadlock, ToldDeadlockIsShown, WrittenDeadlockIsShown, WrittenSafetyIsRefuted}
-use Rattle.session.specs.Endings.{Complains, Ends, EndsUnasked, Explains, FailsEarly, Prints, PrintsAlone, RequestEnds}
+use Rattle.session.specs.Deadlocks.{AskToProveTelling, CheckedDeadlockIsShown, CheckedSafetyIsPrinted, CheckedSafetyIsTrue, ExportedProofIsWritten, ExportedSafetyIsTrue, IsRightlyTold, ProvedDeadlockIsShown, ProvedSafetyIsPrinted, ProvedSafetyIsTrue, RefutedIsChecked, ReplayedDeadlockIsShown, ShownDeadlockIsChecked, ShownDeadlockIsReplayed, TellsDeadlock, ToldDeadlockIsShown, WrittenDeadlockIsShown, WrittenSafetyIsRefuted}
+use Rattle.session.specs.Endings.{Complains, Ends, EndsFollowed, EndsUnasked, Explains, FailsEarly, Prints, PrintsAlone, RequestEnds}
 use Rattle.session.specs.Lines.{IsLine, early_line, memory_line, no_deadlock_line, told_of_answer, told_of_verdict, told_status, version_line}
 use Rattle.session.specs.Pages.{IsChecked, IsEither, IsEncoded, IsExplained, IsExported, IsExportFile, IsProveFile, IsProved, IsReplayPage, IsReplayed}
 use Rattle.session.specs.declared.page.Want.{Want}
@@ -198,24 +198,37 @@ shown_replayed words p e tells before after program evidence old new told_old to
 
 -- ---- prove
 
+-- where a search told a deadlock, it ended by a page that tells it
+followed_that_told : (words : List Text) (IsPage : Bool → List ℕ → ℕ → Type 0) (IsFile : List ℕ → Type 0) (before after : List ℕ → Option (List ℕ))
+    (old new told_old told_new : Option (List ℕ)) (status : ℕ) (p : Text) (out : Option Text)
+    → ((progress : Bool) × (json : Bool) × AskToProveTelling words p out progress
+    × EndsFollowed progress (IsPage json) IsFile want.Unknown json before after old new told_old told_new status)
+    ⊎ FailsEarly old new told_old told_new status
+    → TellsDeadlock old new status → (json : Bool) × (text : List ℕ) × (page_status : ℕ) × IsPage json text page_status × PageTells text page_status
+followed_that_told words IsPage IsFile before after old new told_old told_new status p out (inl ended) says =
+    let page = deadlock_page (IsPage ended.1) IsFile want.Unknown ended.1 before after old new ended.3.0 told_new status ended.3.2 says in
+    (ended.1, page.0, page.1, page.2, page.3)
+followed_that_told words IsPage IsFile before after old new told_old told_new status p out (inr fails) says =
+    absurd (complaint_untold old new told_old told_new early_line 4 status (λ one. omega (arith, one)) fails says)
+
 pub proved : ProvedDeadlockIsShown
 proved words p out tells before after program old new told_old told_new status asks held ends says =
-    let page = page_that_told (IsProved tells before after p out) (IsProveFile p out before after) want.Unknown before after
-    old new told_old told_new status (prove_ends words tells before after old new told_old told_new status p out asks ends) says in
+    let page = followed_that_told words (IsProved tells before after p out) (IsProveFile p out before after) before after
+    old new told_old told_new status p out (prove_ends words tells before after old new told_old told_new status p out asks ends) says in
     prove_shows tells before after p out page.0 page.1 page.2 program page.3 page.4 held
 
 pub written : WrittenDeadlockIsShown
 written words p file before after program old new told_old told_new status asks held ends says =
-    let page = page_that_told (IsProved true before after p (Some file)) (IsProveFile p (Some file) before after) want.Unknown before after
-    old new told_old told_new status (prove_ends words true before after old new told_old told_new status p (Some file) asks ends) says in
+    let page = followed_that_told words (IsProved true before after p (Some file)) (IsProveFile p (Some file) before after) before after
+    old new told_old told_new status p (Some file) (prove_ends words true before after old new told_old told_new status p (Some file) asks ends) says in
     file_shows before after p file page.0 page.1 page.2 program page.3 page.4 held
 
 pub proved_never : ProvedSafetyIsTrue
 proved_never words p out tells before after program old new told_old told_new status asks held ends says =
     elim (prove_ends words tells before after old new told_old told_new status p out asks ends) [
       | inl ended ↦
-          let page = safety_page (IsProved tells before after p out ended.0) (IsProveFile p out before after) want.Unknown ended.0 before after old new told_old told_new status ended.1 says in
-          prove_never tells before after p out ended.0 page.0 page.1 program page.2 page.3 held
+          let page = safety_page (IsProved tells before after p out ended.1) (IsProveFile p out before after) want.Unknown ended.1 before after old new ended.3.0 told_new status ended.3.2 says in
+          prove_never tells before after p out ended.1 page.0 page.1 program page.2 page.3 held
       | inr fails ↦ absurd (safety_untold old new status (λ zero. omega (arith, fails.0, zero)) fails.1 says)
     ]
 
@@ -223,8 +236,8 @@ pub written_never : WrittenSafetyIsRefuted
 written_never words p file before after program old new told_old told_new status asks held ends says =
     elim (prove_ends words true before after old new told_old told_new status p (Some file) asks ends) [
       | inl ended ↦
-          let page = safety_page (IsProved true before after p (Some file) ended.0) (IsProveFile p (Some file) before after) want.Unknown ended.0 before after old new told_old told_new status ended.1 says in
-          file_refutes before after p file ended.0 page.0 page.1 program page.2 page.3 held
+          let page = safety_page (IsProved true before after p (Some file) ended.1) (IsProveFile p (Some file) before after) want.Unknown ended.1 before after old new ended.3.0 told_new status ended.3.2 says in
+          file_refutes before after p file ended.1 page.0 page.1 program page.2 page.3 held
       | inr fails ↦ absurd (safety_untold old new status (λ zero. omega (arith, fails.0, zero)) fails.1 says)
     ]
 
@@ -239,8 +252,12 @@ proved_safe words p out tells before after old new told_old told_new status asks
     elim (prove_ends words tells before after old new told_old told_new status p out asks ends) [
       | inl ended ↦ (
         ended.0,
-        safe_ended (IsProved tells before after p out ended.0) (IsProveFile p out before after) want.Unknown ended.0 before after old new told_old told_new status
-            (proved_page tells before after p out ended.0) ended.1 zero,
+        ended.1,
+        ended.3.0,
+        ended.2,
+        ended.3.1,
+        safe_ended (IsProved tells before after p out ended.1) (IsProveFile p out before after) want.Unknown ended.1 before after old new ended.3.0 told_new status
+            (proved_page tells before after p out ended.1) ended.3.2 zero,
       )
       | inr fails ↦ absurd (omega (arith, fails.0, zero))
     ]
@@ -277,14 +294,14 @@ encoded_untold dimacs file text status (program, all, inr (reason, why, line)) t
 
 asked_told : (words : List Text) (tells : Bool) (before after : List ℕ → Option (List ℕ)) (old new told_old told_new : Option (List ℕ)) (status : ℕ) (request : Request)
     → AskFor words request → RequestEnds tells before after request old new told_old told_new status → TellsDeadlock old new status → IsRightlyTold words before
-asked_told words tells before after old new told_old told_new status (ask.Prove p out options json) asks ends says =
+asked_told words tells before after old new told_old told_new status (ask.Prove p out options progress json) asks ends says =
     inl (
       p.now,
       option_map (λ s. s.now) out,
-      (ask.Prove p out options json, json, asks, (refl, refl, refl)),
+      (ask.Prove p out options progress json, progress, json, asks, (refl, refl, refl, refl)),
       λ program held.
           let page = deadlock_page (IsProved tells before after p.now (option_map (λ s. s.now) out) json)
-          (IsProveFile p.now (option_map (λ s. s.now) out) before after) want.Unknown json before after old new told_old told_new status ends.1 says in
+          (IsProveFile p.now (option_map (λ s. s.now) out) before after) want.Unknown json before after old new ends.1.0 told_new status ends.1.2 says in
           prove_shows tells before after p.now (option_map (λ s. s.now) out) json page.0 page.1 program page.2 page.3 held,
     )
 asked_told words tells before after old new told_old told_new status (ask.Check p e pieces json) asks ends says =

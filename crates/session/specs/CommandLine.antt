@@ -79,10 +79,15 @@ proof_rule = record out_rule { required = true }
 abbrev pub export_app : App
 export_app = with_rule (with_rule (with_rule (new_app (codes "export")) program_rule) evidence_rule) proof_rule
 
+-- `--progress`, which takes no value
+abbrev pub progress_rule : Rule
+progress_rule = record (option_rule (codes "progress")) { action = Some SetTrue }
+
 -- the command `prove`
 abbrev pub prove_app : App
 prove_app =
     with_rule
+    (with_rule
     (with_rule
     (with_rule
     (with_rule
@@ -92,6 +97,7 @@ prove_app =
     (number_with (codes "workers") 1 64 (codes "4")))
     (number_with (codes "depth") 0 15 (codes "4")))
     (number_with (codes "budget") 0 1000000000 (codes "1000000")))
+    progress_rule)
     json_rule
 
 -- the command asks for one of its subcommands
@@ -150,7 +156,7 @@ pub record ReadsOptions (rows : List Row) (options : Options) : Type 0 where
 
 -- the word of a request's command
 abbrev pub command_of : Request → Text
-command_of (ask.Prove program out options json) = codes "prove"
+command_of (ask.Prove program out options progress json) = codes "prove"
 command_of (ask.Check program evidence pieces json) = codes "check"
 command_of (ask.Replay program evidence) = codes "replay"
 command_of (ask.Encode program dimacs) = codes "encode"
@@ -159,9 +165,9 @@ command_of (ask.Export program evidence out) = codes "export"
 
 -- the values of a request are those of its command's arguments
 abbrev pub HasValues : List Row → Request → Type 0
-HasValues rows (ask.Prove program out options json) =
+HasValues rows (ask.Prove program out options progress json) =
     Gives rows (codes "PROGRAM") program.now × (first_of (codes "out") rows ≡ option_map (λ s. s.now) out) × Flags rows (codes "json") json
-    × ReadsOptions rows options
+    × ReadsOptions rows options × Flags rows (codes "progress") progress
 HasValues rows (ask.Check program evidence pieces json) =
     Gives rows (codes "PROGRAM") program.now × Gives rows (codes "EVIDENCE") evidence.now × Flags rows (codes "json") json
     × Reads rows (codes "pieces") pieces.number
@@ -200,24 +206,26 @@ begins_with_hyphen (byte ∷ rest) = byte == 45
 -- a request to check the program at a path by the evidence at another
 abbrev pub IsCheckOf : Text → Text → Bool → Request → Type 0
 IsCheckOf program evidence as_json (ask.Check p e pieces json) = (p.now ≡ program) × (e.now ≡ evidence) × (json ≡ as_json)
-IsCheckOf program evidence as_json (ask.Prove p out options json) = ⊥
+IsCheckOf program evidence as_json (ask.Prove p out options progress json) = ⊥
 IsCheckOf program evidence as_json (ask.Replay p e) = ⊥
 IsCheckOf program evidence as_json (ask.Encode p dimacs) = ⊥
 IsCheckOf program evidence as_json (ask.Export p e out) = ⊥
 IsCheckOf program evidence as_json (ask.Explain p e graph) = ⊥
 
--- a request to prove the program at a path, with the evidence written at another, where one is named
-abbrev pub IsProveOf : Text → Option Text → Bool → Request → Type 0
-IsProveOf program file as_json (ask.Prove p out options json) = (p.now ≡ program) × (option_map (λ s. s.now) out ≡ file) × (json ≡ as_json)
-IsProveOf program file as_json (ask.Check p e pieces json) = ⊥
-IsProveOf program file as_json (ask.Replay p e) = ⊥
-IsProveOf program file as_json (ask.Encode p dimacs) = ⊥
-IsProveOf program file as_json (ask.Export p e out) = ⊥
-IsProveOf program file as_json (ask.Explain p e graph) = ⊥
+-- a request to prove the program at a path, with the evidence written at another, where one is named, and with the search's progress told
+-- or not
+abbrev pub IsProveOf : Text → Option Text → Bool → Bool → Request → Type 0
+IsProveOf program file telling as_json (ask.Prove p out options progress json) =
+    (p.now ≡ program) × (option_map (λ s. s.now) out ≡ file) × (progress ≡ telling) × (json ≡ as_json)
+IsProveOf program file telling as_json (ask.Check p e pieces json) = ⊥
+IsProveOf program file telling as_json (ask.Replay p e) = ⊥
+IsProveOf program file telling as_json (ask.Encode p dimacs) = ⊥
+IsProveOf program file telling as_json (ask.Export p e out) = ⊥
+IsProveOf program file telling as_json (ask.Explain p e graph) = ⊥
 
 -- the numbers are the usual ones
 abbrev pub HasUsualOptions : Request → Type 0
-HasUsualOptions (ask.Prove p out options json) = AreUsual options.workers options.depth options.budget
+HasUsualOptions (ask.Prove p out options progress json) = AreUsual options.workers options.depth options.budget
 HasUsualOptions (ask.Check p e pieces json) = ⊥
 HasUsualOptions (ask.Replay p e) = ⊥
 HasUsualOptions (ask.Encode p dimacs) = ⊥
@@ -225,13 +233,13 @@ HasUsualOptions (ask.Export p e out) = ⊥
 HasUsualOptions (ask.Explain p e graph) = ⊥
 
 -- the same, where no number is given
-abbrev pub IsUsualProveOf : Text → Option Text → Bool → Request → Type 0
-IsUsualProveOf program file as_json request = IsProveOf program file as_json request × HasUsualOptions request
+abbrev pub IsUsualProveOf : Text → Option Text → Bool → Bool → Request → Type 0
+IsUsualProveOf program file telling as_json request = IsProveOf program file telling as_json request × HasUsualOptions request
 
 -- a request to replay the evidence at a path on the program at another
 abbrev pub IsReplayOf : Text → Text → Request → Type 0
 IsReplayOf program evidence (ask.Replay p e) = (p.now ≡ program) × (e.now ≡ evidence)
-IsReplayOf program evidence (ask.Prove p out options json) = ⊥
+IsReplayOf program evidence (ask.Prove p out options progress json) = ⊥
 IsReplayOf program evidence (ask.Check p e pieces json) = ⊥
 IsReplayOf program evidence (ask.Encode p dimacs) = ⊥
 IsReplayOf program evidence (ask.Export p e out) = ⊥
@@ -240,7 +248,7 @@ IsReplayOf program evidence (ask.Explain p e graph) = ⊥
 -- a request to explain what the evidence at a path shows of the program at another, by a graph or not
 abbrev pub IsExplainOf : Text → Text → Bool → Request → Type 0
 IsExplainOf program evidence as_graph (ask.Explain p e graph) = (p.now ≡ program) × (e.now ≡ evidence) × (graph ≡ as_graph)
-IsExplainOf program evidence as_graph (ask.Prove p out options json) = ⊥
+IsExplainOf program evidence as_graph (ask.Prove p out options progress json) = ⊥
 IsExplainOf program evidence as_graph (ask.Check p e pieces json) = ⊥
 IsExplainOf program evidence as_graph (ask.Replay p e) = ⊥
 IsExplainOf program evidence as_graph (ask.Encode p dimacs) = ⊥
@@ -249,7 +257,7 @@ IsExplainOf program evidence as_graph (ask.Export p e out) = ⊥
 -- a request to export the proof that the evidence at a path makes of the program at another, to the file at a third
 abbrev pub IsExportOf : Text → Text → Text → Request → Type 0
 IsExportOf program evidence file (ask.Export p e out) = (p.now ≡ program) × (e.now ≡ evidence) × (out.now ≡ file)
-IsExportOf program evidence file (ask.Prove p out options json) = ⊥
+IsExportOf program evidence file (ask.Prove p out options progress json) = ⊥
 IsExportOf program evidence file (ask.Check p e pieces json) = ⊥
 IsExportOf program evidence file (ask.Replay p e) = ⊥
 IsExportOf program evidence file (ask.Encode p dimacs) = ⊥
@@ -258,7 +266,7 @@ IsExportOf program evidence file (ask.Explain p e graph) = ⊥
 -- a request to encode the program at a path, in the DIMACS format or not
 abbrev pub IsEncodeOf : Text → Bool → Request → Type 0
 IsEncodeOf program as_dimacs (ask.Encode p dimacs) = (p.now ≡ program) × (dimacs ≡ as_dimacs)
-IsEncodeOf program as_dimacs (ask.Prove p out options json) = ⊥
+IsEncodeOf program as_dimacs (ask.Prove p out options progress json) = ⊥
 IsEncodeOf program as_dimacs (ask.Check p e pieces json) = ⊥
 IsEncodeOf program as_dimacs (ask.Replay p e) = ⊥
 IsEncodeOf program as_dimacs (ask.Explain p e graph) = ⊥
@@ -267,7 +275,7 @@ IsEncodeOf program as_dimacs (ask.Export p e out) = ⊥
 -- the lines are checked in as many pieces as this text spells
 abbrev pub HasPieces : Text → Request → Type 0
 HasPieces number (ask.Check p e pieces json) = pieces.number ≡ digits_value 10 (without_leading_plus number)
-HasPieces number (ask.Prove p out options json) = ⊥
+HasPieces number (ask.Prove p out options progress json) = ⊥
 HasPieces number (ask.Replay p e) = ⊥
 HasPieces number (ask.Encode p dimacs) = ⊥
 HasPieces number (ask.Export p e out) = ⊥
@@ -298,15 +306,17 @@ pub record PlainWordsAreRead : Type 0 where
       → begins_with_hyphen program ≡ false → begins_with_hyphen evidence ≡ false → begins_with_hyphen file ≡ false
       → AskFor (name ∷ codes "export" ∷ program ∷ evidence ∷ codes "--out" ∷ file ∷ []) request → IsExportOf program evidence file request
   pub prove : (name program : Text) (request : Request) → begins_with_hyphen program ≡ false
-      → AskFor (name ∷ codes "prove" ∷ program ∷ []) request → IsUsualProveOf program None false request
+      → AskFor (name ∷ codes "prove" ∷ program ∷ []) request → IsUsualProveOf program None false false request
   pub prove_as_json : (name program : Text) (request : Request) → begins_with_hyphen program ≡ false
-      → AskFor (name ∷ codes "prove" ∷ program ∷ codes "--json" ∷ []) request → IsUsualProveOf program None true request
+      → AskFor (name ∷ codes "prove" ∷ program ∷ codes "--json" ∷ []) request → IsUsualProveOf program None false true request
+  pub prove_progress : (name program : Text) (request : Request) → begins_with_hyphen program ≡ false
+      → AskFor (name ∷ codes "prove" ∷ program ∷ codes "--progress" ∷ []) request → IsUsualProveOf program None true false request
   pub prove_out : (name program file : Text) (request : Request) → begins_with_hyphen program ≡ false → begins_with_hyphen file ≡ false
-      → AskFor (name ∷ codes "prove" ∷ program ∷ codes "--out" ∷ file ∷ []) request → IsUsualProveOf program (Some file) false request
+      → AskFor (name ∷ codes "prove" ∷ program ∷ codes "--out" ∷ file ∷ []) request → IsUsualProveOf program (Some file) false false request
 
 -- the numbers are those that these texts spell
 abbrev pub HasNumbers : Text → Text → Text → Request → Type 0
-HasNumbers workers depth budget (ask.Prove p out options json) =
+HasNumbers workers depth budget (ask.Prove p out options progress json) =
     (options.workers ≡ digits_value 10 (without_leading_plus workers)) × (options.depth ≡ digits_value 10 (without_leading_plus depth))
     × (options.budget ≡ digits_value 10 (without_leading_plus budget))
 HasNumbers workers depth budget (ask.Check p e pieces json) = ⊥
@@ -328,10 +338,10 @@ pub record OptionWordsAreRead : Type 0 where
   pub prove_options_first : (name program file workers depth budget : Text) (request : Request)
       → begins_with_hyphen program ≡ false → begins_with_hyphen file ≡ false → begins_with_hyphen workers ≡ false → begins_with_hyphen depth ≡ false
       → begins_with_hyphen budget ≡ false
-      → AskFor (name ∷ codes "prove" ∷ codes "--out" ∷ file ∷ codes "--workers" ∷ workers ∷ codes "--depth" ∷ depth ∷ codes "--budget" ∷ budget ∷ codes "--json" ∷ program ∷ []) request
-      → IsProveOf program (Some file) true request × HasNumbers workers depth budget request
+      → AskFor (name ∷ codes "prove" ∷ codes "--out" ∷ file ∷ codes "--workers" ∷ workers ∷ codes "--depth" ∷ depth ∷ codes "--budget" ∷ budget ∷ codes "--progress" ∷ codes "--json" ∷ program ∷ []) request
+      → IsProveOf program (Some file) true true request × HasNumbers workers depth budget request
   pub prove_options_last : (name program file workers depth budget : Text) (request : Request)
       → begins_with_hyphen program ≡ false → begins_with_hyphen file ≡ false → begins_with_hyphen workers ≡ false → begins_with_hyphen depth ≡ false
       → begins_with_hyphen budget ≡ false
-      → AskFor (name ∷ codes "prove" ∷ program ∷ codes "--out" ∷ file ∷ codes "--workers" ∷ workers ∷ codes "--depth" ∷ depth ∷ codes "--budget" ∷ budget ∷ codes "--json" ∷ []) request
-      → IsProveOf program (Some file) true request × HasNumbers workers depth budget request
+      → AskFor (name ∷ codes "prove" ∷ program ∷ codes "--out" ∷ file ∷ codes "--workers" ∷ workers ∷ codes "--depth" ∷ depth ∷ codes "--budget" ∷ budget ∷ codes "--progress" ∷ codes "--json" ∷ []) request
+      → IsProveOf program (Some file) true true request × HasNumbers workers depth budget request

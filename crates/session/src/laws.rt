@@ -82,7 +82,8 @@ pub fn written_safety_is_refuted()
     ensures { WrittenSafetyIsRefuted }
 {}
 
-/// A search that ended with the status 0 printed the line that tells that there is no deadlock.
+/// A search that ended with the status 0 printed the line that tells that there is no deadlock, and on standard error how far it was, where
+/// its words ask for that, and else nothing.
 pub fn proved_safety_is_printed()
     ensures { ProvedSafetyIsPrinted }
 {}
@@ -104,7 +105,7 @@ pub fn told_deadlock_is_shown()
     ensures { ToldDeadlockIsShown }
 {}
 
-/// In their usual order the words of a command give the files' names and `--json`.
+/// In their usual order the words of a command give the files' names, `--json` and `--progress`.
 pub fn plain_words_are_read()
     ensures { PlainWordsAreRead }
 {}

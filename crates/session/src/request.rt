@@ -3,7 +3,7 @@
 ghost use Rattle.std.specs.Prelude.{◌≡◌, ◌⊎◌, IfErr, IfOk, IfSome, codes, map, string_bytes};
 ghost use Rattle.clap.specs.Words.{IsAmong, fault_of, found_of, kind_of, rows_of, subcommand_rows_of};
 ghost use Rattle.session.specs.CommandLine.{AskFor, IsRuled, IsShaped, Makes, MakesSome, check_app, command_line, encode_app};
-ghost use Rattle.session.specs.CommandLine.{dimacs_rule, dot_rule, evidence_rule, json_rule, number_rule, number_with, option_rule, out_rule, program_rule, proof_rule};
+ghost use Rattle.session.specs.CommandLine.{dimacs_rule, dot_rule, evidence_rule, json_rule, number_rule, number_with, option_rule, out_rule, program_rule, progress_rule, proof_rule};
 ghost use Rattle.session.specs.CommandLine.{explain_app, export_app, prove_app, replay_app};
 
 use clap::builder::{Command, ValueParser};
@@ -15,11 +15,12 @@ use std::alloc::{AllocError, Global};
 /// What a command line asks for, with the paths of its files.
 #[derive(Clone, Copy, Debug)]
 pub enum Request<'a> {
-    /// Search for an answer, and write its evidence to the file `out`.
+    /// Search for an answer, tell meanwhile how far the search is or not, and write its evidence to the file `out`.
     Prove {
         program: &'a str,
         out: Option<&'a str>,
         options: Options,
+        progress: bool,
         json: bool,
     },
     /// Judge a program by an evidence.
@@ -98,6 +99,7 @@ fn requested<'a>(subcommand: (&'a str, &ArgMatches<'a>)) -> Option<Request<'a>>
                 program,
                 out: matches.get_str(OUT),
                 options: Options::make(workers, depth, budget)?,
+                progress: matches.get_flag(PROGRESS),
                 json: matches.get_flag(JSON),
             })
         }
@@ -158,6 +160,8 @@ const BUDGET: &str = "budget";
 
 const PIECES: &str = "pieces";
 
+const PROGRESS: &str = "progress";
+
 const JSON: &str = "json";
 
 const DOT: &str = "dot";
@@ -189,6 +193,7 @@ fn prove_command<'a>(alloc: Global) -> Result<Command<'a>, AllocError>
         .arg(workers(alloc))?
         .arg(depth(alloc))?
         .arg(budget(alloc))?
+        .arg(progress(alloc))?
         .arg(json(alloc))
 }
 
@@ -265,6 +270,14 @@ fn json<'a>(alloc: Global) -> Arg<'a>
     option(alloc, JSON)
         .action(ArgAction::SetTrue)
         .help("Print the answer as a JSON object")
+}
+
+fn progress<'a>(alloc: Global) -> Arg<'a>
+    ensures { IsRuled result progress_rule }
+{
+    option(alloc, PROGRESS).action(ArgAction::SetTrue).help(
+        "Tell on standard error, once a second, how far the search is",
+    )
 }
 
 fn dot<'a>(alloc: Global) -> Arg<'a>

@@ -10,6 +10,7 @@ use std::alloc::{AllocError, Global};
 use std::process::ExitCode;
 use std::sync::Wait;
 use std::thread::Threads;
+use std::time::Clock;
 use std::{env, fs, io, str};
 
 /// How many rows hold, and how many don't.
@@ -32,7 +33,7 @@ fn main(rt: HostRuntime) -> ExitCode {
 }
 
 /// Judges each file that the words name, and prints how many rows hold, and how many don't. Answers whether all hold.
-fn judge(rt: &HostRuntime, threads: &(impl Threads + Wait + Sync)) -> io::Result<bool> {
+fn judge(rt: &HostRuntime, threads: &(impl Threads + Wait + Clock + Sync)) -> io::Result<bool> {
     let paths: Vec<String> = env::args(rt)?.collect(rt.alloc())?;
     let mut tally = Tally { held: 0, missed: 0 };
     for path in paths.iter().skip(1) {
@@ -51,7 +52,7 @@ fn judge(rt: &HostRuntime, threads: &(impl Threads + Wait + Sync)) -> io::Result
 /// with a backslash.
 fn judge_file(
     rt: &HostRuntime,
-    threads: &(impl Threads + Wait + Sync),
+    threads: &(impl Threads + Wait + Clock + Sync),
     path: &str,
     text: &str,
     tally: &mut Tally,
@@ -80,7 +81,7 @@ fn judge_file(
 
 /// Why a row doesn't hold, or none.
 fn fault(
-    rt: &(impl Threads + Wait + Sync),
+    rt: &(impl Threads + Wait + Clock + Sync),
     alloc: Global,
     text: &str,
 ) -> Result<Option<String>, AllocError> {

@@ -3,6 +3,7 @@ use runs::{Ended, Scene, run};
 use std::alloc::{AllocError, Global};
 use std::sync::Wait;
 use std::thread::Threads;
+use std::time::Clock;
 
 /// The columns of a row. In each text `/` stands for the end of a line, and in the two files that are read `{N PART}` stands for
 /// N times PART.
@@ -52,7 +53,7 @@ impl<'a> Row<'a> {
     /// What the first run left that leaves something else than the row says, with its words, or none.
     pub fn first_miss(
         &self,
-        rt: &(impl Threads + Wait + Sync),
+        rt: &(impl Threads + Wait + Clock + Sync),
         alloc: Global,
     ) -> Result<Option<(&'a str, Ended)>, AllocError> {
         let program = lines(alloc, &unfolded(alloc, self.program)?)?;
@@ -71,7 +72,7 @@ impl<'a> Row<'a> {
 
     fn miss(
         &self,
-        rt: &(impl Threads + Wait + Sync),
+        rt: &(impl Threads + Wait + Clock + Sync),
         alloc: Global,
         words: &'a str,
         program: &str,
@@ -88,7 +89,7 @@ impl<'a> Row<'a> {
     /// The same of two runs, the second of which gets what the first wrote as its evidence.
     fn handed_miss(
         &self,
-        rt: &(impl Threads + Wait + Sync),
+        rt: &(impl Threads + Wait + Clock + Sync),
         alloc: Global,
         first: &'a str,
         then: &'a str,

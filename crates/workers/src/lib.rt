@@ -13,6 +13,6 @@ mod stop;
 mod worker;
 
 pub use events::EventCount;
-pub use gate::Gate;
+pub use gate::{Gate, Searched};
 pub use source::Cubes;
 pub use worker::{Common, work};

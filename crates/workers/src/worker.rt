@@ -4,7 +4,7 @@ ghost use Rattle.std.specs.Prelude.{◌≡◌};
 
 use crate::branching::{branching_variable, most_active};
 use crate::events::EventCount;
-use crate::gate::Gate;
+use crate::gate::{Gate, Searched};
 use crate::numbers::{line_number, number_of};
 use crate::source::Cubes;
 use crate::stop::Stop;
@@ -38,7 +38,7 @@ pub struct Common<'s, S, G> {
     pub encoded: &'s Encoded,
     /// The pool, or a share of it.
     pub shared: &'s S,
-    /// Is called before each cube.
+    /// Is called before each cube, and after each search below one.
     pub gate: &'s G,
     /// Counts what may give a worker without a cube something to do.
     pub events: &'s EventCount,
@@ -235,21 +235,41 @@ impl<'e> Worker<'e> {
         }
     }
 
-    /// One search below a cube, with all lines that the log has by now.
-    fn step<S: Share, C: Cubes, R: Wait>(
+    /// What a search that found this did, where so many cubes are open now.
+    fn searched(&self, found: &Found, open: u32) -> Searched {
+        let (is_closed, lines) = match found {
+            Found::Closed(batch, _last) => (true, batch.lines.len()),
+            Found::Model(_assignment) => (false, 0),
+            Found::Budget(batch) => (false, batch.lines.len()),
+        };
+        Searched {
+            open,
+            is_closed,
+            lines,
+            conflicts: self.solver.conflicts(),
+        }
+    }
+
+    /// One search below a cube, with all lines that the log has by now, after which the gate is called.
+    fn step<S: Share, C: Cubes, G: Gate, R: Wait>(
         &mut self,
         rt: &R,
-        shared: &S,
+        common: &Common<S, G>,
         seat: &mut S::Seat,
         cubes: &mut C,
+        worker: u32,
         cube: u32,
     ) -> Result<Next, Stop>
         ensures { C.deques cubes.new ≡ C.deques cubes.old }
     {
+        let shared = common.shared;
         self.catch_up(rt, shared, seat)?;
         let path = shared.path(rt, self.alloc, cube)?;
         let found = self.search(&path)?;
-        self.hand_on(rt, shared, seat, cubes, cube, &path, &found)
+        let next = self.hand_on(rt, shared, seat, cubes, cube, &path, &found);
+        let open = shared.status(rt).open_leaves;
+        common.gate.after(worker, self.searched(&found, open));
+        next
     }
 
     /// Searches below one cube after another, until the search is over. Without a cube it pauses, and ends too where another worker left for a
@@ -281,7 +301,7 @@ impl<'e> Worker<'e> {
                 continue;
             };
             pause = Backoff::new();
-            current = match self.step(rt, shared, seat, cubes, cube)? {
+            current = match self.step(rt, common, seat, cubes, worker, cube)? {
                 Next::Another => None,
                 Next::Same => Some(cube),
             };
@@ -322,7 +342,7 @@ fn reason<S: Share, C: Cubes, G: Gate, R: Wait>(
 
 /// Searches below one cube after another, and tells the share what it found: lines, a clause for each cube that is refuted,
 /// the two halves of a cube that took too long, and the schedule of an assignment that satisfies the formula. The gate is called before
-/// each cube with this number of the worker.
+/// each cube, and after each search below one, with this number of the worker.
 ///
 /// A search counts at most 2,000 conflicts, and all of them at most as many as the budget; after each the cube is closed,
 /// split or, where the tree has no room, searched on. A cube is split on the match variable that took part in most conflicts of those that

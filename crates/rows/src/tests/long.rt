@@ -5,6 +5,7 @@ use std::process::Abort;
 use std::sync::Wait;
 use std::test::Fail;
 use std::thread::Threads;
+use std::time::Clock;
 
 /// Rank 0 sends so many messages to rank 1, which receives them; then each waits for one more.
 fn program_of(alloc: Global, messages: u32) -> Result<String, AllocError> {
@@ -50,7 +51,7 @@ fn page_of(alloc: Global, messages: u32) -> Result<String, AllocError> {
 
 /// Asserts that the words print this text and write this file, for a deadlock.
 fn assert_run(
-    rt: &(impl Abort + Threads + Wait + Sync),
+    rt: &(impl Abort + Threads + Wait + Clock + Sync),
     alloc: Global,
     words: &str,
     scene: Scene<'_>,

@@ -7,6 +7,7 @@ use std::process::Abort;
 use std::sync::Wait;
 use std::test::Fail;
 use std::thread::Threads;
+use std::time::Clock;
 
 /// Whether a run whose file or output failed told so and printed a beginning of the text at most.
 fn is_fault(ended: &Ended, text: &[u8]) -> bool {
@@ -32,7 +33,7 @@ fn is_same(ended: &Ended, good: &Ended) -> bool {
 
 /// Asserts that a run which meets this trouble ends as it must.
 fn assert_trouble_is_told(
-    rt: &(impl Abort + Threads + Wait + Sync),
+    rt: &(impl Abort + Threads + Wait + Clock + Sync),
     alloc: Global,
     words: &str,
     memory: &str,
@@ -56,7 +57,7 @@ fn assert_trouble_is_told(
 
 /// Runs the words with each trouble at each open, read and write in turn.
 fn assert_troubles_are_told(
-    rt: &(impl Abort + Threads + Wait + Sync),
+    rt: &(impl Abort + Threads + Wait + Clock + Sync),
     alloc: Global,
     words: &str,
     memory: &str,

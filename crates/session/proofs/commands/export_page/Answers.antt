@@ -1,5 +1,5 @@
 -- Where there is no deadlock, the proof is written, or its file failed.
-use Rattle.std.proofs.Common.{◌≡◌, ◌∙◌, IfErr, IfOk, OnOk, Bool, false, ℕ, List, Result, Ok, Err, Some, inr, option_map, sym, subst}
+use Rattle.std.proofs.Common.{◌≡◌, ◌∙◌, IfErr, IfOk, OnOk, Bool, false, ℕ, List, Result, Ok, Err, Some, inr, sym, subst}
 use Rattle.std.specs.Prelude.{Option}
 use Rattle.std.proofs.lemmas.Option.{same_Some}
 use Rattle.files.specs.Contents.{AreAll}

@@ -1,15 +1,25 @@
--- Where the file for the evidence failed, there is an evidence.
-use Rattle.std.proofs.Common.{◌≡◌, ◌∙◌, IfErr, IsTrue, ℕ, List, Result, Ok, Err, Some, inr, option_map, refl, sym, subst}
+-- Where the file for the evidence failed, there is an evidence; where the program's failed, nothing was told.
+use Rattle.std.proofs.Common.{◌≡◌, ◌∙◌, Bool, true, false, IfErr, IsTrue, ℕ, List, Result, Ok, Err, Some, inr, option_map, refl, sym, subst}
 use Rattle.std.specs.Prelude.{Option}
 use Rattle.files.specs.Contents.{AreAll}
 use Rattle.prover.specs.Answers.{Answers}
 use Rattle.prover.specs.declared.answer.Answer.{Answer}
 use Rattle.prover.specs.declared.answer.Answer.TheVariants as answers
+use Rattle.progress.proofs.Tellings.{none_told}
+use Rattle.session.specs.Endings.{IsFollowed}
 use Rattle.session.specs.Pages.{IsProveFile, StopsBy, has_evidence}
 use Rattle.session.specs.declared.commands.Stop.{Stop}
 use Rattle.session.specs.declared.commands.Stop.TheVariants as stop
 use Rattle.session.specs.declared.page.Page.{Page}
 use Rattle.session.proofs.commands.prove_page.Goals as goal
+
+-- a search that never began told nothing
+unfollowed : (progress : Bool) (known : Option (List ℕ)) → IsFollowed progress known known
+unfollowed false known = refl
+unfollowed true known = none_told known
+
+pub returns-in_err-text-clause-followed : goal.returns-in_err-text-clause-followed
+returns-in_err-text-clause-followed g c = unfollowed c.args.progress (g.E.Write.contents c.args.err.now)
 
 stops_decided : (old read new : List ℕ → Option (List ℕ)) (path bytes : List ℕ) (out : Option (List ℕ)) (a : Answer) (page : Result Page Stop)
     → read ≡ old → AreAll (old path) bytes → Answers bytes a → IsTrue (has_evidence a)

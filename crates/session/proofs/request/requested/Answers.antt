@@ -24,12 +24,13 @@ returns-in_ok-make-in-prove c =
       values = (
         given_by_rows m _ c.get_str.result c.get_str.ensures ∙ ap (option_map (λ s. s.now)) c.in_ok-program.was,
         given_by_rows m _ c.get_str-in-prove.result c.get_str-in-prove.ensures,
-        flag_by_rows m _ c.get_flag.result c.get_flag.ensures.value c.get_flag.ensures.other,
+        flag_by_rows m _ c.get_flag-in-prove.result c.get_flag-in-prove.ensures.value c.get_flag-in-prove.ensures.other,
         record {
           workers = number_of _ (λ t r. ParsesUnsigned 32 10 t r × ExplainsUnsignedError 10 t r × HasUnsignedDigitsIfOk t r) m (codes "workers") _ _ _ (λ t r parsed. parsed.0) (sym made.0) c.in_ok-workers-in-prove.was c.get_one.ensures.none c.get_one.ensures.value;
           depth = number_of _ (λ t r. ParsesUnsigned 32 10 t r × ExplainsUnsignedError 10 t r × HasUnsignedDigitsIfOk t r) m (codes "depth") _ _ _ (λ t r parsed. parsed.0) (sym made.1) c.in_ok-depth-in-prove.was c.get_one-in-prove.ensures.none c.get_one-in-prove.ensures.value;
           budget = number_of _ (λ t r. ParsesUnsigned 32 10 t r × ExplainsUnsignedError 10 t r × HasUnsignedDigitsIfOk t r) m (codes "budget") _ _ _ (λ t r parsed. parsed.0) (sym made.2) c.in_ok-budget-in-prove.was c.get_one-in-prove-2.ensures.none c.get_one-in-prove-2.ensures.value;
         },
+        flag_by_rows m _ c.get_flag.result c.get_flag.ensures.value c.get_flag.ensures.other,
       );
     }
 

@@ -24,9 +24,13 @@ returns-in-Prove g c =
     let out = option_map (λ path. path.now) c.in-Prove.evidence in
     rw c.in-Prove.is (
       c.prove_page-page.ensures.others,
-      ended (IsProved g.F.FileSet.tells_written before after c.in-Prove.program.now out c.in-Prove.json)
-          (IsProveFile c.in-Prove.program.now out before after) _ _ _ before after _ _ _ _ _
-          c.prove_page-page.ensures.page c.prove_page-page.ensures.stop c.finish.ensures,
+      (
+        g.E.Write.contents c.prove_page-page.new.err,
+        c.prove_page-page.ensures.followed,
+        ended (IsProved g.F.FileSet.tells_written before after c.in-Prove.program.now out c.in-Prove.json)
+            (IsProveFile c.in-Prove.program.now out before after) _ _ _ before after _ _ _ _ _
+            c.prove_page-page.ensures.page c.prove_page-page.ensures.stop c.finish.ensures,
+      ),
     )
 
 pub returns-in-Check : goal.returns-in-Check

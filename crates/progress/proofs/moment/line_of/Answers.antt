@@ -1,0 +1,23 @@
+use Rattle.std.proofs.Common.{◌≡◌, ◌∙◌, ap, List, ℕ, ◌++◌, append_assoc, codes, decimal}
+use Rattle.progress.proofs.moment.line_of.Goals as goal
+
+-- what is written after words and a number stands behind them
+then_more : (old words number more new : List ℕ) → new ≡ old ++ (words ++ number) → new ++ more ≡ old ++ (words ++ (number ++ more))
+then_more old words number more new is =
+    ap (λ (l : List ℕ). l ++ more) is ∙ append_assoc old (words ++ number) more ∙ ap (λ (l : List ℕ). old ++ l) (append_assoc words number more)
+
+pub returns : goal.returns
+returns c =
+    let m = c.args.moment.now in
+    let five = codes " lines, " ++ (decimal m.conflicts ++ codes " conflicts\n") in
+    let four = codes " closed, " ++ (decimal m.lines ++ five) in
+    let three = codes " cubes open, " ++ (decimal m.closed ++ four) in
+    let two = codes " s: " ++ (decimal m.open ++ three) in
+    let one = codes "progress " ++ (decimal m.seconds ++ two) in
+    c.in_ok-extend_from_slice.ensures.items
+    ∙ then_more _ (codes " lines, ") (decimal m.conflicts) (codes " conflicts\n") _ c.in_ok-put-5.ensures
+    ∙ then_more _ (codes " closed, ") (decimal m.lines) five _ c.in_ok-put-4.ensures
+    ∙ then_more _ (codes " cubes open, ") (decimal m.closed) four _ c.in_ok-put-3.ensures
+    ∙ then_more _ (codes " s: ") (decimal m.open) three _ c.in_ok-put-2.ensures
+    ∙ then_more _ (codes "progress ") (decimal m.seconds) two _ c.in_ok-put.ensures
+    ∙ ap (λ (l : List ℕ). l ++ one) c.new-line.ensures.items
