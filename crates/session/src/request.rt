@@ -1,7 +1,7 @@
 //! What the words of a command line ask for.
 
 ghost use Rattle.std.specs.Prelude.{◌≡◌, ◌⊎◌, IfErr, IfOk, IfSome, codes, map, string_bytes};
-ghost use Rattle.clap.specs.Words.{IsAmong, fault_of, found_of, kind_of, rows_of, subcommand_rows_of};
+ghost use Rattle.clap.specs.Words.{App, IsAmong, Rule, fault_of, found_of, kind_of, new_app, rows_of, subcommand_rows_of, with_rule, with_subcommand};
 ghost use Rattle.session.specs.CommandLine.{AskFor, IsRuled, IsShaped, Makes, MakesSome, check_app, command_line, encode_app};
 ghost use Rattle.session.specs.CommandLine.{dimacs_rule, dot_rule, evidence_rule, json_rule, number_rule, number_with, option_rule, out_rule, program_rule, progress_rule, proof_rule};
 ghost use Rattle.session.specs.CommandLine.{explain_app, export_app, prove_app, replay_app};
@@ -168,82 +168,114 @@ const DOT: &str = "dot";
 
 const DIMACS: &str = "dimacs";
 
+/// A command with one more command below it. Either may be missing for want of memory, so that a list of these has no exits.
+fn under<'a>(
+    whole: Result<Command<'a>, AllocError>,
+    below: Result<Command<'a>, AllocError>,
+) -> Result<Command<'a>, AllocError>
+    ensures { (app sub : App) → IfOk whole.entry (λ c. IsShaped c app) → IfOk below.entry (λ c. IsShaped c sub)
+        → IfOk result (λ c. IsShaped c (with_subcommand app sub.top)) }
+{
+    whole?.subcommand(below?)
+}
+
+/// A command with one more argument, in the same way.
+fn with<'a>(whole: Result<Command<'a>, AllocError>, arg: Arg<'a>) -> Result<Command<'a>, AllocError>
+    ensures { (app : App) (rule : Rule) → IfOk whole.entry (λ c. IsShaped c app) → IsRuled arg.entry rule
+        → IfOk result (λ c. IsShaped c (with_rule app rule)) }
+{
+    whole?.arg(arg)
+}
+
+/// A command with this name, of which help says this.
+fn named<'a>(alloc: Global, name: &'a str, about: &'a str) -> Command<'a>
+    ensures { IsShaped result (new_app name.entry.now) }
+{
+    Command::new(alloc, name).about(about)
+}
+
 /// The whole command line.
 fn command<'a>(alloc: Global) -> Result<Command<'a>, AllocError>
     ensures { IfOk result (λ c. IsShaped c command_line) }
 {
-    Command::new(alloc, "mpiprove")
+    let top = Command::new(alloc, "mpiprove")
         .version(VERSION_LINE)
-        .subcommand_required(true)
-        .subcommand(prove_command(alloc)?)?
-        .subcommand(check_command(alloc)?)?
-        .subcommand(replay_command(alloc)?)?
-        .subcommand(encode_command(alloc)?)?
-        .subcommand(explain_command(alloc)?)?
-        .subcommand(export_command(alloc)?)
+        .subcommand_required(true);
+    let top = under(Ok(top), prove_command(alloc));
+    let top = under(top, check_command(alloc));
+    let top = under(top, replay_command(alloc));
+    let top = under(top, encode_command(alloc));
+    let top = under(top, explain_command(alloc));
+    under(top, export_command(alloc))
 }
 
 fn prove_command<'a>(alloc: Global) -> Result<Command<'a>, AllocError>
     ensures { IfOk result (λ c. IsShaped c prove_app) }
 {
-    Command::new(alloc, "prove")
-        .about("Decides whether some run of a program gets stuck")
-        .arg(program(alloc))?
-        .arg(out(alloc))?
-        .arg(workers(alloc))?
-        .arg(depth(alloc))?
-        .arg(budget(alloc))?
-        .arg(progress(alloc))?
-        .arg(json(alloc))
+    let command = named(
+        alloc,
+        "prove",
+        "Decides whether some run of a program gets stuck",
+    );
+    let command = with(Ok(command), program(alloc));
+    let command = with(command, out(alloc));
+    let command = with(command, workers(alloc));
+    let command = with(command, depth(alloc));
+    let command = with(command, budget(alloc));
+    let command = with(command, progress(alloc));
+    with(command, json(alloc))
 }
 
 fn check_command<'a>(alloc: Global) -> Result<Command<'a>, AllocError>
     ensures { IfOk result (λ c. IsShaped c check_app) }
 {
-    Command::new(alloc, "check")
-        .about("Judges a program by an evidence")
-        .arg(program(alloc))?
-        .arg(evidence(alloc))?
-        .arg(pieces(alloc))?
-        .arg(json(alloc))
+    let command = named(alloc, "check", "Judges a program by an evidence");
+    let command = with(Ok(command), program(alloc));
+    let command = with(command, evidence(alloc));
+    let command = with(command, pieces(alloc));
+    with(command, json(alloc))
 }
 
 fn replay_command<'a>(alloc: Global) -> Result<Command<'a>, AllocError>
     ensures { IfOk result (λ c. IsShaped c replay_app) }
 {
-    Command::new(alloc, "replay")
-        .about("Prints the steps of a schedule")
-        .arg(program(alloc))?
-        .arg(evidence(alloc))
+    let command = named(alloc, "replay", "Prints the steps of a schedule");
+    let command = with(Ok(command), program(alloc));
+    with(command, evidence(alloc))
 }
 
 fn encode_command<'a>(alloc: Global) -> Result<Command<'a>, AllocError>
     ensures { IfOk result (λ c. IsShaped c encode_app) }
 {
-    Command::new(alloc, "encode")
-        .about("Prints the formula of a program")
-        .arg(program(alloc))?
-        .arg(dimacs(alloc))
+    let command = named(alloc, "encode", "Prints the formula of a program");
+    let command = with(Ok(command), program(alloc));
+    with(command, dimacs(alloc))
 }
 
 fn explain_command<'a>(alloc: Global) -> Result<Command<'a>, AllocError>
     ensures { IfOk result (λ c. IsShaped c explain_app) }
 {
-    Command::new(alloc, "explain")
-        .about("Explains what an evidence shows of a program")
-        .arg(program(alloc))?
-        .arg(evidence(alloc))?
-        .arg(dot(alloc))
+    let command = named(
+        alloc,
+        "explain",
+        "Explains what an evidence shows of a program",
+    );
+    let command = with(Ok(command), program(alloc));
+    let command = with(command, evidence(alloc));
+    with(command, dot(alloc))
 }
 
 fn export_command<'a>(alloc: Global) -> Result<Command<'a>, AllocError>
     ensures { IfOk result (λ c. IsShaped c export_app) }
 {
-    Command::new(alloc, "export")
-        .about("Writes a refutation as a proof in the LRAT format")
-        .arg(program(alloc))?
-        .arg(evidence(alloc))?
-        .arg(proof(alloc))
+    let command = named(
+        alloc,
+        "export",
+        "Writes a refutation as a proof in the LRAT format",
+    );
+    let command = with(Ok(command), program(alloc));
+    let command = with(command, evidence(alloc));
+    with(command, proof(alloc))
 }
 
 fn program<'a>(alloc: Global) -> Arg<'a>
