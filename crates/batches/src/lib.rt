@@ -4,7 +4,7 @@
 use clauses::Clause;
 
 /// A clause that a line rests on.
-#[derive(Clone, Copy, Debug, PartialEq, Eq)]
+#[derive(Clone, Copy, PartialEq, Eq)]
 pub enum Hint {
     /// The clause of this number: one of the formula, numbered from 1, or one that was handed to the search with it.
     Known(u32),
@@ -13,7 +13,7 @@ pub enum Hint {
 }
 
 /// A clause, and what it rests on.
-#[derive(Debug, Drop)]
+#[derive(Drop)]
 pub struct BatchLine {
     /// The clause.
     pub clause: Clause,
@@ -22,7 +22,7 @@ pub struct BatchLine {
 }
 
 /// Lines, each of which may rest on earlier ones. Nothing is promised of them: whoever takes them checks them.
-#[derive(Debug, Drop)]
+#[derive(Drop)]
 pub struct Batch {
     /// The lines, in the order in which they were learnt.
     pub lines: Vec<BatchLine>,

@@ -6,7 +6,7 @@ ghost use Rattle.callorder.specs.Calls.{message_of, pattern_of, covers, fits};
 use calltext::Mode;
 
 /// The envelope of a message, but for its source, which is the rank that sends it (MPI 4.1, section 3.2.3).
-#[derive(Clone, Copy, Debug, PartialEq, Eq)]
+#[derive(Clone, Copy, PartialEq, Eq)]
 pub struct Message {
     /// The rank, from 0, that the message is sent to.
     pub destination: u32,
@@ -17,7 +17,7 @@ pub struct Message {
 }
 
 /// Which messages a receive or a matched probe takes (MPI 4.1, section 3.2.4).
-#[derive(Clone, Copy, Debug, PartialEq, Eq)]
+#[derive(Clone, Copy, PartialEq, Eq)]
 pub struct Pattern {
     /// The sending rank, from 0, or `None` for any source.
     pub source: Option<u32>,
@@ -28,7 +28,7 @@ pub struct Pattern {
 }
 
 /// What a call does. Other calls are named by their place, from 0, in the program's list of calls.
-#[derive(Clone, Copy, Debug, PartialEq, Eq)]
+#[derive(Clone, Copy, PartialEq, Eq)]
 pub enum Kind {
     /// A send, blocking or not (MPI 4.1, sections 3.4 and 3.7.2).
     Send {
@@ -57,7 +57,7 @@ pub enum Kind {
 }
 
 /// A call of a rank.
-#[derive(Clone, Copy, Debug, PartialEq, Eq)]
+#[derive(Clone, Copy, PartialEq, Eq)]
 pub struct Call {
     /// The rank that makes it, from 0.
     pub rank: u32,

@@ -11,7 +11,7 @@ use std::marker::Model;
 /// order. Calls are named by their place in the list, from 0. There are 1 to 64 ranks and at most 1,024 calls;
 /// each peer is one of the ranks; each start is waited for once, later; each matched probe has one receive on its
 /// handle, later.
-#[derive(Debug, Drop)]
+#[derive(Drop)]
 pub struct Program {
     policy: Policy,
     ranks: u32,

@@ -3,7 +3,7 @@
 use crate::name::{Name, Names};
 
 /// Whether a standard send is buffered, which MPI leaves open (MPI 4.1, section 3.4).
-#[derive(Clone, Copy, Debug, PartialEq, Eq)]
+#[derive(Clone, Copy, PartialEq, Eq)]
 pub enum Policy {
     /// Each standard send is buffered or not, freely; written `any`.
     Any,
@@ -14,7 +14,7 @@ pub enum Policy {
 }
 
 /// When a send completes (MPI 4.1, section 3.4).
-#[derive(Clone, Copy, Debug, PartialEq, Eq)]
+#[derive(Clone, Copy, PartialEq, Eq)]
 pub enum Mode {
     /// When the message is buffered or has been received; MPI chooses.
     Standard,
@@ -26,7 +26,7 @@ pub enum Mode {
 
 /// A call line as it is written. A communicator that isn't written is none here, and means 0. A
 /// call with a request is nonblocking. No source or no tag is a wildcard. Ranks count from 0.
-#[derive(Debug, Drop)]
+#[derive(Drop)]
 pub enum CallLine {
     /// `send`, `ssend` or `bsend` (MPI 4.1, section 3.4); with a request `isend`, `issend` or
     /// `ibsend` (section 3.7.2).

@@ -7,7 +7,7 @@ use std::alloc::{AllocError, Global};
 use std::marker::Model;
 
 /// The name of a request or of a handle: one letter a to z, and then up to 15 of a to z and 0 to 9.
-#[derive(Debug, Drop)]
+#[derive(Drop)]
 pub struct Name {
     letters: Vec<u8>,
 }
@@ -42,7 +42,7 @@ impl Name {
 }
 
 /// One name or more.
-#[derive(Debug, Drop)]
+#[derive(Drop)]
 pub struct Names {
     names: Vec<Name>,
 }

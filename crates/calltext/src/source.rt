@@ -9,7 +9,7 @@ use std::marker::Model;
 
 /// What a program's text says. `read` alone makes one, so each keeps the limits: 1 to 64 ranks,
 /// peers to 63, tags to 32,767, communicators 1 to 255, and a text of at most 1,048,576 bytes.
-#[derive(Debug, Drop)]
+#[derive(Drop)]
 pub struct Source {
     policy: Policy,
     ranks: Vec<Vec<CallLine>>,

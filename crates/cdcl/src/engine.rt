@@ -12,7 +12,7 @@ use clauses::{Clause, Formula, Lit};
 use std::alloc::{AllocError, Global};
 
 /// All that the search knows.
-#[derive(Debug, Drop)]
+#[derive(Drop)]
 pub(crate) struct Engine {
     pub(crate) store: Store,
     pub(crate) trail: Trail,

@@ -14,7 +14,7 @@ use clauses::{Assignment, Formula, Lit};
 use std::alloc::{AllocError, Global};
 
 /// Where propagation and decisions stop.
-#[derive(Clone, Copy, Debug)]
+#[derive(Clone, Copy)]
 enum Stop {
     /// This clause is false.
     Conflict(u32),
@@ -25,7 +25,7 @@ enum Stop {
 }
 
 /// How a search ends.
-#[derive(Debug, Drop)]
+#[derive(Drop)]
 pub(crate) enum Ending {
     /// Nothing satisfies the formula and the cube, by this clause.
     Closed(Hint),
@@ -38,7 +38,7 @@ pub(crate) enum Ending {
 }
 
 /// What comes of going on to the next stop.
-#[derive(Debug, Drop)]
+#[derive(Drop)]
 pub(crate) enum Step {
     /// A conflict after which the search goes on. What would end it counts as one, too, where that can't be told: a line
     /// that no number is left for, or an assignment that isn't a model.
@@ -50,7 +50,7 @@ pub(crate) enum Step {
 }
 
 /// How a search ended, and how many conflicts it counted.
-#[derive(Debug, Drop)]
+#[derive(Drop)]
 pub(crate) struct Counted {
     pub(crate) ending: Ending,
     pub(crate) conflicts: u64,

@@ -29,7 +29,7 @@ pub enum SolveFault {
 }
 
 /// What a search found, and the lines that it learnt on the way.
-#[derive(Debug, Drop)]
+#[derive(Drop)]
 pub enum Found {
     /// Nothing satisfies the formula and the cube, as this clause says after these lines: each of its literals is the
     /// negation of one of the cube.
@@ -41,7 +41,7 @@ pub enum Found {
 }
 
 /// A search over one formula that keeps what it learnt for the next search.
-#[derive(Debug, Drop)]
+#[derive(Drop)]
 pub struct Solver<'f> {
     formula: &'f Formula,
     engine: Engine,

@@ -12,13 +12,13 @@ const BEST_GLUE: u32 = 2;
 
 /// Clauses, each as its length, its tag, its glue and its literals. A clause is named by the place where it begins.
 /// Where two literals are watched, they are the first two.
-#[derive(Debug, Drop)]
+#[derive(Drop)]
 pub(crate) struct Store {
     words: Vec<u32>,
 }
 
 /// What becomes of a clause one of whose watched literals is false now.
-#[derive(Clone, Copy, Debug)]
+#[derive(Clone, Copy)]
 pub(crate) enum Watching {
     /// It is watched as before, by this literal among others.
     Kept(u32),

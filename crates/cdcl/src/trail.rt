@@ -5,7 +5,7 @@ use crate::order::Order;
 use std::alloc::{AllocError, Global};
 
 /// The value of a literal.
-#[derive(Clone, Copy, Debug, PartialEq, Eq)]
+#[derive(Clone, Copy, PartialEq, Eq)]
 pub(crate) enum Truth {
     /// None yet.
     Open,
@@ -17,7 +17,7 @@ pub(crate) enum Truth {
 
 /// What is kept of a variable: the level at which it got its value, the clause that gave it, the place on the trail, and
 /// the value that it had last.
-#[derive(Clone, Copy, Debug)]
+#[derive(Clone, Copy)]
 struct Note {
     level: u32,
     reason: u32,
@@ -35,7 +35,7 @@ fn no_note() -> Note {
 }
 
 /// The literals that are true, in order, with their levels and reasons.
-#[derive(Debug, Drop)]
+#[derive(Drop)]
 pub(crate) struct Trail {
     values: Vec<Truth>,
     notes: Vec<Note>,

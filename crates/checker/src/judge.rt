@@ -25,7 +25,7 @@ struct Claim {
 }
 
 /// The formula of a program, and a refutation of it: each of its lines and its tree were accepted.
-#[derive(Debug, Drop)]
+#[derive(Drop)]
 pub struct Refuted {
     /// The formula.
     pub formula: Formula,

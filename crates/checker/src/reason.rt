@@ -14,7 +14,7 @@ use semantics::End;
 use thiserror::Error;
 
 /// What the checker says of a program's text and an evidence's text.
-#[derive(Clone, Copy, Debug, PartialEq, Eq)]
+#[derive(Clone, Copy, PartialEq, Eq)]
 pub enum Verdict {
     /// No run of the program ends stuck: the evidence refutes the program's formula.
     NoDeadlock,

@@ -16,14 +16,14 @@ use std::alloc::Global;
 use std::thread::Threads;
 
 /// A program and an evidence, as their texts give them.
-#[derive(Debug, Drop)]
+#[derive(Drop)]
 pub struct Texts {
     pub program: Program,
     pub evidence: Evidence,
 }
 
 /// A program, and a schedule that is a run of it that ends stuck.
-#[derive(Debug, Drop)]
+#[derive(Drop)]
 pub struct StuckRun {
     /// The program.
     pub program: Program,

@@ -9,7 +9,7 @@ use crate::literal::Lit;
 use std::marker::Model;
 
 /// A truth value for each variable. Those past the list that it was made of are false.
-#[derive(Debug, Drop)]
+#[derive(Drop)]
 pub struct Assignment {
     values: Vec<bool>,
 }

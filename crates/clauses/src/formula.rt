@@ -8,7 +8,7 @@ use std::marker::Model;
 
 /// A number of variables, and a list of clauses over these variables. It demands that each clause
 /// is satisfied.
-#[derive(Debug, Drop)]
+#[derive(Drop)]
 pub struct Formula {
     variables: u32,
     clauses: Vec<Clause>,

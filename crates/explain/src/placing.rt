@@ -6,7 +6,7 @@ use std::alloc::AllocError;
 use waits::RankSet;
 
 /// The end of a run, with the calls of its program as the text has them.
-#[derive(Debug, Drop)]
+#[derive(Drop)]
 pub struct Scene {
     pub calls: Vec<Written>,
     pub state: State,

@@ -16,7 +16,7 @@ const MOST_WORDS: usize = 60;
 const CUT: &str = "..";
 
 /// A call as the program's text has it. It is told by its number and its line.
-#[derive(Debug, Drop)]
+#[derive(Drop)]
 pub struct Written {
     /// The number of the call after expansion, from 1.
     pub number: usize,

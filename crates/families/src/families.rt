@@ -15,7 +15,7 @@ use std::alloc::{AllocError, Global};
 use tables::{Source, is_last, is_standard, previous, rank_of, when_returned};
 
 /// A family of clauses. Some have a block of clauses for each call, some for each pair, and one has one block in all.
-#[derive(Clone, Copy, Debug, PartialEq, Eq)]
+#[derive(Clone, Copy, PartialEq, Eq)]
 pub enum Family {
     /// By call: where it is issued, the call directly before it in its rank is issued, and earlier.
     IssueOrder,
@@ -42,7 +42,7 @@ pub enum Family {
 }
 
 /// The clauses of a family for one call or for one pair.
-#[derive(Clone, Copy, Debug, PartialEq, Eq)]
+#[derive(Clone, Copy, PartialEq, Eq)]
 pub struct Block {
     /// The family.
     pub family: Family,

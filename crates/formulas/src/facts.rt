@@ -1,7 +1,7 @@
 //! What the formula of a program speaks of. Calls are named by their places in the program, from 0.
 
 /// What happens in a run.
-#[derive(Clone, Copy, Debug, PartialEq, Eq)]
+#[derive(Clone, Copy, PartialEq, Eq)]
 pub enum Event {
     /// The call is issued.
     Issue(usize),
@@ -10,7 +10,7 @@ pub enum Event {
 }
 
 /// What may be true at the end of a run.
-#[derive(Clone, Copy, Debug, PartialEq, Eq)]
+#[derive(Clone, Copy, PartialEq, Eq)]
 pub enum Fact {
     /// The call is issued.
     Issued(usize),
@@ -24,7 +24,7 @@ pub enum Fact {
 
 /// What a variable may stand for. Events are named by their places, from 0, in the list of events: the issue of each
 /// call, and then the match of each taker. Of two events the first place is the smaller one.
-#[derive(Clone, Copy, Debug, PartialEq, Eq)]
+#[derive(Clone, Copy, PartialEq, Eq)]
 pub enum Meaning {
     /// The fact is true.
     OfFact(Fact),
@@ -37,7 +37,7 @@ pub enum Meaning {
 }
 
 /// A literal before variables are numbered. That an event isn't earlier than another one is said by exchanging them.
-#[derive(Clone, Copy, Debug, PartialEq, Eq)]
+#[derive(Clone, Copy, PartialEq, Eq)]
 pub enum Statement {
     /// The fact is true.
     Holds(Fact),
@@ -48,7 +48,7 @@ pub enum Statement {
 }
 
 /// When an issued call has returned.
-#[derive(Clone, Copy, Debug, PartialEq, Eq)]
+#[derive(Clone, Copy, PartialEq, Eq)]
 pub enum Condition {
     /// At once.
     AtOnce,
@@ -61,7 +61,7 @@ pub enum Condition {
 }
 
 /// A meaning, or its opposite where it isn't positive.
-#[derive(Clone, Copy, Debug, PartialEq, Eq)]
+#[derive(Clone, Copy, PartialEq, Eq)]
 pub struct SignedMeaning {
     pub meaning: Meaning,
     pub positive: bool,

@@ -17,7 +17,7 @@ use std::alloc::{AllocError, Global};
 
 /// A set of literals that are all false on the path of a tree, and the number of the clause of these
 /// literals; there is none where a variable stands with both signs, so that no clause has them.
-#[derive(Debug, Drop)]
+#[derive(Drop)]
 struct Entry {
     literals: Vec<Lit>,
     number: Option<u32>,

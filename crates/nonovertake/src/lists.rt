@@ -12,7 +12,7 @@ use std::alloc::{AllocError, Global};
 use std::marker::Model;
 
 /// What is earlier than the two calls of a pair.
-#[derive(Debug, Drop)]
+#[derive(Drop)]
 pub struct PairLists {
     sends: Vec<usize>,
     takers: Vec<usize>,
@@ -74,7 +74,7 @@ impl PairLists {
 
 /// For each pair of a list the earlier calls that its match must not overtake (MPI 4.1, section 3.5). Calls are named by
 /// their place in the program, pairs by their place in the list, both from 0.
-#[derive(Debug, Drop)]
+#[derive(Drop)]
 pub struct Earlier {
     lists: Vec<PairLists>,
 }

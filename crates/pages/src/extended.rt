@@ -8,7 +8,7 @@ use refutations::{Line, LineList};
 
 /// The lines of a log and then those of a slice, none of which is moved or copied: what a line is
 /// checked against before it is appended.
-#[derive(Clone, Copy, Debug)]
+#[derive(Clone, Copy)]
 pub struct Extended<'a> {
     /// The lines that come first.
     pub log: &'a Log,

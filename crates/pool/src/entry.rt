@@ -87,7 +87,7 @@ pub enum PathFault {
 }
 
 /// A call that was answered, but for its lines and its steps. None is answered with want of memory.
-#[derive(Clone, Copy, Debug, PartialEq, Eq)]
+#[derive(Clone, Copy, PartialEq, Eq)]
 pub enum Deed {
     /// How many lines the batch has, and the number of the first.
     Publish(usize, Result<u32, PublishFault>),
@@ -104,7 +104,7 @@ pub enum Deed {
 }
 
 /// One call of the history.
-#[derive(Clone, Copy, Debug, PartialEq, Eq)]
+#[derive(Clone, Copy, PartialEq, Eq)]
 pub struct Entry {
     /// Who called, counted from 0.
     pub worker: u32,

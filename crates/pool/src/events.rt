@@ -15,7 +15,7 @@ use trees::Tree;
 
 /// A call of a pool, with all that it is given. Workers, leaves and places of lines count from 0, variables
 /// and clauses from 1.
-#[derive(Debug, Drop)]
+#[derive(Drop)]
 pub enum Event {
     /// [`Pool::publish`].
     Publish {

@@ -17,7 +17,7 @@ use std::thread::{Threads, join_mut};
 use std::time::{Clock, Duration, Instant};
 
 /// Why no more is told: memory ran out, or the output failed.
-#[derive(Clone, Copy, Debug, PartialEq, Eq)]
+#[derive(Clone, Copy, PartialEq, Eq)]
 struct Mute;
 
 /// Tells a moment by its line.

@@ -4,7 +4,7 @@ use crate::refutation::Refutation;
 use crate::schedule::Schedule;
 
 /// What an evidence text says of a program; whether it is so is not asked here.
-#[derive(Debug, Drop)]
+#[derive(Drop)]
 pub enum Evidence {
     /// Proof lines and a tree that are said to refute the program's formula.
     Refutation(Refutation),

@@ -15,7 +15,7 @@ use refutations::Line;
 use std::alloc::{AllocError, AllocFailed, Global};
 
 /// Why a line gave no proof line.
-#[derive(Clone, Copy, Debug)]
+#[derive(Clone, Copy)]
 pub enum Unread {
     /// Memory ran out.
     Memory,

@@ -22,7 +22,7 @@ pub const MOST_DEPTH: u32 = 64;
 /// What is said to refute a formula: how many variables and clauses the formula has, each number
 /// from 0 to 2,147,483,647; at most 1,000,000 proof lines, numbered after the clauses; and a tree of
 /// at most 65,536 nodes, none deeper than 64.
-#[derive(Debug, Drop)]
+#[derive(Drop)]
 pub struct Refutation {
     variables: u32,
     clauses: u32,

@@ -12,7 +12,7 @@ pub const MOST_STEPS: usize = 4_096;
 
 /// The steps of a run, in order: at most 4,096, with ranks from 0 to 2,147,483,647 and places of calls from 0 to
 /// 2,147,483,646.
-#[derive(Debug, Drop)]
+#[derive(Drop)]
 pub struct Schedule {
     steps: Vec<Step>,
 }

@@ -13,7 +13,7 @@ use semantics::Step;
 use std::alloc::AllocError;
 
 /// A step as its line has it: ranks from 0, and numbers of calls from 1.
-#[derive(Clone, Copy, Debug)]
+#[derive(Clone, Copy)]
 pub enum WrittenStep {
     Issue { rank: u32, buffered: bool },
     Match { send: u32, taker: u32 },

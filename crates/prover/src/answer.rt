@@ -4,7 +4,7 @@ use checker::Reason;
 use pool::Why;
 
 /// What the prover says of a program's text.
-#[derive(Debug, Drop)]
+#[derive(Drop)]
 pub enum Answer {
     /// No run of the program ends stuck, with the text of an evidence that refutes its formula.
     NoDeadlock(Vec<u8>),

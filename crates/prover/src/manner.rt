@@ -3,7 +3,7 @@
 ghost use Rattle.std.specs.Prelude.{◌≤◌};
 
 /// Which step a walk takes where several are enabled. Ranks count from 0.
-#[derive(Clone, Copy, Debug, PartialEq, Eq)]
+#[derive(Clone, Copy, PartialEq, Eq)]
 pub struct Manner {
     /// Whether a standard send is buffered where the policy leaves that open.
     pub buffers: bool,

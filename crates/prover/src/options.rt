@@ -4,7 +4,7 @@ ghost use Rattle.prover.specs.Ranges.{AreInRange, AreUsual, IsPieces};
 
 /// The number of workers, 1 to 64, the depth of the first tree, 0 to 15, and the conflicts that
 /// each worker may meet, 0 to 1,000,000,000.
-#[derive(Clone, Copy, Debug, PartialEq, Eq)]
+#[derive(Clone, Copy, PartialEq, Eq)]
 pub struct Options {
     workers: u32,
     depth: u32,
@@ -68,7 +68,7 @@ impl Default for Options {
 }
 
 /// In how many pieces the lines of a refutation are checked, 1 to 64.
-#[derive(Clone, Copy, Debug, PartialEq, Eq)]
+#[derive(Clone, Copy, PartialEq, Eq)]
 pub struct Pieces {
     number: u32,
     ghost in_range: { IsPieces number },

@@ -14,7 +14,7 @@ use semantics::{State, Step};
 use std::alloc::{AllocError, Global};
 
 /// How a replay ends.
-#[derive(Debug, Drop)]
+#[derive(Drop)]
 pub enum Replayed {
     /// The schedule is a run of the program that ends stuck. This is the text that tells its steps.
     Stuck(Vec<u8>),

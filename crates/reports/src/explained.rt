@@ -15,7 +15,7 @@ use std::alloc::{AllocError, Global};
 use std::thread::Threads;
 
 /// What is told of a program and an evidence.
-#[derive(Debug, Drop)]
+#[derive(Drop)]
 pub enum Explained {
     /// No run of the program ends stuck. The text tells how large the refutation is.
     NoDeadlock(Vec<u8>),

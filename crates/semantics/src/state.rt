@@ -10,7 +10,7 @@ use std::alloc::{AllocError, Global};
 use std::marker::Model;
 
 /// A step of the machine. Ranks and places of calls count from 0.
-#[derive(Clone, Copy, Debug, PartialEq, Eq)]
+#[derive(Clone, Copy, PartialEq, Eq)]
 pub enum Step {
     /// The rank issues its next call. Only a standard send may be issued as buffered.
     Issue { rank: u32, buffered: bool },
@@ -20,7 +20,7 @@ pub enum Step {
 
 /// A state of a program: for each rank its next call, and for each call whether it is a buffered send and what it
 /// is matched with.
-#[derive(Debug, Drop)]
+#[derive(Drop)]
 pub struct State {
     next: Vec<usize>,
     buffered: Vec<bool>,

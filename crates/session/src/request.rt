@@ -13,7 +13,7 @@ use prover::{Options, Pieces};
 use std::alloc::{AllocError, Global};
 
 /// What a command line asks for, with the paths of its files.
-#[derive(Clone, Copy, Debug)]
+#[derive(Clone, Copy)]
 pub enum Request<'a> {
     /// Search for an answer, tell meanwhile how far the search is or not, and write its evidence to the file `out`.
     Prove {

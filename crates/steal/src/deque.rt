@@ -17,7 +17,7 @@ const FIRST_SLOTS: usize = 16;
 pub struct CubeDeque;
 
 /// What a steal answers.
-#[derive(Clone, Copy, Debug, PartialEq, Eq)]
+#[derive(Clone, Copy, PartialEq, Eq)]
 pub enum Stolen {
     /// This cube, which is the thief's now.
     One(u32),

@@ -10,7 +10,7 @@ use crate::rule::{Drained, Owner, Parts};
 use crate::seats::{OwnerSeat, ThiefSeat};
 
 /// What is left of a deque.
-#[derive(Debug, Drop)]
+#[derive(Drop)]
 pub struct Tally {
     /// The cubes that nobody has taken. They come in the order in which they were pushed, of which no
     /// contract speaks.

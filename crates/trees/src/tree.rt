@@ -31,7 +31,7 @@ pub enum Kind {
 }
 
 /// A node with the literals from it up to the root.
-#[derive(Debug, Drop)]
+#[derive(Drop)]
 pub(crate) struct Node {
     pub(crate) path: Vec<Lit>,
     pub(crate) kind: Kind,
@@ -48,7 +48,7 @@ impl Model for Node {
 /// A tree whose splits cut the assignments into cubes, one for each leaf: the assignments under which
 /// the literals from the leaf up to the root are true. Nodes are numbered from 0, the root. It has at
 /// most [`MOST_NODES`] nodes, and each path has at most [`GREATEST_DEPTH`] literals.
-#[derive(Debug, Drop)]
+#[derive(Drop)]
 pub struct Tree {
     variables: u32,
     nodes: Vec<Node>,

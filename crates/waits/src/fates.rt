@@ -9,7 +9,7 @@ use semantics::State;
 use std::alloc::{AllocError, Global};
 
 /// What became of a call.
-#[derive(Clone, Copy, Debug, PartialEq, Eq)]
+#[derive(Clone, Copy, PartialEq, Eq)]
 pub enum Fate {
     /// It is matched with the call at this place.
     Taken(usize),

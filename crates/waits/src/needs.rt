@@ -7,7 +7,7 @@ use callorder::{Kind, Program};
 use semantics::State;
 
 /// What an operation that is not done waits for.
-#[derive(Clone, Copy, Debug, PartialEq, Eq)]
+#[derive(Clone, Copy, PartialEq, Eq)]
 pub enum Need {
     /// A send, a receive or a matched probe without a partner waits for a call that fits with it.
     Match,

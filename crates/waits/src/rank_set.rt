@@ -4,7 +4,7 @@ ghost use Rattle.std.specs.Prelude.{◌≡◌, ◌↔◌, ℕ, ◌<◌, ◌&&◌
 ghost use Rattle.waits.specs.RankSets.{has_rank, size};
 
 /// A set of ranks, each from 0 to 63.
-#[derive(Clone, Copy, Debug, PartialEq, Eq)]
+#[derive(Clone, Copy, PartialEq, Eq)]
 pub struct RankSet {
     bits: u64,
 }

@@ -8,7 +8,7 @@ use callorder::Program;
 use semantics::State;
 
 /// Where a rank stands.
-#[derive(Clone, Copy, Debug, PartialEq, Eq)]
+#[derive(Clone, Copy, PartialEq, Eq)]
 pub enum Standing {
     /// All its calls are issued, and the last has returned.
     Finished,

@@ -1,7 +1,7 @@
 //! Where workers may be held back, and where they tell how far they are.
 
 /// What a worker did in one search below a cube.
-#[derive(Clone, Copy, Debug, PartialEq, Eq)]
+#[derive(Clone, Copy, PartialEq, Eq)]
 pub struct Searched {
     /// How many cubes are open in the pool afterwards.
     pub open: u32,

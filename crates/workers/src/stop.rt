@@ -19,7 +19,7 @@ use std::alloc::AllocError;
 
 /// Why a worker stops before its cubes are done: for want of memory, since the log is full, or since something was
 /// refused that an honest share takes.
-#[derive(Clone, Copy, Debug, PartialEq, Eq)]
+#[derive(Clone, Copy, PartialEq, Eq)]
 pub(crate) struct Stop {
     pub(crate) why: Why,
 }
