@@ -1,5 +1,7 @@
-//! Tests of fitting pairs, of the calls that they wait for, and of the cubes that branch on them.
+//! Tests of fitting pairs, of the calls that they wait for, of the cubes that branch on them, and of schedules from assignments.
 #![tactic(auto)]
 
+#[cfg(test)]
+mod schedules;
 #[cfg(test)]
 mod tests;

@@ -1,4 +1,4 @@
 mod branching;
 mod earlier_calls;
 mod pairs;
-mod programs;
+pub mod programs;

@@ -1,5 +1,7 @@
-//! Tests of clauses, and of the lines, trees, pieces and pages that refutations are made of.
+//! Tests of clauses, of the lines, trees, pieces and pages that refutations are made of, and of the texts of evidences.
 #![tactic(auto)]
 
+#[cfg(test)]
+mod evidences;
 #[cfg(test)]
 mod tests;

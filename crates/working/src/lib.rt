@@ -1,5 +1,11 @@
-//! Tests of a worker, over a pool under a lock.
+//! Tests of pools, of pools under a lock, and of workers over these.
 #![tactic(auto)]
 
 #[cfg(test)]
-mod tests;
+mod pools;
+#[cfg(test)]
+mod programs;
+#[cfg(test)]
+mod searches;
+#[cfg(test)]
+mod seats;

@@ -4,81 +4,23 @@ ghost use Rattle.std.specs.Prelude.{◌≡◌, IfOk, [], length};
 ghost use Rattle.crossbeam_utils.specs.Seq.{cell_view};
 ghost use Rattle.sharedpool.specs.Views.{knower};
 
-use batches::{Batch, BatchLine, Hint};
-use callorder::Program;
-use calltext::read;
-use candidates::pairs;
-use clauses::{Clause, LARGEST_VARIABLE, Lit};
-use encode::{Encoded, encode};
-use nonovertake::earlier;
+use crate::programs::{empty_clauses, encoded, evidence_text, one_node, two_lines};
+use batches::Batch;
 use pool::{AssembleFault, CloseFault, FetchFault, PathFault, Pool, Share, SplitFault, Why};
-use prooflog::write_evidence;
 use sharedpool::{Cell, Room, SharedPool, Token, open_room};
 use std::alloc::Global;
 use std::marker::Brand;
 use std::sync::Wait;
 use std::test::Fail;
 use std::thread::Threads;
-use trees::Tree;
-
-fn encoded(rt: &(impl Threads + Sync), alloc: Global) -> Result<Encoded, Fail> {
-    let text = "ranks 1/policy any/rank 0/bsend 0 1/".replace(alloc, '/', "\n")?;
-    let source = read(alloc, text.as_bytes())?;
-    let program = Program::resolve(alloc, &source)?;
-    let pairs = pairs(alloc, &program)?;
-    let earlier = earlier(rt, alloc, &program, &pairs)?;
-    match encode(alloc, program, pairs, &earlier) {
-        Ok(encoded) => Ok(encoded),
-        Err(refused) => Err(Fail::from(refused.fault)),
-    }
-}
 
 /// A pool with a tree of one leaf.
 fn fresh(rt: &(impl Threads + Sync), alloc: Global) -> Result<Pool, Fail>
     ensures { IfOk result (λ pool. pool.history ≡ []) }
 {
-    let encoded = encoded(rt, alloc)?;
-    let variables = encoded.formula().variables();
-    if variables > LARGEST_VARIABLE {
-        return Err(Fail::from("too many variables"));
-    }
-    let tree = Tree::new(alloc, variables)?;
+    let encoded = encoded(rt, alloc, "ranks 1/policy any/rank 0/bsend 0 1/")?;
+    let tree = one_node(alloc, &encoded)?;
     Ok(Pool::new(alloc, encoded, tree)?)
-}
-
-fn line(alloc: Global, literals: &[Lit], hints: &[Hint]) -> Result<BatchLine, Fail> {
-    Ok(BatchLine {
-        clause: Clause::make(alloc, literals)?,
-        hints: Vec::from_slice(alloc, hints)?,
-    })
-}
-
-/// The empty clause by all clauses of the formula.
-fn empty_clause(alloc: Global) -> Result<Batch, Fail> {
-    let hints = [Hint::Known(1), Hint::Known(3), Hint::Known(2)];
-    let mut lines = Vec::new(alloc);
-    lines.push(line(alloc, &[], &hints)?)?;
-    Ok(Batch { lines })
-}
-
-/// The clause `-2`, and the empty clause by it.
-fn two_lines(alloc: Global) -> Result<Batch, Fail> {
-    let literal = Lit::make(2, false).ok_or("no literal")?;
-    let mut lines = Vec::new(alloc);
-    lines.push(line(alloc, &[literal], &[Hint::Known(1), Hint::Known(2)])?)?;
-    lines.push(line(alloc, &[], &[Hint::Own(0), Hint::Known(3)])?)?;
-    Ok(Batch { lines })
-}
-
-/// The evidence of a pool, or why there is none; `/` stands for the end of a line.
-fn evidence_text(alloc: Global, pool: &Pool) -> Result<String, Fail> {
-    match pool.assemble(alloc) {
-        Ok(evidence) => {
-            let written = write_evidence(alloc, &evidence)?;
-            Ok(String::from_utf8(written)?.replace(alloc, '\n', "/")?)
-        }
-        Err(fault) => Ok(format!(in alloc; "{fault}")?),
-    }
 }
 
 /// The same behind how many calls each worker made.
@@ -335,7 +277,7 @@ fn told_after(
 
 #[test]
 fn one_leaf(rt: HostRuntime) -> Result<(), Fail> {
-    let batch = empty_clause(rt.alloc())?;
+    let batch = empty_clauses(rt.alloc(), 1)?;
     let told = told_after(&rt, rt.alloc(), &batch, Example::OneLeaf)?;
     let wanted = "[4, 3] evidence 1/refutation 2 3/line : 1 3 2/line : 1 3 2/tree/leaf 5/";
     assert_eq!(rt; told.as_str(), wanted);
@@ -365,7 +307,7 @@ fn left(
 /// Where an allocation fails in the calls, each worker can leave all the same.
 #[test]
 fn each_worker_leaves(rt: HostRuntime) -> Result<(), Fail> {
-    let batch = empty_clause(rt.alloc())?;
+    let batch = empty_clauses(rt.alloc(), 1)?;
     let left = left(&rt, rt.alloc(), &batch)?;
     assert_eq!(rt; left, (Some(1), Some(Why::Budget)));
     Ok(())

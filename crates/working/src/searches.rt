@@ -3,14 +3,11 @@ mod fake;
 
 ghost use Rattle.std.specs.Prelude.{◌≡◌, IfOk};
 
-use callorder::Program;
-use calltext::read;
-use candidates::pairs;
+use crate::programs::encoded;
 use checker::{Verdict, verdict};
 use cubes::split;
-use encode::{Encoded, encode};
+use encode::Encoded;
 use fake::{Fake, Lie};
-use nonovertake::earlier;
 use pool::{Pool, Share, Status, Why};
 use prooflog::{Evidence, write_evidence};
 use std::alloc::Global;
@@ -82,18 +79,6 @@ struct Outcome {
     is_refuted: bool,
     /// How many cubes the worker took.
     cubes: u64,
-}
-
-fn encoded(rt: &(impl Threads + Sync), alloc: Global, text: &str) -> Result<Encoded, Fail> {
-    let text = text.replace(alloc, '/', "\n")?;
-    let source = read(alloc, text.as_bytes())?;
-    let program = Program::resolve(alloc, &source)?;
-    let pairs = pairs(alloc, &program)?;
-    let earlier = earlier(rt, alloc, &program, &pairs)?;
-    match encode(alloc, program, pairs, &earlier) {
-        Ok(encoded) => Ok(encoded),
-        Err(refused) => Err(Fail::from(refused.fault)),
-    }
 }
 
 /// A tree of this depth over the formula's variables.

@@ -4,8 +4,7 @@ mod known;
 mod made;
 mod world;
 
-use callorder::Program;
-use calltext::read;
+use crate::tests::programs::program_of;
 use candidates::pairs;
 use encode::{Encoded, encode};
 use extract::ExtractFault;
@@ -20,15 +19,10 @@ fn column(row: &str) -> Result<(&str, &str), Fail> {
     Ok(row.split_once(" | ").ok_or("a row lacks a column")?)
 }
 
-fn program_of(alloc: Global, text: &str) -> Result<Program, Fail> {
-    let text = text.replace(alloc, '/', "\n")?;
-    let source = read(alloc, text.as_bytes())?;
-    Ok(Program::resolve(alloc, &source)?)
-}
-
 /// The formula of a text's program.
 fn encoded(rt: &(impl Threads + Sync), alloc: Global, text: &str) -> Result<Encoded, Fail> {
-    let program = program_of(alloc, text)?;
+    let text = text.replace(alloc, '/', "\n")?;
+    let program = program_of(alloc, &text)?;
     let pairs = pairs(alloc, &program)?;
     let earlier = earlier(rt, alloc, &program, &pairs)?;
     match encode(alloc, program, pairs, &earlier) {

@@ -1,5 +1,0 @@
-//! Tests of schedules from assignments.
-#![tactic(auto)]
-
-#[cfg(test)]
-mod tests;

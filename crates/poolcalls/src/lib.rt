@@ -1,5 +1,0 @@
-//! Tests of pools.
-#![tactic(auto)]
-
-#[cfg(test)]
-mod tests;

@@ -1,5 +1,0 @@
-//! Tests of shared pools.
-#![tactic(auto)]
-
-#[cfg(test)]
-mod tests;
