@@ -2,32 +2,32 @@
 use super::texts::{formula, literal, tree};
 use clauses::{Clause, Formula, Lit};
 use joining::joining_lines;
+use prooflog::{put_hints, put_literals};
 use refutations::{Line, Node, ProofTree, check_refutation};
-use std::alloc::Global;
+use std::alloc::{AllocError, Global};
 use std::process::Abort;
 use std::test::Fail;
 
-fn line_text(alloc: Global, line: &Line) -> Result<String, Fail> {
-    let mut text = String::new(alloc);
-    for literal in line.literals() {
-        let sign = if literal.is_positive() { "" } else { "-" };
-        let variable = literal.variable();
-        text.push_str(format!(in alloc; "{sign}{variable} ")?.as_str())?;
+/// Writes the line at the end, with a space before each word and a `;` behind the last.
+fn put_line(out: &mut Vec<u8>, line: &Line) -> Result<(), AllocError> {
+    put_literals(out, line.literals())?;
+    out.extend_from_slice(b" :")?;
+    put_hints(out, line.hints())?;
+    out.push(b';')?;
+    Ok(())
+}
+
+fn put_lines(out: &mut Vec<u8>, lines: &[Line]) -> Result<(), AllocError> {
+    for line in lines {
+        put_line(out, line)?;
     }
-    text.push_str(":")?;
-    for hint in line.hints() {
-        text.push_str(format!(in alloc; " {hint}")?.as_str())?;
-    }
-    Ok(text)
+    Ok(())
 }
 
 fn lines_text(alloc: Global, lines: &[Line]) -> Result<String, Fail> {
-    let mut text = String::new(alloc);
-    for line in lines {
-        text.push_str(line_text(alloc, line)?.as_str())?;
-        text.push_str(";")?;
-    }
-    Ok(text)
+    let mut out = Vec::new(alloc);
+    put_lines(&mut out, lines)?;
+    Ok(String::from_utf8(out)?)
 }
 
 /// Whether the lines refute the formula, the last of which is empty.
@@ -37,32 +37,39 @@ fn refutes_without_tree(alloc: Global, formula: &Formula, lines: &[Line]) -> Res
     Ok(check_refutation(alloc, formula, lines, &root).is_ok())
 }
 
-/// The lines that join the tree of this refutation, where both it and the lines are accepted.
-fn joined(
+/// Writes the lines that join the tree of this refutation, and adds them to its lines; both it and all the lines are accepted.
+fn join(
     alloc: Global,
     formula: &Formula,
-    mut lines: Vec<Line>,
-    nodes: &str,
+    lines: &mut Vec<Line>,
+    tree: &ProofTree,
 ) -> Result<String, Fail> {
-    let tree = tree(alloc, nodes)?;
-    if check_refutation(alloc, formula, lines.as_slice(), &tree).is_err() {
-        return Err(Fail::from("not accepted"));
-    }
-    let added = joining_lines(alloc, formula, lines.as_slice(), &tree)?;
+    check_refutation(alloc, formula, lines.as_slice(), tree)?;
+    let mut added = joining_lines(alloc, formula, lines.as_slice(), tree)?;
     let text = lines_text(alloc, added.as_slice())?;
-    for line in added {
-        lines.push(line)?;
-    }
-    if !refutes_without_tree(alloc, formula, lines.as_slice())? {
-        return Err(Fail::from("not joined"));
-    }
+    lines.append(&mut added)?;
     Ok(text)
 }
 
+/// What is told of the lines that join the tree of these nodes.
+fn joined(
+    alloc: Global,
+    formula: &Formula,
+    lines: &mut Vec<Line>,
+    nodes: &str,
+) -> Result<String, Fail> {
+    let tree = tree(alloc, nodes)?;
+    let text = join(alloc, formula, lines, &tree)?;
+    if refutes_without_tree(alloc, formula, lines.as_slice())? {
+        return Ok(text);
+    }
+    Err(Fail::from("not joined"))
+}
+
 /// The lines that join this tree over clauses with a `,` between them, after these lines.
-fn told(alloc: Global, clauses: &str, lines: Vec<Line>, nodes: &str) -> Result<String, Fail> {
+fn told(alloc: Global, clauses: &str, mut lines: Vec<Line>, nodes: &str) -> Result<String, Fail> {
     let formula = formula(alloc, 3, clauses)?;
-    joined(alloc, &formula, lines, nodes)
+    joined(alloc, &formula, &mut lines, nodes)
 }
 
 /// The same with no lines before it.
@@ -81,36 +88,47 @@ fn assert_joined(
 #[test]
 fn splits(rt: HostRuntime) -> Result<(), Fail> {
     let alloc = rt.alloc();
-    assert_joined(&rt, alloc, "1,", "2", ": 2;")?;
-    assert_joined(&rt, alloc, "1,", "s3 2 2", ": 2;")?;
+    assert_joined(&rt, alloc, "1,", "2", " : 2;")?;
+    assert_joined(&rt, alloc, "1,", "s3 2 2", " : 2;")?;
     let four = "1 2,1 -2,-1 2,-1 -2";
     assert_joined(
         &rt,
         alloc,
         four,
         "s1 s2 4 3 s2 2 1",
-        "1 : 2 1;-1 : 4 3;: 6 5;",
+        " 1 : 2 1; -1 : 4 3; : 6 5;",
     )?;
-    assert_joined(&rt, alloc, "-1,-1 2,1", "s1 s2 1 2 3", ": 1 3;")?;
-    assert_joined(&rt, alloc, "-1 -3,1 3,-1,1", "s1 s1 3 s3 1 2 4", ": 3 4;")?;
+    assert_joined(&rt, alloc, "-1,-1 2,1", "s1 s2 1 2 3", " : 1 3;")?;
+    assert_joined(&rt, alloc, "-1 -3,1 3,-1,1", "s1 s1 3 s3 1 2 4", " : 3 4;")?;
     let five = "-1 -2 -3,1 3,1 2,-1,1";
-    assert_joined(&rt, alloc, five, "s1 s1 4 s2 s3 1 2 3 5", ": 4 5;")
+    assert_joined(&rt, alloc, five, "s1 s1 4 s2 s3 1 2 3 5", " : 4 5;")
+}
+
+/// The same after one line.
+fn told_after(alloc: Global, line: Line, clauses: &str, nodes: &str) -> Result<String, Fail> {
+    let mut lines = Vec::new(alloc);
+    lines.push(line)?;
+    told(alloc, clauses, lines, nodes)
 }
 
 #[test]
-fn lines_before_those_added(rt: HostRuntime) -> Result<(), Fail> {
-    let alloc = rt.alloc();
-    let lines = vec![in alloc; Line::make(alloc, &[], &[1, 3, 2])?]?;
-    let none = told(alloc, "1,-1 -2,2", lines, "4")?;
-    assert_eq!(rt; none.as_str(), "");
-    let lines = vec![in alloc; Line::make(alloc, &[literal("1")?], &[1, 2])?]?;
-    let told = told(
-        alloc,
+fn a_line_that_no_line_is_added_to(rt: HostRuntime) -> Result<(), Fail> {
+    let line = Line::make(rt.alloc(), &[], &[1, 3, 2])?;
+    let told = told_after(rt.alloc(), line, "1,-1 -2,2", "4")?;
+    assert_eq!(rt; told.as_str(), "");
+    Ok(())
+}
+
+#[test]
+fn a_line_before_those_added(rt: HostRuntime) -> Result<(), Fail> {
+    let line = Line::make(rt.alloc(), &[literal("1")?], &[1, 2])?;
+    let told = told_after(
+        rt.alloc(),
+        line,
         "1 2,1 -2,-1 2,-1 -2",
-        lines,
         "s3 s1 s2 4 3 5 s1 s2 4 3 5",
     )?;
-    assert_eq!(rt; told.as_str(), "-1 : 4 3;: 6 5;-1 : 4 3;: 8 5;");
+    assert_eq!(rt; told.as_str(), " -1 : 4 3; : 6 5; -1 : 4 3; : 8 5;");
     Ok(())
 }
 

@@ -5,6 +5,7 @@ use super::texts::one_send;
 use pieces::{LinesFault, PieceGate, check_piece, check_pieces};
 use refutations::Line;
 use std::alloc::Global;
+use std::process::Abort;
 use std::sync::atomic::{AtomicBool, AtomicUsize, Ordering};
 use std::test::Fail;
 use std::thread;
@@ -110,16 +111,27 @@ fn the_first_fault_in_any_pieces(rt: HostRuntime) -> Result<(), Fail> {
     Ok(())
 }
 
+/// That this is told of a piece among so many.
+fn assert_told(
+    rt: &impl Abort,
+    alloc: Global,
+    pieces: usize,
+    piece: usize,
+    wanted: &str,
+) -> Result<(), Fail>
+    requires few { pieces ≤ 64 }
+    requires within { piece < pieces }
+{
+    let told = told_of_piece(alloc, pieces, piece)?;
+    assert_eq!(rt; told.as_str(), wanted);
+    Ok(())
+}
+
 #[test]
 fn pieces_have_faults_of_their_own(rt: HostRuntime) -> Result<(), Fail> {
-    let alloc = rt.alloc();
-    let told = told_of_piece(alloc, 4, 0)?;
-    assert_eq!(rt; told.as_str(), "derived");
-    let told = told_of_piece(alloc, 2, 0)?;
-    assert_eq!(rt; told.as_str(), "proof line 5 no conflict");
-    let told = told_of_piece(alloc, 2, 1)?;
-    assert_eq!(rt; told.as_str(), "proof line 7 hint 2 idle");
-    Ok(())
+    assert_told(&rt, rt.alloc(), 4, 0, "derived")?;
+    assert_told(&rt, rt.alloc(), 2, 0, "proof line 5 no conflict")?;
+    assert_told(&rt, rt.alloc(), 2, 1, "proof line 7 hint 2 idle")
 }
 
 #[test]

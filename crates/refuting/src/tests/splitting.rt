@@ -1,7 +1,7 @@
 //! Trees whose leaves are split.
-use clauses::Lit;
+use prooflog::put_literals;
 use refutations::{Node, is_numbered};
-use std::alloc::Global;
+use std::alloc::{AllocError, Global};
 use std::test::Fail;
 use trees::{SplitFault, Tree};
 
@@ -19,35 +19,39 @@ fn split(alloc: Global, tree: &mut Tree, leaf: u32, variable: u32) -> Result<Str
     }
 }
 
-fn path_text(alloc: Global, literals: &[Lit]) -> Result<String, Fail> {
-    let mut text = String::new(alloc);
-    for literal in literals {
-        let sign = if literal.is_positive() { "" } else { "-" };
-        let variable = literal.variable();
-        text.push_str(format!(in alloc; " {sign}{variable}")?.as_str())?;
+/// Writes the paths of all nodes, each after a stroke.
+fn put_paths(out: &mut Vec<u8>, tree: &Tree) -> Result<(), AllocError> {
+    for node in 0..tree.len() {
+        out.extend_from_slice(b" |")?;
+        put_literals(out, tree.path(node as u32))?;
     }
-    Ok(text)
+    Ok(())
 }
 
-/// The paths of all nodes, each after a stroke.
 fn paths(alloc: Global, tree: &Tree) -> Result<String, Fail> {
-    let mut text = String::new(alloc);
-    for node in 0..tree.len() {
-        let path = path_text(alloc, tree.path(node as u32))?;
-        text.push_str(" |")?;
-        text.push_str(path.as_str())?;
-    }
-    Ok(text)
+    let mut out = Vec::new(alloc);
+    put_paths(&mut out, tree)?;
+    Ok(String::from_utf8(out)?)
+}
+
+/// Splits a leaf, and tells the numbers of the new leaves and the paths of all nodes.
+fn split_and_paths(
+    alloc: Global,
+    tree: &mut Tree,
+    leaf: u32,
+    variable: u32,
+) -> Result<String, Fail> {
+    let numbers = split(alloc, tree, leaf, variable)?;
+    let paths = paths(alloc, tree)?;
+    Ok(format!(in alloc; "{numbers}{paths}")?)
 }
 
 /// Splits the root by 2 and its second child by 1, and tells the new leaves and the paths of all nodes each time.
 fn told_splits(alloc: Global, tree: &mut Tree) -> Result<String, Fail> {
     let before = paths(alloc, tree)?;
-    let first = split(alloc, tree, 0, 2)?;
-    let between = paths(alloc, tree)?;
-    let second = split(alloc, tree, 2, 1)?;
-    let after = paths(alloc, tree)?;
-    Ok(format!(in alloc; "{before}/{first}{between}/{second}{after}")?)
+    let first = split_and_paths(alloc, tree, 0, 2)?;
+    let second = split_and_paths(alloc, tree, 2, 1)?;
+    Ok(format!(in alloc; "{before}/{first}/{second}")?)
 }
 
 /// The kinds of nodes 2 and 5, and which of nodes 2, 4 and 5 are leaves.
@@ -78,7 +82,24 @@ fn splits_of_two_variables(rt: HostRuntime) -> Result<(), Fail> {
     Ok(())
 }
 
-/// The variables of splits and the numbers of leaves in preorder, those of leaves in parentheses.
+fn node_text(alloc: Global, node: Node) -> Result<String, AllocError> {
+    match node {
+        Node::Split(variable) => format!(in alloc; " {variable}"),
+        Node::Leaf(number) => format!(in alloc; " ({number})"),
+    }
+}
+
+/// The variables of splits and the numbers of leaves, those of leaves in parentheses.
+fn nodes_text(alloc: Global, nodes: &[Node]) -> Result<String, AllocError> {
+    let mut text = String::new(alloc);
+    for node in nodes {
+        let word = node_text(alloc, *node)?;
+        text.push_str(word.as_str())?;
+    }
+    Ok(text)
+}
+
+/// The text of the nodes in preorder, each leaf with the number at its place.
 fn preorder_text(alloc: Global, tree: &Tree, numbers: &[u32]) -> Result<String, Fail> {
     if numbers.len() != tree.len() {
         return Err(Fail::from("numbers for other nodes"));
@@ -90,15 +111,7 @@ fn preorder_text(alloc: Global, tree: &Tree, numbers: &[u32]) -> Result<String, 
         return Err(Fail::from("no number"));
     }
     let proof = tree.proof_tree(alloc, numbers)?;
-    let mut text = String::new(alloc);
-    for node in proof.nodes() {
-        let word = match node {
-            Node::Split(variable) => format!(in alloc; " {variable}")?,
-            Node::Leaf(number) => format!(in alloc; " ({number})")?,
-        };
-        text.push_str(word.as_str())?;
-    }
-    Ok(text)
+    Ok(nodes_text(alloc, proof.nodes())?)
 }
 
 /// The preorder of a new tree over three variables, and that after three splits.
