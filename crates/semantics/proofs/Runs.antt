@@ -1,17 +1,18 @@
 -- Runs that go on by one step, opening states, and stuck states.
-use Rattle.std.proofs.Common.{◌≡◌, ℕ, zero, suc, ◌+◌, inl, inr, Some, Ok, Err, Result, slice_get, ◌<◌, false, List, [], ◌∷◌, ◌++◌, length, get_or, take, refl, ap, subst, arith}
-use Rattle.std.proofs.lemmas.List.{take_more, length-replicate}
-use Rattle.std.proofs.lemmas.Bool.{cases_lt}
-use Rattle.std.proofs.lemmas.Option.{slice_get-get_or}
+use Rattle.std.proofs.Common.{◌≡◌, ℕ, zero, suc, ◌+◌, inl, inr, IsTrue, Option, Some, None, Ok, Err, Result, slice_get, ◌<◌, false, List, [], ◌∷◌, ◌++◌, length, get_or, take, refl, ap, subst, ◌∙◌, ◌≤◌, arith}
+use Rattle.std.proofs.lemmas.List.{take_more, take_all, length-replicate}
+use Rattle.std.proofs.lemmas.Bool.{cases_lt, false≢true}
+use Rattle.std.proofs.lemmas.Option.{slice_get-get_or, slice_get_within}
 use Rattle.std.proofs.lemmas.List.FromFn.{length-map-range_with_len}
 use Rattle.semantics.specs.declared.state.Step.{Step}
 use Rattle.semantics.specs.declared.state.Step.TheVariants.{Issue, Match}
 use Rattle.semantics.specs.declared.schedule.End.{End}
 use Rattle.semantics.specs.declared.schedule.End.TheVariants.{Stuck, Finished, Live}
 use Rattle.semantics.specs.Replays.{Replays}
-use Rattle.callorder.specs.Programs.{MpiProgram}
-use Rattle.semantics.specs.Machine.{Configuration, IsStuckRun, IsFinishedRun, IsLiveRun, StopsAt, opening, after, after_all, IsEnabled, IsRun, IsConfigurationOf, IsStuck, IsFinished, is_rank_finished}
-use Rattle.semantics.specs.StuckParts.{NoIssue, NoMatch}
+use Rattle.callorder.specs.declared.calls.Call.{Call}
+use Rattle.callorder.specs.Programs.{MpiProgram, call_at}
+use Rattle.semantics.specs.Machine.{Configuration, IsStuckRun, IsFinishedRun, IsLiveRun, StopsAt, opening, after, after_all, IsEnabled, IsRun, IsConfigurationOf, IsStuck, IsFinished, is_rank_finished, CanMatch, is_issued, is_issued_call}
+use Rattle.semantics.specs.StuckParts.{NoIssue, NoMatchOf, NoMatch}
 
 pub after_all-push : (m : Configuration) (xs : List Step) (x : Step) → after_all m (xs ++ x ∷ []) ≡ after (after_all m xs) x
 after_all-push m [] x = refl
@@ -138,3 +139,57 @@ one_replay p steps r (Ok Stuck) answer other = Replays-stuck p steps r answer ot
 one_replay p steps r (Ok Finished) answer other = Replays-finished p steps r answer other
 one_replay p steps r (Ok Live) answer other = Replays-live p steps r answer other
 one_replay p steps r (Err at) answer other = Replays-stops p steps r at answer other
+
+-- where all steps are taken
+all_taken : (p : MpiProgram) (steps : List Step) (i : ℕ) (s : Configuration) → length steps ≤ i → s ≡ after_all (opening p) (take i steps) → s ≡ after_all (opening p) steps
+all_taken p steps i s long now = now ∙ ap (after_all (opening p)) (take_all i steps long)
+
+run_of_all : (p : MpiProgram) (steps : List Step) (i : ℕ) → length steps ≤ i → IsRun p (opening p) (take i steps) → IsRun p (opening p) steps
+run_of_all p steps i long run = subst (λ (xs : List Step). IsRun p (opening p) xs) (take_all i steps long) run
+
+pub IsStuckRun-made : (p : MpiProgram) (steps : List Step) (i : ℕ) (s : Configuration) → length steps ≤ i → s ≡ after_all (opening p) (take i steps) → IsRun p (opening p) (take i steps) → IsStuck p s → IsStuckRun p steps
+IsStuckRun-made p steps i s long now run stuck =
+    record {
+      run = run_of_all p steps i long run;
+      stuck = subst (λ (m : Configuration). IsStuck p m) (all_taken p steps i s long now) stuck;
+    }
+
+pub IsFinishedRun-made : (p : MpiProgram) (steps : List Step) (i : ℕ) (s : Configuration) → length steps ≤ i → s ≡ after_all (opening p) (take i steps) → IsRun p (opening p) (take i steps) → IsFinished p s → IsFinishedRun p steps
+IsFinishedRun-made p steps i s long now run finished =
+    record {
+      run = run_of_all p steps i long run;
+      finished = subst (λ (m : Configuration). IsFinished p m) (all_taken p steps i s long now) finished;
+    }
+
+is_unfinished : (p : MpiProgram) (m : Configuration) (rank : ℕ) → rank < p.ranks → is_rank_finished p m rank ≡ false → IsFinished p m → ⊥
+is_unfinished p m rank in_range unfinished finished =
+    let finished_there = finished rank in_range in
+    cc
+
+pub IsLiveRun-made : (p : MpiProgram) (steps : List Step) (i rank : ℕ) (s : Configuration) → length steps ≤ i → s ≡ after_all (opening p) (take i steps) → IsRun p (opening p) (take i steps) → (IsStuck p s → ⊥) → rank < p.ranks → is_rank_finished p s rank ≡ false → IsLiveRun p steps
+IsLiveRun-made p steps i rank s long now run not_stuck in_range unfinished =
+    record {
+      run = run_of_all p steps i long run;
+      not_stuck = subst (λ (m : Configuration). IsStuck p m → ⊥) (all_taken p steps i s long now) not_stuck;
+      not_finished = subst (λ (m : Configuration). IsFinished p m → ⊥) (all_taken p steps i s long now) (is_unfinished p s rank in_range unfinished);
+    }
+
+issued_call : (m : Configuration) (c : ℕ) (call : Option Call) → IsTrue (is_issued_call m c call) → (known : Call) × (call ≡ Some known)
+issued_call m c None issued = absurd (false≢true issued)
+issued_call m c (Some known) issued = (known, refl)
+
+issued_within : (p : MpiProgram) (m : Configuration) (c : ℕ) → IsTrue (is_issued p m c) → c < length p.calls
+issued_within p m c issued =
+    let there = issued_call m c (call_at p c) issued in
+    slice_get_within p.calls c there.0 there.1
+
+-- no match is enabled where none of the program's calls can be matched
+pub NoMatchOf-made : (p : MpiProgram) (m : Configuration) (s count : ℕ) → length p.calls ≤ count → ((t : ℕ) → t < count → CanMatch p m s t → ⊥) → NoMatchOf p m s
+NoMatchOf-made p m s count all none t match' =
+    let within = issued_within p m t match'.taker_issued in
+    none t (omega arith) match'
+
+pub NoMatch-made : (p : MpiProgram) (m : Configuration) (count : ℕ) → length p.calls ≤ count → ((s : ℕ) → s < count → NoMatchOf p m s) → NoMatch p m
+NoMatch-made p m count all none s t match' =
+    let within = issued_within p m s match'.send_issued in
+    none s (omega arith) t match'

@@ -1,4 +1,4 @@
-use Rattle.std.proofs.Common.{◌≡◌, ◌-◌, ◌≤◌, true, false, inl, inr, refl, sym, ◌∙◌, arith}
+use Rattle.std.proofs.Common.{◌≡◌, ◌-◌, ◌≤◌, true, false, inl, inr, refl, sym, ◌∙◌, arith, rules}
 use Rattle.std.proofs.lemmas.Bool.{cases_lt}
 use Rattle.callorder.specs.Programs.{are_of_one_rank}
 use Rattle.semantics.proofs.RankOrder.{one_rank_between}
@@ -15,3 +15,15 @@ returns-then-not-are_of_one_rank c =
       ],
       λ waits. refl,
     )
+
+pub loop-earlier-init : goal.loop-earlier-init
+loop-earlier-init c = search rules
+
+pub loop-earlier-preserved : goal.loop-earlier-preserved
+loop-earlier-preserved c = search rules
+
+pub returns-then-not-is_matched : goal.returns-then-not-is_matched
+returns-then-not-is_matched c = search rules
+
+pub returns : goal.returns
+returns c = search rules
