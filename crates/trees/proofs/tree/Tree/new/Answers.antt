@@ -7,3 +7,6 @@ pub invariant_of-result : goal.invariant_of-result
 invariant_of-result c =
     let are : c.push.new.self.items ≡ leaf_with [] ∷ [] = search rules in
     grown_first c.args.variables c.push.new.self.items c.requires are
+
+pub returns : goal.returns
+returns c = search rules
