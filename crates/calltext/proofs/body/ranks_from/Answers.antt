@@ -1,4 +1,4 @@
-use Rattle.std.proofs.Common.{◌≡◌, ℕ, ◌+◌, ◌<◌, [], ◌∷◌, ◌++◌, length, arith, ap, sym, subst, ◌∙◌}
+use Rattle.std.proofs.Common.{◌≡◌, ℕ, ◌+◌, ◌<◌, [], ◌∷◌, ◌++◌, length, arith, ap, sym, subst, ◌∙◌, rules}
 use Rattle.std.proofs.lemmas.Grind.{common_steps}
 use Rattle.std.proofs.lemmas.List.{map_push, length-map}
 use Rattle.plaintext.specs.Plain.{line_of}
@@ -36,3 +36,45 @@ returns-then-not-is_empty-clause-err c =
     subst (λ (stop : Stopped). IsStopped stop.fault stop.line c.args.total c.args.bytes.now) (sym c.at-then-not-is_empty.ensures)
     (SoFar-unended c.unended.result c.args.total c.args.bytes.now c.loop-line.rest.now c.loop-line.number (views c.loop-line.ranks.items) c.loop-line.calls.items
     c.loop-line.invariant.so_far c.in_default.ensures.none c.unended.ensures (λ e. absurd (grind (arith, ap length e))))
+
+pub loop-line-init : goal.loop-line-init
+loop-line-init c = search rules
+
+pub overflow_cast-len : goal.overflow_cast-len
+overflow_cast-len c = grind (arith, common_steps)
+
+pub overflow_add-len : goal.overflow_add-len
+overflow_add-len c = grind (arith, common_steps)
+
+pub item_of-requires : goal.item_of-requires
+item_of-requires c = grind (arith, common_steps)
+
+pub returns-in-Err-clause-ok : goal.returns-in-Err-clause-ok
+returns-in-Err-clause-ok c = search rules
+
+pub returns-in-Err-clause-err : goal.returns-in-Err-clause-err
+returns-in-Err-clause-err c = grind (arith, common_steps)
+
+pub overflow_add-number : goal.overflow_add-number
+overflow_add-number c = search rules
+
+pub loop-line-smaller : goal.loop-line-smaller
+loop-line-smaller c = search rules
+
+pub returns-then-not-is_empty-clause-ok : goal.returns-then-not-is_empty-clause-ok
+returns-then-not-is_empty-clause-ok c = search rules
+
+pub overflow_cast-len-2 : goal.overflow_cast-len-2
+overflow_cast-len-2 c = grind (arith, common_steps)
+
+pub returns-then-len-total-clause-ok : goal.returns-then-len-total-clause-ok
+returns-then-len-total-clause-ok c = search rules
+
+pub returns-then-len-total-clause-err : goal.returns-then-len-total-clause-err
+returns-then-len-total-clause-err c = grind (arith, common_steps)
+
+pub returns-clause-ok : goal.returns-clause-ok
+returns-clause-ok c = grind (arith, common_steps)
+
+pub returns-clause-err : goal.returns-clause-err
+returns-clause-err c = search rules

@@ -13,3 +13,9 @@ returns c =
     let name = some_of _ _ _ c.in-Some-2.is c.in_ok-handle.ensures.some in
     let one : c.in-Some-2.handle ∷ [] ≡ map (λ w. w.now) c.in-Some.others.now = grind (arith, common_steps, name.0) in
     (MatchedReceive c.in-Some.request c.in-Some-2.handle, (split.0, name.1), ap (λ (s : Bool). verb.MatchedReceive s) split.1, append-nil (request_words c.in-Some.request ++ c.in-Some-2.handle ∷ []) ∙ ap (λ (ws : List (List ℕ)). request_words c.in-Some.request ++ ws) one ∙ split.2, refl)
+
+pub returns-in_default-others : goal.returns-in_default-others
+returns-in_default-others c = grind (arith, common_steps)
+
+pub returns-in_default-2 : goal.returns-in_default-2
+returns-in_default-2 c = grind (arith, common_steps)

@@ -1,3 +1,4 @@
+use Rattle.std.proofs.lemmas.Grind.{common_steps}
 use Rattle.std.proofs.Common.{◌≡◌, ℕ, List, map, ◌++◌, ◌∷◌, [], arith, rules, ap, sym, ◌∙◌}
 use Rattle.std.specs.Str.{IsAscii}
 use Rattle.plaintext.specs.Plain.{line_of, text_lines}
@@ -34,3 +35,6 @@ returns-clause-ok c =
     let n = c.in-Some-ranks_of.ensures.some in
     let same : c.in-Some-ranks_of.ranks ≡ n.0 = omega (arith, n.2) in
     c.in-Some.ensures.some ∙ ap (λ (l : List ℕ). l ∷ text_lines c.in-Some.rest.now) (sym (line_is (ranks_words c.in-Some-ranks_of.ranks) line (ap ranks_words same ∙ n.1 ∙ seen)))
+
+pub returns-then-not-is_ascii-clause-err : goal.returns-then-not-is_ascii-clause-err
+returns-then-not-is_ascii-clause-err c = grind (arith, common_steps)

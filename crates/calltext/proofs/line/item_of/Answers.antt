@@ -1,4 +1,5 @@
-use Rattle.std.proofs.Common.{◌≡◌, ◌≢◌, ◌<◌, ℕ, true, List, length, map, ◌∷◌, rules, ap, sym, ◌∙◌}
+use Rattle.std.proofs.lemmas.Grind.{common_steps}
+use Rattle.std.proofs.Common.{◌≡◌, ◌≢◌, ◌<◌, ℕ, true, List, length, map, ◌∷◌, rules, ap, sym, ◌∙◌, arith}
 use Rattle.std.specs.Str.{IsAscii}
 use Rattle.plaintext.proofs.Cuts.{parts, line_is}
 use Rattle.calltext.specs.Grammar.{call_words, rank_words, HasNames, IsInRange}
@@ -57,3 +58,27 @@ returns-clause-err c =
       λ lt e. absurd (let t : c.rank_follows.result ≡ true = c.rank_follows.ensures.1 (lt, rank_line_words c.args.next line e ∙ sym seen2) in let f = c.if-rank_follows.false in cc),
       no_refused_line line no_word,
     )
+
+pub returns-then-not-is_ascii-clause-ok : goal.returns-then-not-is_ascii-clause-ok
+returns-then-not-is_ascii-clause-ok c = search rules
+
+pub returns-then-not-is_ascii-clause-err : goal.returns-then-not-is_ascii-clause-err
+returns-then-not-is_ascii-clause-err c = grind (arith, common_steps)
+
+pub returns-then-is_in_range-clause-err : goal.returns-then-is_in_range-clause-err
+returns-then-is_in_range-clause-err c = search rules
+
+pub returns-in-Some-clause-ok : goal.returns-in-Some-clause-ok
+returns-in-Some-clause-ok c = search rules
+
+pub rank_follows-requires : goal.rank_follows-requires
+rank_follows-requires c = search rules
+
+pub returns-then-rank_follows-clause-err : goal.returns-then-rank_follows-clause-err
+returns-then-rank_follows-clause-err c = search rules
+
+pub returns-in-Some-refused_in-clause-ok : goal.returns-in-Some-refused_in-clause-ok
+returns-in-Some-refused_in-clause-ok c = search rules
+
+pub returns-clause-ok : goal.returns-clause-ok
+returns-clause-ok c = search rules

@@ -1,3 +1,4 @@
+use Rattle.std.proofs.lemmas.Grind.{common_steps}
 use Rattle.std.proofs.Common.{arith, sym}
 use Rattle.calltext.proofs.Letters.{letters_more, letters_false}
 use Rattle.calltext.proofs.name.are_letters_or_digits.Goals as goal
@@ -13,3 +14,6 @@ loop-letter-preserved c =
       | else-not-is_ascii_lowercase-via-then-not-is_ascii_lowercase+else-not-is_ascii_digit w ↦ grind (arith, w.is_ascii_digit.ensures.value, w.if-not-is_ascii_digit.false)
       | else-not-is_ascii_lowercase-via-else-not-is_ascii_lowercase w ↦ grind (arith, c.is_ascii_lowercase.ensures.value, w.if-not-is_ascii_lowercase.false)
     ])
+
+pub returns : goal.returns
+returns c = grind (arith, common_steps)

@@ -19,3 +19,12 @@ returns c =
     let ranks : views xs ≡ p.ranks = c.ranks-ranks.ensures.lines in
     let text : c.loop-rank.out.items ≡ text_of p = c.loop-rank.invariant ∙ ap (λ t. heads (length p.ranks) p.policy ++ ranks_text 0 (views t)) whole ∙ ap (λ t. heads (length p.ranks) p.policy ++ ranks_text 0 t) ranks ∙ text_is p in
     subst (λ (t : List ℕ). IsText t p) (sym text) c.ranks-ranks.ensures.readable
+
+pub overflow_cast-ranks : goal.overflow_cast-ranks
+overflow_cast-ranks c = grind (arith, common_steps)
+
+pub loop-rank-init : goal.loop-rank-init
+loop-rank-init c = grind (arith, common_steps)
+
+pub overflow_cast-rank : goal.overflow_cast-rank
+overflow_cast-rank c = grind (arith, common_steps)

@@ -1,4 +1,4 @@
-use Rattle.std.proofs.Common.{◌≤◌, length, arith, sym, subst}
+use Rattle.std.proofs.Common.{◌≤◌, length, arith, sym, subst, rules}
 use Rattle.calltext.specs.Fault.{HasFault}
 use Rattle.calltext.specs.Body.{views}
 use Rattle.calltext.proofs.Faults.{first_heading, second_heading, third_heading, stopped, is_text, readable}
@@ -42,3 +42,33 @@ returns-in-Err-ranks_from-clause-fault c =
     subst (HasFault c.args.bytes.now) (sym c.at_line-in-Err-ranks_from.ensures)
     (stopped c.in-Err-ranks_from.stop.fault c.in-Err-ranks_from.stop.line c.args.bytes.now c.in-Ok.found.1.now c.in-Ok-policy_line.found.1.now c.in-Ok-first_rank_line.found.now c.in-Ok.found.0 c.in-Ok-policy_line.found.0 small
     c.in-Ok.ensures.number.0 c.in-Ok.ensures.number.1 c.in-Ok.ensures.ok c.in-Ok-policy_line.ensures.ok c.in-Ok-first_rank_line.ensures.ok c.in-Err-ranks_from.ensures.err)
+
+pub returns-then-bytes-gt1048576-clause-text : goal.returns-then-bytes-gt1048576-clause-text
+returns-then-bytes-gt1048576-clause-text c = search rules
+
+pub returns-then-bytes-gt1048576-clause-fault : goal.returns-then-bytes-gt1048576-clause-fault
+returns-then-bytes-gt1048576-clause-fault c = search rules
+
+pub returns-in-Err-clause-text : goal.returns-in-Err-clause-text
+returns-in-Err-clause-text c = search rules
+
+pub returns-in-Err-policy_line-clause-text : goal.returns-in-Err-policy_line-clause-text
+returns-in-Err-policy_line-clause-text c = search rules
+
+pub returns-in-Err-first_rank_line-clause-text : goal.returns-in-Err-first_rank_line-clause-text
+returns-in-Err-first_rank_line-clause-text c = search rules
+
+pub ranks_from-requires-clause-low : goal.ranks_from-requires-clause-low
+ranks_from-requires-clause-low c = search rules
+
+pub ranks_from-requires-clause-high : goal.ranks_from-requires-clause-high
+ranks_from-requires-clause-high c = search rules
+
+pub ranks_from-requires-clause-small : goal.ranks_from-requires-clause-small
+ranks_from-requires-clause-small c = search rules
+
+pub returns-in-Ok-ranks_from-clause-fault : goal.returns-in-Ok-ranks_from-clause-fault
+returns-in-Ok-ranks_from-clause-fault c = search rules
+
+pub returns-in-Err-ranks_from-clause-text : goal.returns-in-Err-ranks_from-clause-text
+returns-in-Err-ranks_from-clause-text c = search rules

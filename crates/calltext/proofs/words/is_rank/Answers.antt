@@ -17,3 +17,15 @@ returns-in-Some c =
           let same : c.args.rank ≡ n.0 = numeral_injective c.args.rank n.0 spelled in
           eq-eqb _ _ (omega (arith, n.2, same)),
     )
+
+pub returns-in-None : goal.returns-in-None
+returns-in-None c = grind (arith, common_steps)
+
+pub returns-in_default : goal.returns-in_default
+returns-in_default c = grind (arith, common_steps)
+
+pub returns-in_default-2 : goal.returns-in_default-2
+returns-in_default-2 c = grind (arith, common_steps)
+
+pub returns-in_default-3 : goal.returns-in_default-3
+returns-in_default-3 c = grind (arith, common_steps)

@@ -1,0 +1,26 @@
+use Rattle.std.proofs.Common.{rules}
+use Rattle.calltext.proofs.line.is_in_range.Goals as goal
+
+pub returns-then-tag-le32767 : goal.returns-then-tag-le32767
+returns-then-tag-le32767 c = search rules
+
+pub returns-else-tag-le32767 : goal.returns-else-tag-le32767
+returns-else-tag-le32767 c = search rules
+
+pub returns-then-send_tag-le32767 : goal.returns-then-send_tag-le32767
+returns-then-send_tag-le32767 c = search rules
+
+pub returns-else-send_tag-le32767 : goal.returns-else-send_tag-le32767
+returns-else-send_tag-le32767 c = search rules
+
+pub returns-in-MatchedReceive : goal.returns-in-MatchedReceive
+returns-in-MatchedReceive c = search rules
+
+pub returns-in-MatchedReceive-2 : goal.returns-in-MatchedReceive-2
+returns-in-MatchedReceive-2 c = search rules
+
+pub returns-in-MatchedReceive-3 : goal.returns-in-MatchedReceive-3
+returns-in-MatchedReceive-3 c = search rules
+
+pub returns-in-Receive : goal.returns-in-Receive
+returns-in-Receive c = search rules
