@@ -59,16 +59,42 @@ fn count_variables(encoded: &Encoded, table: &Variables) -> u32
     encoded.formula().variables()
 }
 
+fn cube_tree_over(
+    alloc: Global,
+    encoded: &Encoded,
+    table: &Variables,
+    depth: u32,
+) -> Result<Tree, AllocError>
+    requires same { table.now ≡ encoded.now.program }
+    requires shallow { depth ≤ GREATEST_DEPTH }
+    ensures { IfOk result (λ tree. IsCubeTree encoded.now depth tree) }
+{
+    let pairs = encoded.pairs();
+    let order = branching_order(alloc, pairs)?;
+    let levels = order.len().min(depth as usize);
+    let variables = match_variables(alloc, table, pairs.as_slice(), &order[..levels])?;
+    full_tree(alloc, count_variables(encoded, table), &variables)
+}
+
 fn cube_tree(alloc: Global, encoded: &Encoded, depth: u32) -> Result<Tree, AllocError>
     requires { depth ≤ GREATEST_DEPTH }
     ensures { IfOk result (λ tree. IsCubeTree encoded.now depth tree) }
 {
     let table = encoded.variables(alloc)?;
+    cube_tree_over(alloc, encoded, &table, depth)
+}
+
+fn branching_variables_in(
+    alloc: Global,
+    encoded: &Encoded,
+    table: &Variables,
+) -> Result<Vec<u32>, AllocError>
+    requires { table.now ≡ encoded.now.program }
+    ensures { IfOk result (λ variables. AreBranchingVariables encoded.now.program variables.items) }
+{
     let pairs = encoded.pairs();
     let order = branching_order(alloc, pairs)?;
-    let levels = order.len().min(depth as usize);
-    let variables = match_variables(alloc, &table, pairs.as_slice(), &order[..levels])?;
-    full_tree(alloc, count_variables(encoded, &table), &variables)
+    match_variables(alloc, table, pairs.as_slice(), &order)
 }
 
 /// The match variables of all pairs, those of the pairs first whose takers have most pairs, and of two pairs whose takers have
@@ -77,9 +103,7 @@ pub fn branching_variables(alloc: Global, encoded: &Encoded) -> Result<Vec<u32>,
     ensures { IfOk result (λ variables. AreBranchingVariables encoded.now.program variables.items) }
 {
     let table = encoded.variables(alloc)?;
-    let pairs = encoded.pairs();
-    let order = branching_order(alloc, pairs)?;
-    match_variables(alloc, &table, pairs.as_slice(), &order)
+    branching_variables_in(alloc, encoded, &table)
 }
 
 /// The full tree that branches at each depth on the match variable of one pair, those pairs first whose

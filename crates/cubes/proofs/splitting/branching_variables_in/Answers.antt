@@ -2,7 +2,7 @@ use Rattle.std.proofs.Common.{◌≡◌, map, ◌∙◌}
 use Rattle.std.proofs.lemmas.Result.{IfOk-weaker}
 use Rattle.cubes.specs.Order.{match_variable, AreBranchingVariables}
 use Rattle.cubes.proofs.CubeTrees.{order_there, branching_variables_are}
-use Rattle.cubes.proofs.splitting.branching_variables.Goals as goal
+use Rattle.cubes.proofs.splitting.branching_variables_in.Goals as goal
 
 pub match_variables-requires-clause-there : goal.match_variables-requires-clause-there
 match_variables-requires-clause-there c =
@@ -11,9 +11,9 @@ match_variables-requires-clause-there c =
 pub returns : goal.returns
 returns c =
     IfOk-weaker c.match_variables.result
-    (λ made. made.items ≡ map (match_variable c.in_ok-table.table) c.deref.result.now)
+    (λ made. made.items ≡ map (match_variable c.args.table.now) c.deref.result.now)
     (λ made. AreBranchingVariables c.args.encoded.now.program made.items)
     (λ made is.
-    branching_variables_are c.args.encoded.now.program c.in_ok-table.table c.pairs-pairs.result.now c.in_ok-order.order.items c.deref.result.now made.items
-    c.in_ok-order.ensures (c.pairs-pairs.ensures.same ∙ c.pairs-pairs.ensures.are) c.in_ok-table.ensures c.deref.ensures.value is)
+    branching_variables_are c.args.encoded.now.program c.args.table.now c.pairs-pairs.result.now c.in_ok-order.order.items c.deref.result.now made.items
+    c.in_ok-order.ensures (c.pairs-pairs.ensures.same ∙ c.pairs-pairs.ensures.are) c.requires c.deref.ensures.value is)
     c.match_variables.ensures

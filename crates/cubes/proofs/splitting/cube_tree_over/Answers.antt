@@ -8,7 +8,7 @@ use Rattle.trees.specs.Trees.{TreeState}
 use Rattle.cubes.specs.Cubes.{IsCubeTree}
 use Rattle.cubes.specs.Levels.{full_tree}
 use Rattle.cubes.proofs.CubeTrees.{levels_there, variables_fit, cube_tree_made}
-use Rattle.cubes.proofs.splitting.cube_tree.Goals as goal
+use Rattle.cubes.proofs.splitting.cube_tree_over.Goals as goal
 
 pub match_variables-requires-clause-there : goal.match_variables-requires-clause-there
 match_variables-requires-clause-there c =
@@ -16,8 +16,8 @@ match_variables-requires-clause-there c =
 
 pub full_tree-requires-clause-within : goal.full_tree-requires-clause-within
 full_tree-requires-clause-within c =
-    let p = c.in_ok-table.table in
-    let program : c.args.encoded.now.program ≡ p = sym c.in_ok-table.ensures in
+    let p = c.args.table.now in
+    let program : c.args.encoded.now.program ≡ p = sym c.requires.same in
     let are : c.pairs-pairs.result.now ≡ pairs_of p = c.pairs-pairs.ensures.same ∙ c.pairs-pairs.ensures.are ∙ ap pairs_of program in
     let most : c.count_variables.result ≡ (formula_of p).variables =
     c.count_variables.ensures.same
@@ -35,6 +35,6 @@ returns c =
     (λ (tree : TreeState). tree ≡ record { variables = c.count_variables.result; nodes = full_tree c.deref-2.result.now })
     (λ (tree : TreeState). IsCubeTree c.args.encoded.now c.args.depth tree)
     (λ tree is.
-    cube_tree_made c.args.encoded.now c.args.depth tree c.in_ok-table.table c.pairs-pairs.result.now c.in_ok-order.order.items c.deref.result.now c.in_ok-variables.variables.items c.deref-2.result.now c.min-levels.result c.count_variables.result
-    c.in_ok-order.ensures c.pairs-pairs.ensures.same c.in_ok-table.ensures c.deref.ensures.value levels c.in_ok-variables.ensures c.deref-2.ensures.value count is)
+    cube_tree_made c.args.encoded.now c.args.depth tree c.args.table.now c.pairs-pairs.result.now c.in_ok-order.order.items c.deref.result.now c.in_ok-variables.variables.items c.deref-2.result.now c.min-levels.result c.count_variables.result
+    c.in_ok-order.ensures c.pairs-pairs.ensures.same c.requires.same c.deref.ensures.value levels c.in_ok-variables.ensures c.deref-2.ensures.value count is)
     c.full_tree.ensures
