@@ -14,7 +14,7 @@ use Rattle.refutations.specs.Proofs.{ProofLine, is_tree, are_trees, missing_afte
 use Rattle.refutations.specs.declared.tree.Node.{Node}
 use Rattle.refutations.specs.declared.tree.Node.TheVariants.{Split, Leaf}
 use Rattle.prooflog.specs.declared.fault.EvidenceFault.TheVariants.{Syntax, Range, TooLarge}
-use Rattle.prooflog.specs.Refutations.{ClaimedRefutation, Item, node_words, item_words, item_line, items, a_proof, a_node, the_tree, depths, is_depth, IsInRangeRefutation, IsSmall}
+use Rattle.prooflog.specs.Refutations.{ClaimedRefutation, Item, node_words, item_words, item_line, items, a_proof, a_node, the_tree, depths, is_depth, IsInRangeRefutation, IsSmall, waiting_after}
 use Rattle.prooflog.specs.Grammar.{Written, as_refutation, written_lines}
 use Rattle.prooflog.specs.Fault.{IsShaped, IsRanged, IsFew, CanGoOn}
 use Rattle.prooflog.specs.Reading.{words_of, capped_node, HasFaultAfter, opening, above_tree, FitsAbove}
@@ -104,11 +104,6 @@ pub record NodesSoFar (bytes rest : List ℕ) (first number : ℕ) (nodes : List
   pub few : length nodes ≤ 65536
   pub trees : (more : List Node) → are_trees 1 (nodes ++ more) ≡ are_trees (length waiting) more
   pub deep : (more : List Node) → list_all is_depth (depths (0 ∷ []) (nodes ++ more)) ≡ list_all is_depth (depths (reverse waiting) more)
-
--- the depths that wait after a node
-abbrev pub waiting_after : List ℕ → ℕ → Node → List ℕ
-waiting_after others depth (Split v) = (others ++ (depth + 1) ∷ []) ++ (depth + 1) ∷ []
-waiting_after others depth (Leaf k) = others
 
 trees_step : (others : List ℕ) (depth : ℕ) (node : Node) (more : List Node) → are_trees (length (others ++ depth ∷ [])) (node ∷ more) ≡ are_trees (length (waiting_after others depth node)) more
 trees_step others depth (Split v) more =

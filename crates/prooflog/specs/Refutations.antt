@@ -65,6 +65,11 @@ depths (d ∷ roots) [] = []
 depths (d ∷ roots) (Split variable ∷ nodes) = d ∷ depths ((d + 1) ∷ (d + 1) ∷ roots) nodes
 depths (d ∷ roots) (Leaf number ∷ nodes) = d ∷ depths roots nodes
 
+-- The depths of the trees that wait once a node at this depth was read, the next one last: below a split there are two.
+abbrev pub waiting_after : List ℕ → ℕ → Node → List ℕ
+waiting_after others depth (Split v) = (others ++ (depth + 1) ∷ []) ++ (depth + 1) ∷ []
+waiting_after others depth (Leaf k) = others
+
 abbrev pub is_depth : ℕ → Bool
 is_depth depth = nat_le depth 64
 

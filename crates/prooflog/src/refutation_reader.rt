@@ -1,11 +1,11 @@
 //! The reader of refutations.
 
-ghost use Rattle.std.specs.Prelude.{◌≡◌, ◌≢◌, ◌+◌, ◌≤◌, ◌++◌, ◌∷◌, [], ℕ, List, length, map, IsTrue, IfNone, IfSome, IfOk, IfErr};
+ghost use Rattle.std.specs.Prelude.{◌≡◌, ◌≢◌, ◌+◌, ◌<◌, ◌≤◌, ◌⊎◌, ◌++◌, ◌∷◌, [], ℕ, List, length, map, true, false, IsTrue, IfNone, IfSome, IfOk, IfErr, OnOk};
 ghost use Rattle.std.specs.List.{list_all};
 ghost use Rattle.plaintext.specs.Plain.{text_lines};
 ghost use Rattle.plaintext.specs.Fronts.{to_end};
 ghost use Rattle.refutations.specs.Proofs.{ProofLine, is_tree, are_numbered};
-ghost use Rattle.prooflog.specs.Refutations.{item_line, items, a_proof, a_node, the_tree, is_line_in_range, IsSmall, IsRefutation};
+ghost use Rattle.prooflog.specs.Refutations.{item_line, items, a_proof, a_node, the_tree, is_line_in_range, waiting_after, IsSmall, IsRefutation};
 ghost use Rattle.prooflog.specs.Reading.{words_of, capped, counts_words, opening, above_tree, FitsAbove, HasFaultAfter, LinesSoFar};
 
 use crate::ahead::Ahead;
@@ -16,7 +16,7 @@ use crate::refutation::{MOST_DEPTH, MOST_LINES, MOST_NODES, Refutation};
 use crate::words::cut_word;
 use plaintext::{is_word, next_line, number_of};
 use refutations::{Line, Node, ProofTree, is_numbered};
-use std::alloc::Global;
+use std::alloc::{AllocFailed, Global};
 
 /// The counts of a refutation's heading, where it is one; each above 2,147,483,647 as
 /// 2,147,483,648.
@@ -82,6 +82,27 @@ fn read_lines<'a>(
     Err(EvidenceFault::Syntax { line: number })
 }
 
+/// Whether a node at this depth, after so many nodes, is one too many or stands too deep.
+fn is_beyond(count: usize, depth: u32) -> bool
+    ensures yes { result ≡ true → (65536 ≤ count) ⊎ (64 < depth) }
+    ensures no { result ≡ false → (count < 65536) × (depth ≤ 64) }
+{
+    count >= MOST_NODES || depth > MOST_DEPTH
+}
+
+/// Below a split two more trees wait.
+fn push_children(waiting: &mut Vec<u32>, depth: u32, node: &Node) -> Result<(), AllocFailed<u32>>
+    requires { depth ≤ 64 }
+    ensures { OnOk result (waiting.new.items ≡ waiting_after waiting.old.items depth node.now) }
+{
+    if let Node::Split(_) = node {
+        let below = depth + 1;
+        waiting.push(below)?;
+        waiting.push(below)?;
+    }
+    Ok(())
+}
+
 /// The nodes from the line `first` of the text to its end.
 fn read_nodes(alloc: Global, bytes: &[u8], first: u32) -> Result<Vec<Node>, EvidenceFault>
     requires { first ≤ 1000004 }
@@ -106,13 +127,10 @@ fn read_nodes(alloc: Global, bytes: &[u8], first: u32) -> Result<Vec<Node>, Evid
         if !is_numbered(&node) {
             return Err(EvidenceFault::Range { line: number });
         }
-        if nodes.len() >= MOST_NODES || depth > MOST_DEPTH {
+        if is_beyond(nodes.len(), depth) {
             return Err(EvidenceFault::TooLarge);
         }
-        if let Node::Split(_) = node {
-            waiting.push(depth + 1)?;
-            waiting.push(depth + 1)?;
-        }
+        push_children(&mut waiting, depth, &node)?;
         nodes.push(node)?;
         number += 1;
         rest = after;

@@ -1,4 +1,4 @@
-use Rattle.std.proofs.Common.{◌≡◌, refl, ap, ◌∙◌}
+use Rattle.std.proofs.Common.{◌≡◌, refl, ap, ◌∙◌, rules}
 use Rattle.std.specs.Prelude.{codes}
 use Rattle.std.specs.Option.{option_copied}
 use Rattle.refutations.specs.Proofs.{ProofLine}
@@ -44,3 +44,27 @@ returns-in-None-clause-why c =
       spelled (words_of c.args.line.now) (words_after (option_copied c.cut_word.result.1)) (words_after (option_copied c.in-Some.read.hints)) c.cut_word.result.0.now read.0 hints.0 c.cut_word.ensures.words is read.1 hints.1,
       no_line c.in-Some.read.in_range c.in-Some.read.literals.items read.0 c.in-Some-2.hints.items hints.0 read.2 c.if-not-read.false hints.2 (λ fits. let t = c.in-None.ensures.when.1 fits in cc),
     )
+
+pub returns-then-not-is_word-clause-found : goal.returns-then-not-is_word-clause-found
+returns-then-not-is_word-clause-found c = search rules
+
+pub returns-then-not-is_word-clause-why : goal.returns-then-not-is_word-clause-why
+returns-then-not-is_word-clause-why c = search rules
+
+pub returns-in_default-clause-found : goal.returns-in_default-clause-found
+returns-in_default-clause-found c = search rules
+
+pub returns-in_default-clause-why : goal.returns-in_default-clause-why
+returns-in_default-clause-why c = search rules
+
+pub returns-in_default-2-clause-found : goal.returns-in_default-2-clause-found
+returns-in_default-2-clause-found c = search rules
+
+pub returns-then-not-read-clause-found : goal.returns-then-not-read-clause-found
+returns-then-not-read-clause-found c = search rules
+
+pub returns-in-Some-from_vecs-clause-why : goal.returns-in-Some-from_vecs-clause-why
+returns-in-Some-from_vecs-clause-why c = search rules
+
+pub returns-in-None-clause-found : goal.returns-in-None-clause-found
+returns-in-None-clause-found c = search rules

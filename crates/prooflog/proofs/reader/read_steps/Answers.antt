@@ -1,4 +1,4 @@
-use Rattle.std.proofs.Common.{◌≡◌, ◌+◌, ◌<◌, ◌≤◌, [], ◌∷◌, ◌++◌, length, arith, ap, sym, subst, ◌∙◌}
+use Rattle.std.proofs.Common.{◌≡◌, ◌+◌, ◌<◌, ◌≤◌, [], ◌∷◌, ◌++◌, length, arith, ap, sym, subst, ◌∙◌, rules}
 use Rattle.std.proofs.lemmas.Grind.{common_steps}
 use Rattle.plaintext.specs.Plain.{text_lines}
 use Rattle.prooflog.specs.Steps.{written, step_line, IsStepInRange}
@@ -45,3 +45,48 @@ loop-line-preserved c =
 pub returns-then-not-is_empty-clause-fault : goal.returns-then-not-is_empty-clause-fault
 returns-then-not-is_empty-clause-fault c =
     unended c.args.bytes.now c.loop-line.rest.now c.loop-line.number c.loop-line.steps.items c.loop-line.invariant c.in_default.ensures.none (λ e. grind (arith, common_steps, ap length e))
+
+pub loop-line-init : goal.loop-line-init
+loop-line-init c = search rules
+
+pub returns-in_default-step_of-clause-limits : goal.returns-in_default-step_of-clause-limits
+returns-in_default-step_of-clause-limits c = search rules
+
+pub returns-in_default-step_of-clause-found : goal.returns-in_default-step_of-clause-found
+returns-in_default-step_of-clause-found c = search rules
+
+pub returns-in_default-step_in_range-clause-limits : goal.returns-in_default-step_in_range-clause-limits
+returns-in_default-step_in_range-clause-limits c = search rules
+
+pub returns-in_default-step_in_range-clause-found : goal.returns-in_default-step_in_range-clause-found
+returns-in_default-step_in_range-clause-found c = search rules
+
+pub returns-then-len-ge-MOST_STEPS-clause-limits : goal.returns-then-len-ge-MOST_STEPS-clause-limits
+returns-then-len-ge-MOST_STEPS-clause-limits c = search rules
+
+pub returns-then-len-ge-MOST_STEPS-clause-found : goal.returns-then-len-ge-MOST_STEPS-clause-found
+returns-then-len-ge-MOST_STEPS-clause-found c = search rules
+
+pub overflow_add-number : goal.overflow_add-number
+overflow_add-number c = search rules
+
+pub loop-line-smaller : goal.loop-line-smaller
+loop-line-smaller c = search rules
+
+pub returns-then-not-is_empty-clause-limits : goal.returns-then-not-is_empty-clause-limits
+returns-then-not-is_empty-clause-limits c = search rules
+
+pub returns-then-not-is_empty-clause-found : goal.returns-then-not-is_empty-clause-found
+returns-then-not-is_empty-clause-found c = search rules
+
+pub of_checked-requires : goal.of_checked-requires
+of_checked-requires c = search rules
+
+pub returns-clause-limits : goal.returns-clause-limits
+returns-clause-limits c = search rules
+
+pub returns-clause-found : goal.returns-clause-found
+returns-clause-found c = grind (arith, common_steps)
+
+pub returns-clause-fault : goal.returns-clause-fault
+returns-clause-fault c = search rules

@@ -1,4 +1,5 @@
-use Rattle.std.proofs.Common.{◌≡◌, ◌+◌, ◌<◌, ℕ, Bool, false, List, [], ◌∷◌, get_or, drop, reverse, ap, sym, ◌∙◌}
+use Rattle.std.proofs.lemmas.Grind.{common_steps}
+use Rattle.std.proofs.Common.{◌≡◌, ◌+◌, ◌<◌, ℕ, Bool, false, List, [], ◌∷◌, get_or, drop, reverse, ap, sym, ◌∙◌, rules, arith}
 use Rattle.std.specs.Prelude.{◌&&◌}
 use Rattle.std.specs.List.{list_all}
 use Rattle.std.proofs.lemmas.Bool.{lt-leb}
@@ -21,3 +22,24 @@ returns-then-depth-gt-MOST_DEPTH c =
     let last : reverse c.loop-node.waiting.items ≡ depth ∷ reverse others = ap reverse c.in-Some.ensures.items ∙ reverse-append others (depth ∷ []) in
     sym (too_deep depth (reverse others) (get_or c.args.nodes.now c.loop-node.node-index (Leaf 0)) (drop (c.loop-node.node-index + 1) c.args.nodes.now) c.if-depth-gt-MOST_DEPTH.true)
     ∙ (λ i. list_all is_depth (depths (sym last i) (sym next i))) ∙ c.loop-node.invariant
+
+pub loop-node-init : goal.loop-node-init
+loop-node-init c = search rules
+
+pub offset_bounds-nodes-node-index : goal.offset_bounds-nodes-node-index
+offset_bounds-nodes-node-index c = search rules
+
+pub returns-in_default : goal.returns-in_default
+returns-in_default c = search rules
+
+pub overflow_add-depth : goal.overflow_add-depth
+overflow_add-depth c = search rules
+
+pub overflow_add-depth-in-Split : goal.overflow_add-depth-in-Split
+overflow_add-depth-in-Split c = search rules
+
+pub loop-node-preserved : goal.loop-node-preserved
+loop-node-preserved c = grind (arith, common_steps)
+
+pub returns : goal.returns
+returns c = grind (arith, common_steps)

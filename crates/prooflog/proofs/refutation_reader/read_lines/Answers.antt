@@ -37,3 +37,6 @@ loop-line-preserved c =
 
 pub returns-clause-fault : goal.returns-clause-fault
 returns-clause-fault c = lines_unended c.args.bytes.now c.loop-line.rest.now c.loop-line.number c.loop-line.lines.items c.loop-line.invariant c.in_default.ensures.none
+
+pub returns-then-is_word-clause-cut : goal.returns-then-is_word-clause-cut
+returns-then-is_word-clause-cut c = grind (arith, common_steps)

@@ -3,9 +3,8 @@ use Rattle.std.proofs.lemmas.Grind.{common_steps}
 use Rattle.std.proofs.lemmas.List.{length-append}
 use Rattle.plaintext.specs.Plain.{text_lines}
 use Rattle.refutations.specs.Proofs.{is_number, number_of}
-use Rattle.prooflog.specs.Refutations.{item_line, a_node}
-use Rattle.prooflog.proofs.Nodes.{NodesSoFar, waiting_after, one_more_node, nodes_stop_syntax, nodes_stop_after, nodes_stop_range, nodes_stop_large, nodes_unended, nodes_whole, no_node_line, node_line_of, read_node, over_node, first_line}
-use Rattle.prooflog.proofs.refutation_reader.read_nodes.Goals.{in-Split+in_ok-push-2+in_ok-push-3, in_default-node, then-len-ge-MOST_NODES-via-then-len-ge-MOST_NODES, then-len-ge-MOST_NODES-via-else-len-ge-MOST_NODES+then-depth-gt-MOST_DEPTH}
+use Rattle.prooflog.specs.Refutations.{item_line, a_node, waiting_after}
+use Rattle.prooflog.proofs.Nodes.{NodesSoFar, one_more_node, nodes_stop_syntax, nodes_stop_after, nodes_stop_range, nodes_stop_large, nodes_unended, nodes_whole, no_node_line, node_line_of, read_node, over_node, first_line}
 use Rattle.prooflog.proofs.refutation_reader.read_nodes.Goals as goal
 
 pub returns-in_default-next_line-clause-fault : goal.returns-in_default-next_line-clause-fault
@@ -29,15 +28,15 @@ returns-then-not-is_numbered-clause-fault c =
     (line ++ 10 ∷ []) (text_lines c.in-Some-next_line.after.now) c.in-Some-next_line.ensures.some v clauses lines fits placed some read.0 (node_line_of line read.0 read.1)
     (over_node read.0 c.in-Some-node_of.node read.2 (λ numbered. let known = c.is_numbered.ensures in let f = c.if-not-is_numbered.true in cc))
 
-pub returns-then-len-ge-MOST_NODES-clause-fault : goal.returns-then-len-ge-MOST_NODES-clause-fault
-returns-then-len-ge-MOST_NODES-clause-fault c =
+pub returns-then-is_beyond-clause-fault : goal.returns-then-is_beyond-clause-fault
+returns-then-is_beyond-clause-fault c =
     let line = c.in-Some-next_line.line.now in
     let read = c.in-Some-node_of.ensures.some in
     let numbered : is_number (number_of c.in-Some-node_of.node) ≡ true = sym c.is_numbered.ensures ∙ c.if-not-is_numbered.false in
     let same : c.in-Some-node_of.node ≡ read.0 = read_node read.0 c.in-Some-node_of.node read.2 numbered in
-    let large : (65536 ≤ length c.loop-depth.nodes.items) ⊎ (64 < c.in-Some.depth) = elim c.then-len-ge-MOST_NODES.branch [
-      | then-len-ge-MOST_NODES-via-then-len-ge-MOST_NODES w ↦ inl (grind (arith, common_steps, c.len.ensures, w.if-len-ge-MOST_NODES.true))
-      | then-len-ge-MOST_NODES-via-else-len-ge-MOST_NODES+then-depth-gt-MOST_DEPTH w ↦ inr (grind (arith, common_steps, w.if-depth-gt-MOST_DEPTH.true))
+    let large : (65536 ≤ length c.loop-depth.nodes.items) ⊎ (64 < c.in-Some.depth) = elim (c.is_beyond.ensures.yes c.if-is_beyond.true) [
+      | inl h ↦ inl (grind (arith, common_steps, c.len.ensures, h))
+      | inr h ↦ inr h
     ] in
     λ v clauses lines fits placed. nodes_stop_large c.args.bytes.now c.loop-depth.rest.now c.args.first c.loop-depth.number c.loop-depth.nodes.items c.loop-depth.waiting.items c.loop-depth.invariant
     (line ++ 10 ∷ []) (text_lines c.in-Some-next_line.after.now) c.in-Some-next_line.ensures.some v clauses lines fits placed c.pop.new.self.items c.in-Some.depth c.in-Some.ensures.items
@@ -47,20 +46,15 @@ pub loop-depth-preserved : goal.loop-depth-preserved
 loop-depth-preserved c =
     let line = c.in-Some-next_line.line.now in
     let read = c.in-Some-node_of.ensures.some in
-    let depth = c.in-Some.depth in
     let numbered : is_number (number_of c.in-Some-node_of.node) ≡ true = sym c.is_numbered.ensures ∙ c.if-not-is_numbered.false in
     let same : c.in-Some-node_of.node ≡ read.0 = read_node read.0 c.in-Some-node_of.node read.2 numbered in
-    let room : length c.loop-depth.nodes.items < 65536 = grind (arith, common_steps, c.len.ensures, c.if-len-ge-MOST_NODES.false) in
-    let shallow : c.in-Some.depth ≤ 64 = grind (arith, common_steps, c.if-depth-gt-MOST_DEPTH.false) in
-    let waits : c.match-node.waiting.items ≡ waiting_after c.pop.new.self.items c.in-Some.depth c.in-Some-node_of.node = elim c.match-node.branch [
-      | in-Split+in_ok-push-2+in_ok-push-3 w ↦ ap (λ v. v.items) w.waiting-is ∙ w.in_ok-push-3.ensures.items ∙ ap (λ ds. ds ++ (depth + 1) ∷ []) w.in_ok-push-2.ensures.items ∙ ap (waiting_after c.pop.new.self.items c.in-Some.depth) (sym w.in-Split.is)
-      | in_default-node w ↦ ap (λ v. v.items) w.waiting-is ∙ ap (waiting_after c.pop.new.self.items c.in-Some.depth) (sym w.in_default-node.is)
-    ] in
+    let inside = c.is_beyond.ensures.no c.if-is_beyond.false in
+    let room : length c.loop-depth.nodes.items < 65536 = grind (arith, common_steps, c.len.ensures, inside.0) in
     let so = subst (λ waiting. NodesSoFar c.args.bytes.now c.loop-depth.rest.now c.args.first c.loop-depth.number c.loop-depth.nodes.items waiting) c.in-Some.ensures.items c.loop-depth.invariant in
-    subst (λ items. NodesSoFar c.args.bytes.now c.in-Some-next_line.after.now c.args.first (c.loop-depth.number + 1) items c.match-node.waiting.items) (sym c.in_ok-push-4.ensures.items) (
-    subst (λ waiting. NodesSoFar c.args.bytes.now c.in-Some-next_line.after.now c.args.first (c.loop-depth.number + 1) (c.loop-depth.nodes.items ++ c.in-Some-node_of.node ∷ []) waiting) (sym waits) (
+    subst (λ items. NodesSoFar c.args.bytes.now c.in-Some-next_line.after.now c.args.first (c.loop-depth.number + 1) items c.push_children.new.waiting.items) (sym c.in_ok-push-2.ensures.items) (
+    subst (λ waiting. NodesSoFar c.args.bytes.now c.in-Some-next_line.after.now c.args.first (c.loop-depth.number + 1) (c.loop-depth.nodes.items ++ c.in-Some-node_of.node ∷ []) waiting) (sym c.in_ok-push_children.ensures) (
     one_more_node c.args.bytes.now c.loop-depth.rest.now c.in-Some-next_line.after.now c.args.first c.loop-depth.number c.loop-depth.nodes.items c.pop.new.self.items c.in-Some.depth c.in-Some-node_of.node (line ++ 10 ∷ []) so c.in-Some-next_line.ensures.some
-    (ap (λ node. item_line (a_node node)) same ∙ node_line_of line read.0 read.1) numbered room shallow
+    (ap (λ node. item_line (a_node node)) same ∙ node_line_of line read.0 read.1) numbered room inside.1
     ))
 
 pub returns-then-not-is_empty-clause-fault : goal.returns-then-not-is_empty-clause-fault

@@ -1,4 +1,4 @@
-use Rattle.std.proofs.Common.{arith, refl, sym, subst}
+use Rattle.std.proofs.Common.{arith, refl, sym, subst, rules}
 use Rattle.std.specs.Prelude.{All}
 use Rattle.std.proofs.lemmas.Grind.{common_steps}
 use Rattle.prooflog.specs.Steps.{written, IsStepInRange}
@@ -24,3 +24,15 @@ invariant_of-result c =
 
 pub returns-clause-when : goal.returns-clause-when
 returns-clause-when c = (λ e. invariant_of-result c, λ is. refl)
+
+pub returns-then-len-gt-MOST_STEPS-clause-made : goal.returns-then-len-gt-MOST_STEPS-clause-made
+returns-then-len-gt-MOST_STEPS-clause-made c = search rules
+
+pub returns-then-len-gt-MOST_STEPS-clause-back : goal.returns-then-len-gt-MOST_STEPS-clause-back
+returns-then-len-gt-MOST_STEPS-clause-back c = search rules
+
+pub returns-clause-made : goal.returns-clause-made
+returns-clause-made c = search rules
+
+pub returns-clause-back : goal.returns-clause-back
+returns-clause-back c = search rules
