@@ -59,6 +59,7 @@ fn count_variables(encoded: &Encoded, table: &Variables) -> u32
     encoded.formula().variables()
 }
 
+/// The tree, over the table of the program's variables.
 fn cube_tree_over(
     alloc: Global,
     encoded: &Encoded,
@@ -84,6 +85,7 @@ fn cube_tree(alloc: Global, encoded: &Encoded, depth: u32) -> Result<Tree, Alloc
     cube_tree_over(alloc, encoded, &table, depth)
 }
 
+/// The match variables, over the table of the program's variables.
 fn branching_variables_in(
     alloc: Global,
     encoded: &Encoded,

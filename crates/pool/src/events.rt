@@ -143,6 +143,20 @@ fn replies_to(alloc: Global, pool: &mut Pool, events: &[Event]) -> Result<Vec<Re
     Ok(replies)
 }
 
+/// These calls, made in order of a pool, with the reply to each.
+fn with_replies(
+    alloc: Global,
+    mut pool: Pool,
+    events: &[Event],
+) -> Result<(Pool, Vec<Reply>), AllocError>
+    ensures { IfOk result (λ made. AreAnswered pool events.now made.0 made.1.items) }
+{
+    match replies_to(alloc, &mut pool, events) {
+        Ok(replies) => Ok((pool, replies)),
+        Err(AllocError) => Err(AllocError),
+    }
+}
+
 /// Makes these calls, in order, of a new pool, and answers the pool with the reply to each. Want of memory in
 /// any of them ends the run.
 pub fn run(
@@ -154,7 +168,8 @@ pub fn run(
     requires { tree.variables ≡ encoded.formula.variables }
     ensures { IfOk result (λ made. IsPoolRun encoded tree events.now made.0 made.1.items) }
 {
-    let mut pool = Pool::new(alloc, encoded, tree)?;
-    let replies = replies_to(alloc, &mut pool, events)?;
-    Ok((pool, replies))
+    match Pool::new(alloc, encoded, tree) {
+        Ok(pool) => with_replies(alloc, pool, events),
+        Err(AllocError) => Err(AllocError),
+    }
 }

@@ -8,6 +8,7 @@ ghost use Rattle.pool.specs.Reasons.{IsSmallest};
 ghost use Rattle.pool.specs.States.{opening, noted, next_number, first_of, with_reason, leave_item, IsOpen, IsClosedBy, IsVariable, IsPublished, published, IsFetched, fetched, IsClosed, closed, IsSplit, after_split, IsFound, after_found, IsAssembled, IsUndecided, IsSound};
 ghost use Rattle.pool.specs.Refusals.{IsSplitFault};
 ghost use Rattle.refutations.specs.Refutations.{Accepts};
+ghost use Rattle.semantics.specs.Machine.{IsStuckRun};
 
 use crate::assembly::{AssembleFault, refutation_of, schedule_of_run};
 use crate::entry::{
@@ -144,6 +145,19 @@ fn add_reason(reasons: &mut Vec<Why>, kept: usize, why: Option<Why>) -> Result<(
     }
 }
 
+/// Whether the steps are a run of the program that ends stuck.
+fn ends_stuck(alloc: Global, program: &Program, steps: &[Step]) -> Result<bool, AllocError>
+    ensures { IfOk result (λ stuck. IsTrue stuck ↔ IsStuckRun program.now steps.now) }
+{
+    match replay(alloc, program, steps) {
+        Ok(End::Stuck) => Ok(true),
+        Ok(End::Finished) => Ok(false),
+        Ok(End::Live) => Ok(false),
+        Err(ReplayFault::NotEnabled { .. }) => Ok(false),
+        Err(ReplayFault::Memory) => Err(AllocError),
+    }
+}
+
 /// The first schedule stays.
 fn keep_first(schedule: &mut Option<Vec<Step>>, steps: Vec<Step>)
     ensures { option_map (λ s. s.items) schedule.new ≡ Some (first_of (option_map (λ s. s.items) schedule.old) steps.items) }
@@ -173,11 +187,30 @@ impl Pool {
         requires { tree.variables ≡ encoded.formula.variables }
         ensures { IfOk result (λ pool. pool ≡ opening encoded tree) }
     {
+        match tables(alloc, encoded.formula(), &tree) {
+            Ok((closed, known)) => Ok(Pool::opened(alloc, encoded, tree, closed, known)),
+            Err(AllocError) => Err(AllocError),
+        }
+    }
+
+    /// The pool with its tables, in which nothing was done yet.
+    fn opened(
+        alloc: Global,
+        encoded: Encoded,
+        tree: Tree,
+        closed: Vec<u32>,
+        known: PartialAssignment,
+    ) -> Pool
+        requires variables { tree.variables ≡ encoded.formula.variables }
+        requires closed { closed.items ≡ replicate (length tree.nodes) 0 }
+        requires known { length known ≡ encoded.formula.variables + 1 }
+        ensures { result ≡ opening encoded tree }
+    {
         let _program = encoded.program();
+        let _formula = encoded.formula();
         let _variables = tree.variables();
         let open_leaves = leaves_of(&tree);
-        let (closed, known) = tables(alloc, encoded.formula(), &tree)?;
-        Ok(Pool {
+        Pool {
             encoded,
             tree,
             closed,
@@ -188,7 +221,7 @@ impl Pool {
             reasons: Vec::new(alloc),
             history: Vec::new(alloc),
             kept: 0,
-        })
+        }
     }
 
     /// The program.
@@ -507,18 +540,18 @@ impl Pool {
             return Err(FoundFault::Memory);
         }
         let count = steps.len();
-        match replay(alloc, self.encoded.program(), &steps) {
-            Ok(End::Stuck) => {
+        match ends_stuck(alloc, self.encoded.program(), &steps) {
+            Ok(true) => {
                 keep_first(&mut self.schedule, steps);
                 note(&mut self.history, worker, Deed::Found(count, Ok(())));
                 Ok(())
             }
-            Err(ReplayFault::Memory) => Err(FoundFault::Memory),
-            _ => {
+            Ok(false) => {
                 let reply = Err(FoundFault::NotStuck);
                 note(&mut self.history, worker, Deed::Found(count, reply));
                 Err(FoundFault::NotStuck)
             }
+            Err(AllocError) => Err(FoundFault::Memory),
         }
     }
 }

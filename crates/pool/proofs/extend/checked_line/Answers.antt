@@ -1,4 +1,4 @@
-use Rattle.std.proofs.Common.{◌≡◌, ◌++◌, map, false, Option, IfNone, subst, arith}
+use Rattle.std.proofs.Common.{rules, ◌≡◌, ◌++◌, map, false, Option, IfNone, subst, arith}
 use Rattle.std.proofs.lemmas.List.{length-append}
 use Rattle.refutations.specs.Proofs.{ProofLine, are_numbers}
 use Rattle.pool.specs.Replies.{resolved, resolved_hint}
@@ -15,3 +15,9 @@ returns-in_default-clause-not_derived c = λ derived.
     in
     let all = derived_numbers c.args.formula.now (log ++ more) (resolved c.args.base line) (omega (arith, c.requires.few, length-append log more)) derived in
     cc
+
+pub returns-in-Ok-clause-not_derived : goal.returns-in-Ok-clause-not_derived
+returns-in-Ok-clause-not_derived c = search rules
+
+pub returns-in-Err-clause-derived : goal.returns-in-Err-clause-derived
+returns-in-Err-clause-derived c = search rules

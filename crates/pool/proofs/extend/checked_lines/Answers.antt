@@ -1,4 +1,5 @@
 use Rattle.std.proofs.Common.{◌≡◌, ◌++◌, ◌∷◌, [], map, take, get_or, List, Option, IfNone, IfSome, ap, sym, subst, ◌∙◌, arith}
+use Rattle.std.proofs.lemmas.Grind.{common_steps}
 use Rattle.batches.specs.declared.BatchLine.{BatchLine}
 use Rattle.refutations.specs.Derivations.{Derives}
 use Rattle.refutations.specs.Proofs.{ProofLine}
@@ -46,3 +47,9 @@ loop-place-preserved c =
 pub returns-clause-derive : goal.returns-clause-derive
 returns-clause-derive c =
     all_derive c.args.formula.now c.args.log.now (resolved c.args.base) c.args.batch.now c.loop-place.place (omega arith) c.loop-place.invariant.derive
+
+pub checked_line-requires-clause-few : goal.checked_line-requires-clause-few
+checked_line-requires-clause-few c = grind (arith, common_steps)
+
+pub returns-clause-lines : goal.returns-clause-lines
+returns-clause-lines c = grind (arith, common_steps)

@@ -1,4 +1,4 @@
-use Rattle.std.proofs.Common.{arith}
+use Rattle.std.proofs.Common.{rules, arith}
 use Rattle.pool.proofs.OpenLeaves.{open_counts, count_closed}
 use Rattle.pool.proofs.Soundness.{sound_close, not_zero}
 use Rattle.pool.proofs.keep.Pool.close.Goals as goal
@@ -17,3 +17,6 @@ invariant_of-self-4 c =
       omega (arith, c.self.invariant.1, counted),
       c.self.invariant.2,
     )
+
+pub returns-clause-pool : goal.returns-clause-pool
+returns-clause-pool c = search rules

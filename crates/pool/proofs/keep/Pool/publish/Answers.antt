@@ -1,4 +1,4 @@
-use Rattle.std.proofs.Common.{Err, length, arith, ap, subst, ◌∙◌}
+use Rattle.std.proofs.Common.{rules, Err, length, arith, ap, subst, ◌∙◌}
 use Rattle.clauses.specs.Clauses.{Conjunction}
 use Rattle.pool.specs.declared.entry.PublishFault.{PublishFault}
 use Rattle.pool.specs.Batches.{IsExtended}
@@ -39,3 +39,6 @@ returns-in-Err-Full-clause-reply c =
       published_ok h c.formula-formula.result.now c.self.inside.log c.as_slice-lines.result.now c.args.batch.now.lines.items c.next_number-base.result (c.formula-formula.ensures.same ∙ ap (λ (k : Kept). k.held.formula) c.self.view_is) log_is c.as_slice-lines.ensures.value base told.0,
       omega (arith, told.1, ap length log_is, lines_count c.next_number-base.result c.as_slice-lines.result.now c.args.batch.now.lines.items c.as_slice-lines.ensures.value),
     )
+
+pub returns-in-Ok-clause-pool : goal.returns-in-Ok-clause-pool
+returns-in-Ok-clause-pool c = search rules
