@@ -113,7 +113,7 @@ trees_step others depth (Leaf k) more =
     let after : length (others ++ depth ∷ []) - 1 ≡ length others = omega (arith, length-append others (depth ∷ [])) in
     one_node (length (others ++ depth ∷ [])) (Leaf k) more (omega (arith, length-append others (depth ∷ []))) ∙ ap (λ (n : ℕ). are_trees n more) after
 
-deep_step : (others : List ℕ) (depth : ℕ) (node : Node) (more : List Node) → list_all is_depth (depths (reverse (others ++ depth ∷ [])) (node ∷ more)) ≡ (is_depth depth && list_all is_depth (depths (reverse (waiting_after others depth node)) more))
+pub deep_step : (others : List ℕ) (depth : ℕ) (node : Node) (more : List Node) → list_all is_depth (depths (reverse (others ++ depth ∷ [])) (node ∷ more)) ≡ (is_depth depth && list_all is_depth (depths (reverse (waiting_after others depth node)) more))
 deep_step others depth (Split v) more =
     let before : reverse (others ++ depth ∷ []) ≡ depth ∷ reverse others = reverse-append others (depth ∷ []) in
     let after : reverse ((others ++ (depth + 1) ∷ []) ++ (depth + 1) ∷ []) ≡ (depth + 1) ∷ (depth + 1) ∷ reverse others = reverse-append (others ++ (depth + 1) ∷ []) ((depth + 1) ∷ []) ∙ ap (λ (ds : List ℕ). (depth + 1) ∷ ds) (reverse-append others ((depth + 1) ∷ [])) in

@@ -1,12 +1,12 @@
 //! Refutations.
 
-ghost use Rattle.std.specs.Prelude.{◌≡◌, ◌↔◌, ◌∷◌, [], ℕ, IfOk, IfErr, IsTrue};
+ghost use Rattle.std.specs.Prelude.{◌≡◌, ◌↔◌, ◌≤◌, ◌∷◌, [], ℕ, IfOk, IfErr, OnOk, IsTrue};
 ghost use Rattle.std.specs.List.{list_all};
 ghost use Rattle.refutations.specs.Proofs.{is_tree, are_numbered};
-ghost use Rattle.prooflog.specs.Refutations.{IsRefutation, IsSmall, is_line_in_range, is_depth, depths};
+ghost use Rattle.prooflog.specs.Refutations.{IsRefutation, IsSmall, is_line_in_range, is_depth, depths, waiting_after};
 
 use refutations::{LARGEST_NUMBER, Line, Node, ProofTree};
-use std::alloc::{AllocError, Global};
+use std::alloc::{AllocError, AllocFailed, Global};
 use std::marker::Model;
 use thiserror::Error;
 
@@ -51,6 +51,23 @@ pub enum MakeRefutationFault {
     TooLarge,
 }
 
+/// Below a split two more trees wait.
+pub(crate) fn push_children(
+    waiting: &mut Vec<u32>,
+    depth: u32,
+    node: &Node,
+) -> Result<(), AllocFailed<u32>>
+    requires { depth ≤ 64 }
+    ensures { OnOk result (waiting.new.items ≡ waiting_after waiting.old.items depth node.now) }
+{
+    if let Node::Split(_) = node {
+        let below = depth + 1;
+        waiting.push(below)?;
+        waiting.push(below)?;
+    }
+    Ok(())
+}
+
 /// Whether no node is deeper than the deepest that is allowed.
 fn are_shallow(alloc: Global, nodes: &[Node]) -> Result<bool, AllocError>
     ensures { IfOk result (λ shallow. shallow ≡ list_all is_depth (depths (0 ∷ []) nodes.now)) }
@@ -64,10 +81,7 @@ fn are_shallow(alloc: Global, nodes: &[Node]) -> Result<bool, AllocError>
         if depth > MOST_DEPTH {
             return Ok(false);
         }
-        if let Node::Split(_) = node {
-            waiting.push(depth + 1)?;
-            waiting.push(depth + 1)?;
-        }
+        push_children(&mut waiting, depth, node)?;
     }
     Ok(true)
 }

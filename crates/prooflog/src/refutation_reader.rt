@@ -1,22 +1,22 @@
 //! The reader of refutations.
 
-ghost use Rattle.std.specs.Prelude.{◌≡◌, ◌≢◌, ◌+◌, ◌<◌, ◌≤◌, ◌⊎◌, ◌++◌, ◌∷◌, [], ℕ, List, length, map, true, false, IsTrue, IfNone, IfSome, IfOk, IfErr, OnOk};
+ghost use Rattle.std.specs.Prelude.{◌≡◌, ◌≢◌, ◌+◌, ◌<◌, ◌≤◌, ◌⊎◌, ◌++◌, ◌∷◌, [], ℕ, List, length, map, true, false, IsTrue, IfNone, IfSome, IfOk, IfErr};
 ghost use Rattle.std.specs.List.{list_all};
 ghost use Rattle.plaintext.specs.Plain.{text_lines};
 ghost use Rattle.plaintext.specs.Fronts.{to_end};
 ghost use Rattle.refutations.specs.Proofs.{ProofLine, is_tree, are_numbered};
-ghost use Rattle.prooflog.specs.Refutations.{item_line, items, a_proof, a_node, the_tree, is_line_in_range, waiting_after, IsSmall, IsRefutation};
+ghost use Rattle.prooflog.specs.Refutations.{item_line, items, a_proof, a_node, the_tree, is_line_in_range, IsSmall, IsRefutation};
 ghost use Rattle.prooflog.specs.Reading.{words_of, capped, counts_words, opening, above_tree, FitsAbove, HasFaultAfter, LinesSoFar};
 
 use crate::ahead::Ahead;
 use crate::fault::EvidenceFault;
 use crate::node::node_of;
 use crate::proof_line::{Unread, proof_line_of};
-use crate::refutation::{MOST_DEPTH, MOST_LINES, MOST_NODES, Refutation};
+use crate::refutation::{MOST_DEPTH, MOST_LINES, MOST_NODES, Refutation, push_children};
 use crate::words::cut_word;
 use plaintext::{is_word, next_line, number_of};
 use refutations::{Line, Node, ProofTree, is_numbered};
-use std::alloc::{AllocFailed, Global};
+use std::alloc::Global;
 
 /// The counts of a refutation's heading, where it is one; each above 2,147,483,647 as
 /// 2,147,483,648.
@@ -88,19 +88,6 @@ fn is_beyond(count: usize, depth: u32) -> bool
     ensures no { result ≡ false → (count < 65536) × (depth ≤ 64) }
 {
     count >= MOST_NODES || depth > MOST_DEPTH
-}
-
-/// Below a split two more trees wait.
-fn push_children(waiting: &mut Vec<u32>, depth: u32, node: &Node) -> Result<(), AllocFailed<u32>>
-    requires { depth ≤ 64 }
-    ensures { OnOk result (waiting.new.items ≡ waiting_after waiting.old.items depth node.now) }
-{
-    if let Node::Split(_) = node {
-        let below = depth + 1;
-        waiting.push(below)?;
-        waiting.push(below)?;
-    }
-    Ok(())
 }
 
 /// The nodes from the line `first` of the text to its end.

@@ -1,12 +1,13 @@
 use Rattle.std.proofs.lemmas.Grind.{common_steps}
-use Rattle.std.proofs.Common.{◌≡◌, ◌+◌, ◌<◌, ℕ, Bool, false, List, [], ◌∷◌, get_or, drop, reverse, ap, sym, ◌∙◌, rules, arith}
+use Rattle.std.proofs.Common.{◌≡◌, ◌+◌, ◌<◌, ℕ, Bool, true, false, List, [], ◌∷◌, get_or, drop, reverse, ap, sym, ◌∙◌, rules, arith}
 use Rattle.std.specs.Prelude.{◌&&◌}
 use Rattle.std.specs.List.{list_all}
 use Rattle.std.proofs.lemmas.Bool.{lt-leb}
 use Rattle.std.proofs.lemmas.List.{drop_more, reverse-append}
 use Rattle.refutations.specs.declared.tree.Node.{Node}
 use Rattle.refutations.specs.declared.tree.Node.TheVariants.{Split, Leaf}
-use Rattle.prooflog.specs.Refutations.{depths, is_depth}
+use Rattle.prooflog.specs.Refutations.{depths, is_depth, waiting_after}
+use Rattle.prooflog.proofs.Nodes.{deep_step}
 use Rattle.prooflog.proofs.refutation.are_shallow.Goals as goal
 
 -- a node that stands too deep is told first
@@ -32,14 +33,17 @@ offset_bounds-nodes-node-index c = search rules
 pub returns-in_default : goal.returns-in_default
 returns-in_default c = search rules
 
-pub overflow_add-depth : goal.overflow_add-depth
-overflow_add-depth c = search rules
-
-pub overflow_add-depth-in-Split : goal.overflow_add-depth-in-Split
-overflow_add-depth-in-Split c = search rules
-
 pub loop-node-preserved : goal.loop-node-preserved
-loop-node-preserved c = grind (arith, common_steps)
+loop-node-preserved c =
+    let others : List ℕ = c.pop.new.self.items in
+    let depth : ℕ = c.in-Some.depth in
+    let node : Node = get_or c.args.nodes.now c.loop-node.node-index (Split 0) in
+    let rest : List Node = drop (c.loop-node.node-index + 1) c.args.nodes.now in
+    let shallow : is_depth depth ≡ true = grind (arith, c.if-depth-gt-MOST_DEPTH.false) in
+    let next = drop_more c.args.nodes.now c.loop-node.node-index (Split 0) c.loop-node-test.true in
+    ap (λ (ds : List ℕ). list_all is_depth (depths (reverse ds) rest)) c.in_ok-push_children.ensures
+    ∙ ap (λ (b : Bool). b && list_all is_depth (depths (reverse (waiting_after others depth node)) rest)) (sym shallow)
+    ∙ sym (deep_step others depth node rest) ∙ (λ i. list_all is_depth (depths (reverse (sym c.in-Some.ensures.items i)) (sym next i))) ∙ c.loop-node.invariant
 
 pub returns : goal.returns
 returns c = grind (arith, common_steps)
