@@ -5,3 +5,4 @@ pub mod Paths
 pub mod Added
 pub mod Forests
 pub mod Splits
+pub mod NodeNumbers

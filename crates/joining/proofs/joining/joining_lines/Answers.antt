@@ -2,6 +2,8 @@ use Rattle.std.proofs.Common.{◌≡◌, ◌-◌, ◌++◌, ◌∷◌, [], subst
 use Rattle.clauses.specs.Clauses.{Literal}
 use Rattle.joining.specs.Entries.{IsSplitEntry}
 use Rattle.joining.proofs.Forests.{walked_none, walked_leaf, walked_split, walked_pop, walked_two, leaf_named, walked_all, root_popped, no_empty_stack, root_has_number, root_named, accepts_nodes}
+use Rattle.std.proofs.lemmas.Bool.{false≢true}
+use Rattle.joining.proofs.NodeNumbers.{number_at, number_bounds}
 use Rattle.joining.proofs.joining.joining_lines.Goals as goal
 use Rattle.joining.proofs.joining.joining_lines.Goals.{in-Leaf+in_ok-entry-in-Leaf, in-Split+in-Some+in_ok-entry-in-Split}
 
@@ -62,3 +64,22 @@ close-requires-clause-empty c =
     let root = walked_all c.args.formula.now c.args.lines.now c.loop-place.added.items c.nodes-nodes.result.now c.loop-place.place c.loop-place.entries.items accepts (omega arith) c.loop-place.invariant in
     let last = root_popped c.args.formula.now c.args.lines.now c.loop-place.added.items c.loop-place.entries.items c.pop.new.self.items c.in-Some-pop.root root c.in-Some-pop.ensures.items in
     root_named c.args.formula.now (c.args.lines.now ++ c.loop-place.added.items) c.in-Some-pop.root c.in-Some-number.number last.0 last.1 c.in-Some-number.is
+
+pub leaf_entry-requires-clause-derived : goal.leaf_entry-requires-clause-derived
+leaf_entry-requires-clause-derived c = c.requires.lines_derived
+
+pub leaf_entry-requires-clause-number : goal.leaf_entry-requires-clause-number
+leaf_entry-requires-clause-number c = number_at c.nodes-nodes.result.now c.args.tree.now (c.loop-place.place - 1) _ c.nodes-nodes.ensures.same c.nodes-nodes.ensures.numbered (omega arith) c.in-Leaf.is
+
+pub split_entry-requires-clause-derived : goal.split_entry-requires-clause-derived
+split_entry-requires-clause-derived c = c.loop-place.invariant.derived
+
+pub close-requires-clause-derived : goal.close-requires-clause-derived
+close-requires-clause-derived c = c.loop-place.invariant.derived
+
+pub returns : goal.returns
+returns c = c.in_ok-close.ensures
+
+pub unreachable-requires : goal.unreachable-requires
+unreachable-requires c =
+    false≢true (c.in_default.ensures.when.1 (number_bounds c.in-Split.variable (number_at c.nodes-nodes.result.now c.args.tree.now (c.loop-place.place - 1) _ c.nodes-nodes.ensures.same c.nodes-nodes.ensures.numbered (omega arith) c.in-Split.is)))
