@@ -1,4 +1,5 @@
-use Rattle.std.proofs.Common.{◌≡◌, ap, subst, count_by}
+use Rattle.std.proofs.lemmas.Grind.{common_steps}
+use Rattle.std.proofs.Common.{◌≡◌, ap, subst, count_by, arith}
 use Rattle.steal.specs.declared.rule.Hand.{Hand}
 use Rattle.steal.proofs.Moves.{drains, finds}
 use Rattle.steal.proofs.tally.drained.Goals as goal
@@ -11,3 +12,6 @@ pop_as-requires-clause-empty c = finds _ _ (ap (λ (v : Hand). v.parts) c.loop-c
 
 pub returns : goal.returns
 returns c p = subst (λ (v : Hand). count_by p v.pushed ≡ count_by p v.taken) c.loop-cube.invariant.knows (c.in_default.ensures.rule.1 p)
+
+pub loop-cube-preserved : goal.loop-cube-preserved
+loop-cube-preserved c = grind (arith, common_steps)
