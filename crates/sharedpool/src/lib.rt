@@ -14,6 +14,7 @@
 
 mod locked;
 mod note;
+mod passes;
 mod room;
 mod seat;
 mod shared;

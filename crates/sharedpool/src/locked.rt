@@ -8,7 +8,8 @@ ghost use Rattle.sharedpool.specs.Views.{knower, items_of, AllBelow};
 ghost use Rattle.sharedpool.specs.Seats.{HoldsOver, IsRefusedOver, told_publish, told_fetch, told_close, told_split, told_found, told_leave};
 
 use crate::note::note;
-use crate::room::{Cell, Compares, Given, Room, Token, WithSeat};
+use crate::passes::{compare, join};
+use crate::room::{Cell, Given, Room, Token};
 use crate::seat::Seat;
 use batches::Batch;
 use clauses::Lit;
@@ -110,8 +111,8 @@ impl<B: Room> Locked<B> {
             has_left: _,
             room: _,
         } = seat;
-        cell.join_pass::<WithSeat>(&mut self.keeper, pass);
-        cell.load_as::<Compares, R>(rt, &mut self.keeper);
+        join(cell, &mut self.keeper, pass);
+        compare(rt, cell, &mut self.keeper);
     }
 
     /// How many entries of the history are of this worker.

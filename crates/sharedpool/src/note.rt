@@ -2,7 +2,8 @@
 
 ghost use Rattle.sharedpool.specs.Seats.{AreReady, AreNoted};
 
-use crate::room::{Adds, Blank, Cell, Named, Token, WithSeat};
+use crate::passes::{add, blank, join, part};
+use crate::room::{Cell, Named, Token};
 use std::mem;
 use std::sync::Wait;
 
@@ -20,9 +21,9 @@ pub(crate) fn note<J: Named, C, A, R: Wait>(
     requires { AreReady cell.now.table.shared.table_id keeper.old seat.old J.item }
     ensures { AreNoted keeper.old keeper.new seat.old seat.new J.item }
 {
-    let blank = cell.split_pass::<Blank>(keeper);
-    let mine = mem::replace(seat, blank);
-    cell.join_pass::<WithSeat>(keeper, mine);
-    cell.load_as::<Adds<J>, R>(rt, keeper);
-    *seat = cell.split_pass::<WithSeat>(keeper);
+    let empty = blank(cell, keeper);
+    let mine = mem::replace(seat, empty);
+    join(cell, keeper, mine);
+    add::<J, R>(rt, cell, keeper);
+    *seat = part(cell, keeper);
 }

@@ -9,7 +9,8 @@ ghost use Rattle.sharedpool.specs.Views.{knower, items_of, AllBelow};
 ghost use Rattle.sharedpool.specs.Seats.{AreAllSeats, AreNumbered, HoldsOver, IsFinished, IsRefusedOver, told_publish, told_fetch, told_close, told_split, told_found, told_leave};
 
 use crate::locked::Locked;
-use crate::room::{Cell, NextSeat, Room, Token};
+use crate::passes::take_seat;
+use crate::room::{Cell, Room, Token};
 use crate::seat::Seat;
 use batches::Batch;
 use clauses::Lit;
@@ -51,14 +52,6 @@ pub fn open_room(alloc: Global) -> Result<(Cell, Token), AllocError>
     Cell::ruled(alloc, [0])
 }
 
-/// The pool with a place in its history for the first leave of each worker.
-fn with_places(mut pool: Pool, workers: u32) -> Result<Pool, AllocError>
-    ensures { IfOk result (λ kept. kept ≡ pool) }
-{
-    pool.keep_places(workers as usize)?;
-    Ok(pool)
-}
-
 /// A seat for each worker, numbered from 0.
 fn make_seats<B: Room>(
     alloc: Global,
@@ -75,7 +68,7 @@ fn make_seats<B: Room>(
     let mut seats = Vec::new(alloc);
     for worker in 0..workers {
         seats.reserve(1)?;
-        let pass = cell.split_pass::<NextSeat>(&mut keeper);
+        let pass = take_seat(cell, &mut keeper);
         seats.push_reserved(Seat {
             worker,
             pass,
@@ -84,6 +77,25 @@ fn make_seats<B: Room>(
         });
     }
     Ok((keeper, seats))
+}
+
+/// A seat for each worker, with a place in the pool's history for its first leave.
+fn seats_with_places<B: Room>(
+    alloc: Global,
+    cell: &Cell,
+    pool: &mut Pool,
+    keeper: Token,
+    workers: u32,
+) -> Result<(Token, Vec<Seat<B>>), AllocError>
+    requires { (cell.now.table.shared.table_id ≡ B.table) × (keeper.table_id ≡ B.table) × (cell_view keeper ≡ knower 0 []) }
+    ensures same { pool.new ≡ pool.old }
+    ensures keeper { IfOk result (λ r. (r.0.table_id ≡ B.table) × (cell_view r.0 ≡ knower workers [])) }
+    ensures many { IfOk result (λ r. length r.1.items ≡ workers) }
+    ensures numbered { IfOk result (λ r. AreNumbered r.1.items) }
+    ensures empty { IfOk result (λ r. All (λ seat. seat.mine ≡ []) r.1.items) }
+{
+    pool.keep_places(workers as usize)?;
+    make_seats(alloc, cell, keeper, workers)
 }
 
 /// Whether the seats are all that were made, in order.
@@ -137,7 +149,7 @@ impl<B: Room> SharedPool<B> {
         alloc: Global,
         cell: Cell,
         keeper: Token,
-        pool: Pool,
+        mut pool: Pool,
         workers: u32,
     ) -> Result<(SharedPool<B>, Vec<Seat<B>>), AllocError>
         requires room { (cell.table.shared.table_id ≡ B.table) × (keeper.table_id ≡ B.table) × (cell_view keeper ≡ knower 0 []) }
@@ -149,10 +161,13 @@ impl<B: Room> SharedPool<B> {
         ensures numbered { IfOk result (λ r. AreNumbered r.1.items) }
         ensures empty { IfOk result (λ r. All (λ seat. seat.mine ≡ []) r.1.items) }
     {
-        let pool = with_places(pool, workers)?;
-        let (keeper, seats) = make_seats(alloc, &cell, keeper, workers)?;
-        let lock = Mutex::new(Locked::new(pool, workers, keeper));
-        Ok((SharedPool { cell, lock }, seats))
+        match seats_with_places(alloc, &cell, &mut pool, keeper, workers) {
+            Ok((keeper, seats)) => {
+                let lock = Mutex::new(Locked::new(pool, workers, keeper));
+                Ok((SharedPool { cell, lock }, seats))
+            }
+            Err(AllocError) => Err(AllocError),
+        }
     }
 
     /// The pool, and how many entries each worker has in its history. The seats are all that were made, in

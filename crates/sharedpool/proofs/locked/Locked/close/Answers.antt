@@ -14,3 +14,9 @@ invariant_of-self-2 g c =
     locked_more _ _ _ _ _ _ _ _ _ _ c.self.invariant c.note.ensures
     (reply.pool ∙ close_noted c.self.inside.pool c.seat.inside.worker c.args.leaf c.args.number c.close-reply.result answered)
     (close_step c.self.inside.pool.held c.seat.inside.worker c.args.leaf c.args.number c.close-reply.result answered reply.reply)
+
+pub returns-clause-seat : goal.returns-clause-seat
+returns-clause-seat g c = search rules
+
+pub returns-clause-reply : goal.returns-clause-reply
+returns-clause-reply g c = search rules

@@ -14,3 +14,9 @@ invariant_of-self-2 g c =
     locked_more _ _ _ _ _ _ _ _ _ _ c.self.invariant c.note.ensures
     (reply.pool ∙ fetch_noted c.self.inside.pool c.seat.inside.worker c.args.from c.fetch-reply.result answered)
     (fetch_step c.self.inside.pool.held c.seat.inside.worker c.args.from c.fetch-reply.result answered reply.reply)
+
+pub returns-clause-seat : goal.returns-clause-seat
+returns-clause-seat g c = search rules
+
+pub returns-clause-reply : goal.returns-clause-reply
+returns-clause-reply g c = search rules

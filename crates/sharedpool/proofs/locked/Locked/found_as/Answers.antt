@@ -18,3 +18,9 @@ invariant_of-self-2 g c =
     locked_more _ _ _ _ _ _ _ _ _ _ c.self.invariant c.note.ensures
     (reply.pool ∙ ap (λ steps. after_found h worker steps result) c.requires.steps ∙ found_noted h worker g.S.Given.steps result answered)
     (found_step h.held worker g.S.Given.steps result answered (subst (λ steps. IsFound h.held steps result) c.requires.steps reply.reply))
+
+pub returns-clause-seat : goal.returns-clause-seat
+returns-clause-seat g c = search rules
+
+pub returns-clause-reply : goal.returns-clause-reply
+returns-clause-reply g c = search rules

@@ -22,3 +22,9 @@ returns-clause-not_derived g c place is =
     let batch = c.args.batch.now.lines.items in
     subst (λ (s : Chair). IsRefusedOver g.B.Room.opening.formula s.mine batch place) c.seat.view_is
     (refused_call _ _ _ _ _ _ _ _ _ _ batch c.publish-reply.result c.self.invariant c.seat.invariant c.note.ensures c.publish-reply.ensures.reply place is)
+
+pub returns-clause-seat : goal.returns-clause-seat
+returns-clause-seat g c = search rules
+
+pub returns-clause-reply : goal.returns-clause-reply
+returns-clause-reply g c = search rules

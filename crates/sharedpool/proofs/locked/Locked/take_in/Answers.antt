@@ -1,33 +1,21 @@
-use Rattle.std.proofs.Common.{rules, sym, ap, ◌∙◌}
+use Rattle.std.proofs.Common.{sym, ap, ◌∙◌}
 use Rattle.sharedpool.specs.declared.room.View.{View}
-use Rattle.sharedpool.proofs.Moves.{joins, compares}
 use Rattle.sharedpool.proofs.locked.Locked.take_in.Goals as goal
 
-pub join_pass-requires : goal.join_pass-requires
-join_pass-requires g c =
-    let i = c.self.invariant in
-    let s = c.seat.invariant in (
-      search rules,
-      (
-        search rules,
-        (
-          (i.of ∙ sym c.requires, s.of ∙ sym i.of, s.free),
-          joins _ _ _ _ (ap (λ (v : View). v.keeps) i.knows) (ap (λ (v : View). v.sits) s.knows),
-        ),
-      ),
-    )
+pub join-requires-clause-keeper_of : goal.join-requires-clause-keeper_of
+join-requires-clause-keeper_of g c = c.self.invariant.of ∙ sym c.requires
 
-pub load_as-requires : goal.load_as-requires
-load_as-requires g c =
-    let i = c.self.invariant in
-    let s = c.seat.invariant in
-    let j = c.join_pass.ensures in (
-      search rules,
-      (
-        search rules,
-        (
-          j.0.0 ∙ i.of ∙ sym c.requires,
-          compares _ _ (ap (λ (v : View). v.keeps) j.1 ∙ ap (λ (v : View). v.keeps) i.knows) (ap (λ (v : View). v.sits) j.1 ∙ ap (λ (v : View). v.sits) s.knows),
-        ),
-      ),
-    )
+pub join-requires-clause-seat_of : goal.join-requires-clause-seat_of
+join-requires-clause-seat_of g c = c.seat.invariant.of ∙ sym c.self.invariant.of
+
+pub join-requires-clause-keeps : goal.join-requires-clause-keeps
+join-requires-clause-keeps g c = ap (λ (v : View). v.keeps) c.self.invariant.knows
+
+pub join-requires-clause-sits : goal.join-requires-clause-sits
+join-requires-clause-sits g c = ap (λ (v : View). v.sits) c.seat.invariant.knows
+
+pub compare-requires-clause-keeps : goal.compare-requires-clause-keeps
+compare-requires-clause-keeps g c = ap (λ (v : View). v.keeps) c.join.ensures.joined ∙ ap (λ (v : View). v.keeps) c.self.invariant.knows
+
+pub compare-requires-clause-sits : goal.compare-requires-clause-sits
+compare-requires-clause-sits g c = ap (λ (v : View). v.sits) c.join.ensures.joined ∙ ap (λ (v : View). v.sits) c.seat.invariant.knows
