@@ -1,6 +1,6 @@
 //! Refutations.
 
-ghost use Rattle.std.specs.Prelude.{◌≡◌, ◌↔◌, ◌≤◌, ◌∷◌, [], ℕ, IfOk, IfErr, OnOk, IsTrue};
+ghost use Rattle.std.specs.Prelude.{◌≡◌, ◌↔◌, ◌<◌, ◌≤◌, true, false, ◌∷◌, [], ℕ, IfOk, IfErr, OnOk, IsTrue};
 ghost use Rattle.std.specs.List.{list_all};
 ghost use Rattle.refutations.specs.Proofs.{is_tree, are_numbered};
 ghost use Rattle.prooflog.specs.Refutations.{IsRefutation, IsSmall, is_line_in_range, is_depth, depths, waiting_after};
@@ -68,6 +68,13 @@ pub(crate) fn push_children(
     Ok(())
 }
 
+fn is_too_deep(depth: u32) -> bool
+    ensures yes { result ≡ true → 64 < depth }
+    ensures no { result ≡ false → depth ≤ 64 }
+{
+    depth > MOST_DEPTH
+}
+
 /// Whether no node is deeper than the deepest that is allowed.
 fn are_shallow(alloc: Global, nodes: &[Node]) -> Result<bool, AllocError>
     ensures { IfOk result (λ shallow. shallow ≡ list_all is_depth (depths (0 ∷ []) nodes.now)) }
@@ -78,7 +85,7 @@ fn are_shallow(alloc: Global, nodes: &[Node]) -> Result<bool, AllocError>
         let Some(depth) = waiting.pop() else {
             return Ok(true);
         };
-        if depth > MOST_DEPTH {
+        if is_too_deep(depth) {
             return Ok(false);
         }
         push_children(&mut waiting, depth, node)?;

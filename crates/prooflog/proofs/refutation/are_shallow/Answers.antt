@@ -15,13 +15,13 @@ too_deep : (depth : ℕ) (roots : List ℕ) (node : Node) (nodes : List Node) �
 too_deep depth roots (Split variable) nodes large = ap (λ (b : Bool). b && list_all is_depth (depths ((depth + 1) ∷ (depth + 1) ∷ roots) nodes)) (lt-leb depth 64 large)
 too_deep depth roots (Leaf number) nodes large = ap (λ (b : Bool). b && list_all is_depth (depths roots nodes)) (lt-leb depth 64 large)
 
-pub returns-then-depth-gt-MOST_DEPTH : goal.returns-then-depth-gt-MOST_DEPTH
-returns-then-depth-gt-MOST_DEPTH c =
+pub returns-then-is_too_deep : goal.returns-then-is_too_deep
+returns-then-is_too_deep c =
     let others : List ℕ = c.pop.new.self.items in
     let depth : ℕ = c.in-Some.depth in
     let next = drop_more c.args.nodes.now c.loop-node.node-index (Leaf 0) c.loop-node-test.true in
     let last : reverse c.loop-node.waiting.items ≡ depth ∷ reverse others = ap reverse c.in-Some.ensures.items ∙ reverse-append others (depth ∷ []) in
-    sym (too_deep depth (reverse others) (get_or c.args.nodes.now c.loop-node.node-index (Leaf 0)) (drop (c.loop-node.node-index + 1) c.args.nodes.now) c.if-depth-gt-MOST_DEPTH.true)
+    sym (too_deep depth (reverse others) (get_or c.args.nodes.now c.loop-node.node-index (Leaf 0)) (drop (c.loop-node.node-index + 1) c.args.nodes.now) (c.is_too_deep.ensures.yes c.if-is_too_deep.true))
     ∙ (λ i. list_all is_depth (depths (sym last i) (sym next i))) ∙ c.loop-node.invariant
 
 pub loop-node-init : goal.loop-node-init
@@ -39,7 +39,7 @@ loop-node-preserved c =
     let depth : ℕ = c.in-Some.depth in
     let node : Node = get_or c.args.nodes.now c.loop-node.node-index (Split 0) in
     let rest : List Node = drop (c.loop-node.node-index + 1) c.args.nodes.now in
-    let shallow : is_depth depth ≡ true = grind (arith, c.if-depth-gt-MOST_DEPTH.false) in
+    let shallow : is_depth depth ≡ true = grind (arith, c.is_too_deep.ensures.no c.if-is_too_deep.false) in
     let next = drop_more c.args.nodes.now c.loop-node.node-index (Split 0) c.loop-node-test.true in
     ap (λ (ds : List ℕ). list_all is_depth (depths (reverse ds) rest)) c.in_ok-push_children.ensures
     ∙ ap (λ (b : Bool). b && list_all is_depth (depths (reverse (waiting_after others depth node)) rest)) (sym shallow)
