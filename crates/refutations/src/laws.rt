@@ -1,6 +1,6 @@
 //! What accepted lines and trees show, over all assignments, apart from any code.
 
-ghost use Rattle.refutations.specs.BinaryTrees.{PreordersAreTrees, PreordersTellTrees};
+ghost use Rattle.refutations.specs.BinaryTrees.{PreordersAreTrees, PreordersTellTrees, TreesPass};
 ghost use Rattle.refutations.specs.Refutations.{DerivedLinesFollow, DerivationsFollow, AcceptedRefute};
 
 /// A derived line is satisfied wherever the formula and the earlier lines are.
@@ -21,6 +21,11 @@ pub fn accepted_refute()
 /// A list of nodes that passes for a tree is the preorder of one.
 pub fn preorders_are_trees()
     ensures { PreordersAreTrees }
+{}
+
+/// The preorder of a tree passes for one.
+pub fn trees_pass()
+    ensures { TreesPass }
 {}
 
 /// No two trees have one preorder.

@@ -184,21 +184,3 @@ module _ (variables : ℕ) (nodes : List TreeNode) (numbers : List ℕ) (grows :
   within_more front after node kind within is then_left =
       All-same (λ n. n < length nodes) after (front ++ nodes_below kind) then_left (All-append (λ n. n < length nodes) front (nodes_below kind) within (below_within node kind is))
 
--- ---- the nodes make a tree
-
-trees_after : (tree : Tree) (missing : ℕ) (more : List Node) → are_trees (suc missing) (preorder tree ++ more) ≡ are_trees missing more
-trees_after (leaf number) missing more =
-    let some : nat_lt 0 (suc missing) ≡ true = grind arith in
-    let one_less : suc missing - 1 ≡ missing = omega arith in
-    ap (λ (b : Bool). b && are_trees (suc missing - 1) more) some ∙ ap (λ (n : ℕ). are_trees n more) one_less
-trees_after (split v first second) missing more =
-    let some : nat_lt 0 (suc missing) ≡ true = grind arith in
-    let one_more : suc missing + 1 ≡ suc (suc missing) = omega arith in
-    ap (λ (b : Bool). b && are_trees (suc missing + 1) ((preorder first ++ preorder second) ++ more)) some
-    ∙ ap (λ (n : ℕ). are_trees n ((preorder first ++ preorder second) ++ more)) one_more
-    ∙ ap (are_trees (suc (suc missing))) (append_assoc (preorder first) (preorder second) more)
-    ∙ trees_after first (suc missing) (preorder second ++ more)
-    ∙ trees_after second missing more
-
-pub preorder_is_tree : (tree : Tree) → IsTrue (is_tree (preorder tree))
-preorder_is_tree tree = ap (are_trees 1) (sym (append-nil (preorder tree))) ∙ trees_after tree 0 []

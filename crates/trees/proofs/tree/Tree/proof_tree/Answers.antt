@@ -1,8 +1,9 @@
 use Rattle.std.proofs.Common.{◌∙◌, subst, sym, IsTrue, List}
 use Rattle.refutations.specs.declared.tree.Node.{Node}
 use Rattle.refutations.specs.Proofs.{is_tree, are_numbered}
+use Rattle.refutations.proofs.Preorders.{trees_pass}
 use Rattle.trees.specs.Preorders.{tree_below}
-use Rattle.trees.proofs.Written.{root_hangs, numbered_below, preorder_is_tree}
+use Rattle.trees.proofs.Written.{root_hangs, numbered_below}
 use Rattle.trees.proofs.tree.Tree.proof_tree.Goals as goal
 
 pub unreachable-requires : goal.unreachable-requires
@@ -15,7 +16,7 @@ unreachable-requires c =
     let numbered = numbered_below c.args.self.now.variables nodes numbers grown.grows grown.variables_fit c.requires.numbered tree 0 hangs in
     let made = c.in_ok-nodes.ensures in
     let wrong = c.in-Err.ensures.when.1 (
-      subst (λ (ns : List Node). IsTrue (is_tree ns)) (sym made) (preorder_is_tree tree),
+      subst (λ (ns : List Node). IsTrue (is_tree ns)) (sym made) (trees_pass tree),
       subst (λ (ns : List Node). IsTrue (are_numbered ns)) (sym made) numbered,
     ) in
     cc
