@@ -1,8 +1,10 @@
 -- Circles: which ranks wait on one, how a path grows, and where one closes.
-use Rattle.std.proofs.Common.{◌≡◌, ℕ, zero, suc, ◌<◌, ◌⊎◌, inl, inr, false, not, ◌&&◌, ◌==◌, IsTrue, List, [], ◌∷◌, ◌++◌, Option, Some, None, length, get_or, drop, refl, sym, ◌∙◌, subst, arith}
-use Rattle.std.proofs.lemmas.Bool.{cases_lt, cases_eq, and_parts, and_from, ltb-true, ne_eqb, not_from_false, true≢false}
+use Rattle.std.proofs.Common.{◌≡◌, ℕ, zero, suc, ◌<◌, ◌⊎◌, inl, inr, false, not, ◌&&◌, ◌==◌, IsTrue, List, [], ◌∷◌, ◌++◌, Option, Some, None, length, get_or, drop, refl, ap, sym, ◌∙◌, ◌≢◌, subst, arith}
+use Rattle.std.proofs.lemmas.Bool.{cases_lt, cases_eq, and_parts, and_from, eq-eqb, ltb-true, ne_eqb, not_from_false, true≢false}
 use Rattle.std.proofs.lemmas.List.{get_or_default, get_or_past}
-use Rattle.std.proofs.lemmas.List.Elements.{Contains-push, Contains-append_left}
+use Rattle.std.proofs.lemmas.List.Elements.{Contains-get_or, Contains-push, Contains-push_cases, Contains-append_left}
+use Rattle.std.proofs.lemmas.List.Quantifiers.{all_pairs_push}
+use Rattle.std.specs.List.{AllPairs}
 use Rattle.std.specs.Prelude.{slice_get, Contains}
 use Rattle.waits.specs.declared.rank_set.RankSet.{RankSet}
 use Rattle.waits.specs.RankSets.{has_rank}
@@ -82,6 +84,31 @@ HasBeen-push set old new path grown rank grows left been r within =
       ]
       | inr on ↦ inr (subst (λ (x : List ℕ). Contains x r) (sym grows) (Contains-append_left path (rank ∷ []) r on))
     ]
+
+-- no rank is both fresh and on the path
+abbrev pub AreApart : RankSet → List ℕ → Type 0
+AreApart fresh path = (rank : ℕ) → IsTrue (has_rank fresh rank) → Contains path rank → ⊥
+
+pub AreApart-push : (old new : RankSet) (path grown : List ℕ) (rank : ℕ) → grown ≡ path ++ rank ∷ [] → ((other : ℕ) → has_rank new other ≡ (not (other == rank) && has_rank old other)) → AreApart old path → AreApart new grown
+AreApart-push old new path grown rank grows left apart r fresh on =
+    let parts = and_parts (not (r == rank)) (has_rank old r) (sym (left r) ∙ fresh) in
+    elim (Contains-push_cases path rank r (subst (λ (x : List ℕ). Contains x r) grows on)) [
+      | inl before ↦ apart r parts.1 before
+      | inr now ↦ true≢false (sym parts.0 ∙ ap not (eq-eqb r rank (sym now)))
+    ]
+
+-- a path that grows by a fresh rank has none twice
+pub once-push : (fresh : RankSet) (path grown : List ℕ) (rank : ℕ) → grown ≡ path ++ rank ∷ [] → IsTrue (has_rank fresh rank) → AreApart fresh path → AllPairs (λ (one other : ℕ). one ≢ other) path → AllPairs (λ (one other : ℕ). one ≢ other) grown
+once-push fresh path grown rank grows is_fresh apart once =
+    subst (AllPairs (λ (one other : ℕ). one ≢ other)) (sym grows)
+    (all_pairs_push (λ (one other : ℕ). one ≢ other) path rank once
+    (λ k d within same. apart rank is_fresh (subst (Contains path) same (Contains-get_or path k d within))))
+
+-- the end of a path that has none twice has none twice
+pub once-drop : (path : List ℕ) (k : ℕ) → AllPairs (λ (one other : ℕ). one ≢ other) path → AllPairs (λ (one other : ℕ). one ≢ other) (drop k path)
+once-drop path zero once = once
+once-drop [] (suc k) once = once
+once-drop (x ∷ path) (suc k) once = once-drop path k (λ i j d before within. once (suc i) (suc j) d (omega arith) (omega arith))
 
 -- ---- no circle
 

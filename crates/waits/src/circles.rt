@@ -1,6 +1,7 @@
 //! Circles of ranks that wait for one another.
 
-ghost use Rattle.std.specs.Prelude.{◌≡◌, ℕ, ◌<◌, List, length, slice_index, IsTrue, IfOk, IfSome, IfNone, Contains, MatchOption};
+ghost use Rattle.std.specs.Prelude.{◌≡◌, ◌≢◌, ℕ, ◌<◌, List, length, slice_index, IsTrue, IfOk, IfSome, IfNone, Contains, MatchOption};
+ghost use Rattle.std.specs.List.{AllPairs};
 ghost use Rattle.waits.specs.RankSets.{has_rank};
 ghost use Rattle.waits.specs.Circles.{has_edge, LeadTo, IsCircle, LeadsOn, HasAllCircles};
 
@@ -43,7 +44,8 @@ fn endless(edges: &[RankSet]) -> RankSet
     left
 }
 
-/// Ranks of a set from this one on, each of which waits for the next one, and one of them for which the last waits.
+/// Ranks of a set from this one on, each of which waits for the next one, and one of them for which the last waits. No
+/// rank comes twice.
 fn walk(
     alloc: Global,
     edges: &[RankSet],
@@ -54,6 +56,7 @@ fn walk(
     requires onward { LeadsOn edges.now left }
     ensures leads { IfOk result (λ found. LeadTo edges.now found.0.items found.1) }
     ensures again { IfOk result (λ found. Contains found.0.items found.1) }
+    ensures once { IfOk result (λ found. AllPairs (λ one other. one ≢ other) found.0.items) }
 {
     let mut path = Vec::new(alloc);
     let mut fresh = left;
@@ -77,10 +80,12 @@ fn place_of(path: &[u32], rank: u32) -> Option<usize>
     path.iter().position(|other| *other == rank)
 }
 
-/// Ranks that wait for one another in a circle, each for the next one and the last for the first; none where there is
-/// no circle. `edges` has the ranks that each rank waits for, by rank from 0. The only error is want of memory.
+/// Ranks that wait for one another in a circle, each for the next one and the last for the first, and no rank twice; none
+/// where there is no circle. `edges` has the ranks that each rank waits for, by rank from 0; only ranks 0 to 63 are looked
+/// at, all that a set of ranks holds. The only error is want of memory.
 pub fn circle(alloc: Global, edges: &[RankSet]) -> Result<Option<Vec<u32>>, AllocError>
-    ensures { IfOk result (λ found. MatchOption found ((ranks : List ℕ) → IsCircle edges.now ranks → ⊥) (λ ranks. IsCircle edges.now ranks.items)) }
+    ensures circle { IfOk result (λ found. MatchOption found ((ranks : List ℕ) → IsCircle edges.now ranks → ⊥) (λ ranks. IsCircle edges.now ranks.items)) }
+    ensures once { IfOk result (λ found. IfSome found (λ ranks. AllPairs (λ one other. one ≢ other) ranks.items)) }
 {
     let left = endless(edges);
     let Some(start) = left.first() else {

@@ -1,15 +1,21 @@
-use Rattle.std.proofs.Common.{◌≡◌, ◌<◌, List, ℕ, sym, subst, drop, length, get_or, arith, rules}
+use Rattle.std.proofs.Common.{◌≡◌, ◌≢◌, ◌<◌, List, ℕ, sym, subst, drop, length, get_or, arith, rules}
 use Rattle.std.proofs.lemmas.Grind.{common_steps}
+use Rattle.std.specs.List.{AllPairs}
 use Rattle.waits.specs.Circles.{IsCircle}
-use Rattle.waits.proofs.CircleLaws.{no_circle, circle_from}
+use Rattle.waits.proofs.CircleLaws.{no_circle, circle_from, once-drop}
 use Rattle.waits.proofs.circles.circle.Goals as goal
 
-pub returns-in_default : goal.returns-in_default
-returns-in_default c =
+pub returns-in_default-clause-circle : goal.returns-in_default-clause-circle
+returns-in_default-clause-circle c =
     no_circle c.args.edges.now c.endless-left.result c.endless-left.ensures.circles c.in_default.ensures.none
 
-pub returns : goal.returns
-returns c =
+pub returns-clause-circle : goal.returns-clause-circle
+returns-clause-circle c =
     let rest : c.in_ok-ranks.ranks.items ≡ drop c.in-Some-place_of.place c.in_ok-path.path.items = grind (arith, common_steps) in
     let place : (c.in-Some-place_of.place < length c.in_ok-path.path.items) × (get_or c.in_ok-path.path.items c.in-Some-place_of.place 0 ≡ c.in_ok-path.again) = search rules in
     subst (λ (ranks : List ℕ). IsCircle c.args.edges.now ranks) (sym rest) (circle_from c.args.edges.now c.in_ok-path.path.items c.in_ok-path.again c.in-Some-place_of.place c.in_ok-path.ensures.leads place.0 place.1)
+
+pub returns-clause-once : goal.returns-clause-once
+returns-clause-once c =
+    let rest : c.in_ok-ranks.ranks.items ≡ drop c.in-Some-place_of.place c.in_ok-path.path.items = grind (arith, common_steps) in
+    subst (AllPairs (λ (one other : ℕ). one ≢ other)) (sym rest) (once-drop c.in_ok-path.path.items c.in-Some-place_of.place c.in_ok-path.ensures.once)

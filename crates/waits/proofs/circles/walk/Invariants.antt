@@ -1,7 +1,8 @@
-use Rattle.std.proofs.Common.{IsTrue}
+use Rattle.std.proofs.Common.{ℕ, ◌≢◌, IsTrue}
+use Rattle.std.specs.List.{AllPairs}
 use Rattle.waits.specs.RankSets.{has_rank, size}
 use Rattle.waits.specs.Circles.{LeadTo}
-use Rattle.waits.proofs.CircleLaws.{HasBeen}
+use Rattle.waits.proofs.CircleLaws.{HasBeen, AreApart}
 use Rattle.waits.proofs.circles.walk.Given as goal
 
 abbrev pub invariant-loop-left : goal.invariant-loop-left
@@ -10,6 +11,8 @@ invariant-loop-left l =
       here : IsTrue (has_rank l.left l.rank);
       leads : LeadTo l.edges l.path.items l.rank;
       been : HasBeen l.left l.fresh l.path.items;
+      apart : AreApart l.fresh l.path.items;
+      once : AllPairs (λ (one other : ℕ). one ≢ other) l.path.items;
     }
 
 abbrev pub decreases-loop-left : goal.decreases-loop-left
