@@ -1,5 +1,5 @@
-//! What texts and faults are, apart from any reader. Together the laws say that `read` answers
-//! exactly: bytes are either the text of one program or have one fault, and never both.
+//! What texts and faults are, apart from any reader. Together the laws say that an answer of `read` is the only one beside
+//! want of memory: bytes are the text of one program at most, have one fault at most, and never both.
 
 ghost use Rattle.calltext.specs.Fault.{OneFault, OneValue, TextHasNoFault};
 

@@ -54,7 +54,7 @@ impl Source {
         self.ranks.as_slice()
     }
 
-    /// The call lines of a rank, from 0, in their order.
+    /// The call lines of a rank, from 0 and below the number of ranks, in their order.
     pub fn lines(&self, rank: usize) -> &[CallLine]
         requires { rank < length self.now.ranks }
         ensures { slice_get self.now.ranks rank ≡ Some result.now }

@@ -140,7 +140,8 @@ impl<'f> Solver<'f> {
 
     /// Searches for an assignment that satisfies the formula and the cube, which is a list of literals in any order, until
     /// one is found, or none is left, or as many conflicts as the budget were counted. A conflict is a clause with all
-    /// literals false that propagation met, in probing too. With budget 0 it answers at once, with no line, and what was
+    /// literals false that propagation met, in probing too; a model that fails its test, or a line for which no number is
+    /// left, would count as one. With budget 0 it answers at once, with no line, and what was
     /// learnt stays as it is. A batch has less than 2^31 lines: a search that needs more goes on to its budget without them.
     /// Whether the cube is foreign takes time by the square of its length.
     ///
@@ -175,9 +176,9 @@ impl<'f> Solver<'f> {
         }
     }
 
-    /// How often the variable of this number took part in conflicts, later ones counting more. None where it had a value when the last
-    /// search ended that follows from the first so many literals of that search's cube. Nothing is promised of the answer: it helps to find a
-    /// variable that a cube is worth splitting on.
+    /// How often the variable of this number took part in conflicts, later ones counting more. None for a number that is no variable, and
+    /// where the first so many literals of the last search's cube gave the variable a value, as far as was known when the search ended. Nothing
+    /// is promised of the answer: it helps to find a variable that a cube is worth splitting on.
     pub fn weight(&self, variable: u32, literals: usize) -> Option<u64> {
         self.engine.weight(variable, literals)
     }

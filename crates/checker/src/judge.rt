@@ -243,7 +243,8 @@ pub fn verdict(
 }
 
 /// The same verdict, with the lines of a refutation checked in so many pieces, 1 to 64, each in a thread of its own where one can be
-/// started, else by the calling thread. It waits for all of them. Before that the lines are read in four times as many parts, at most
+/// started, else by the calling thread. It waits for all of them, and calls `gate.before` for each piece, from 0, before its first
+/// line is checked. Before that the lines are read in four times as many parts, at most
 /// 64, in the same way; in one part where there is one piece.
 pub fn verdict_in<R: Threads + Sync, G: PieceGate + Sync>(
     rt: &R,

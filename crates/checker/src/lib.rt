@@ -14,5 +14,5 @@ pub use judge::{Refuted, refuted_in, verdict, verdict_in};
 pub use laws::{never_both, one_verdict, refuted_are_never_stuck};
 pub use pieces::PieceGate;
 pub use reason::{NoRun, Reason, Verdict};
-pub use refutations::{LineFault, TreeFault, check_line, check_tree};
+pub use refutations::{LineFault, LineList, TreeFault, check_line, check_tree};
 pub use texts::{StuckRun, program_of, stuck_run_of};

@@ -191,11 +191,11 @@ fn close(
     Ok(())
 }
 
-/// The lines that join the clauses of a refutation's leaves to the empty clause. They are numbered on
-/// from the formula's clauses and the lines; each is a resolvent of the two clauses that its hints name.
-/// Where the formula itself has an empty clause, one line without literals may come last, with its
-/// number as the one hint. The only error is want of memory, which is also told where there would be
-/// more than [`LARGEST_NUMBER`] clauses.
+/// The lines that join the clauses of the leaves of an accepted refutation to the empty clause. They are numbered on
+/// from the formula's clauses and the lines. Each is made as a resolvent of the two clauses that its hints name; where the
+/// formula itself has an empty clause, one line without literals may come last, with its number as the one hint. What is
+/// promised is that each derives from what stands before it, and that one has no literals. The only error is want of
+/// memory, which is also told where there would be more than [`LARGEST_NUMBER`] clauses.
 pub fn joining_lines(
     alloc: Global,
     formula: &Formula,

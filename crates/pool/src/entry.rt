@@ -115,7 +115,10 @@ pub struct Entry {
 /// An entry with the lines that were appended or handed out and the steps of the schedule that was
 /// accepted. Contracts alone see it: no value of it is made.
 pub struct Item {
+    /// The entry.
     pub entry: Entry,
+    /// The lines that were appended or handed out.
     pub lines: LinkedList<Line>,
+    /// The steps of the schedule that was accepted.
     pub steps: LinkedList<Step>,
 }

@@ -182,7 +182,8 @@ fn tables(
 }
 
 impl Pool {
-    /// The pool in which all leaves of the tree are open, and nothing else is.
+    /// The pool in which all leaves of the tree are open, and nothing else is. The tree has to be over as many variables as
+    /// the formula has.
     pub fn new(alloc: Global, encoded: Encoded, tree: Tree) -> Result<Pool, AllocError>
         requires { tree.variables ≡ encoded.formula.variables }
         ensures { IfOk result (λ pool. pool ≡ opening encoded tree) }
@@ -363,7 +364,9 @@ impl Pool {
     /// Appends the lines of a batch to the log, each `Own` hint as the number of the batch's line at that
     /// place, and answers the number of the first line; for an empty batch, that of the next line. The
     /// check of the lines takes no time by the size of the formula or the log. A batch of more than
-    /// 2,000,000,000 lines is refused as want of memory, which comes long before.
+    /// 2,000,000,000 lines is refused as want of memory, which comes long before. Refused with
+    /// [`PublishFault::NotDerived`] at the first line that doesn't derive, counted from 0, and else with
+    /// [`PublishFault::Full`] where the log would have more than 1,000,000 lines; nothing is appended then.
     pub fn publish(
         &mut self,
         alloc: Global,
@@ -399,7 +402,7 @@ impl Pool {
         }
     }
 
-    /// The lines of the log after the first `from` ones.
+    /// The lines of the log after the first `from` ones. Refused with [`FetchFault::PastEnd`] exactly where the log has fewer.
     pub fn fetch(&mut self, alloc: Global, worker: u32, from: usize) -> Result<Lines, FetchFault>
         ensures reply { IsFetched self.old.held from result }
         ensures pool { self.new ≡ fetched self.old worker from result }
@@ -424,7 +427,8 @@ impl Pool {
     }
 
     /// Closes an open leaf by the clause or line of this number, all of whose literals are negations of
-    /// literals on the leaf's path.
+    /// literals on the leaf's path. Nodes are numbered from 0, clauses and lines from 1. Refused with
+    /// [`CloseFault::NotOpen`] where there is no such open leaf, and else with [`CloseFault::NotRefuted`].
     pub fn close(&mut self, worker: u32, leaf: u32, number: u32) -> Result<(), CloseFault>
         ensures reply { IsClosed self.old.held leaf number result }
         ensures pool { self.new ≡ closed self.old worker leaf number result }
@@ -465,7 +469,8 @@ impl Pool {
     }
 
     /// Splits an open leaf on a variable of the formula, from 1, and answers the numbers of the two new
-    /// leaves: the first has the variable true, the second false.
+    /// leaves: the first has the variable true, the second false. Nodes are numbered from 0. Refused, in this order,
+    /// where there is no such open leaf, no room in the tree (65,536 nodes, 64 literals on a path), or no such variable.
     pub fn split_leaf(
         &mut self,
         alloc: Global,

@@ -8,7 +8,7 @@ use std::fmt;
 /// Why a worker left without an answer. Of several reasons the earlier variant is told.
 #[derive(Clone, Copy, Debug, PartialEq, Eq)]
 pub enum Why {
-    /// The search's budget is used up, or the search it has found nothing.
+    /// A worker's budget of conflicts is used up, with cubes left.
     Budget,
     /// The log of proof lines is full.
     Full,

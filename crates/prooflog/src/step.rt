@@ -115,7 +115,8 @@ fn put_issue(out: &mut Vec<u8>, rank: u32, buffered: bool) -> Result<(), AllocEr
     Ok(())
 }
 
-/// Writes the line of a match at the end, by the numbers of its calls, from 1. The only error is want of memory.
+/// Writes the line of a match at the end, by the numbers of its calls, from 1. The only error is want of memory; a beginning
+/// of the line may stand there then.
 pub fn put_match(out: &mut Vec<u8>, send: u32, taker: u32) -> Result<(), AllocError>
     ensures { OnOk result (out.new.items ≡ out.old.items ++ step_line (WrittenStep.Match send taker)) }
 {

@@ -51,7 +51,8 @@ fn put_literal(out: &mut Vec<u8>, literal: &Lit) -> Result<(), AllocError>
     put_number(out, literal.variable())
 }
 
-/// Writes the literals at the end, with a space before each. A negative one begins with `-`. The only error is want of memory.
+/// Writes the literals at the end, with a space before each. A negative one begins with `-`. The only error is want of
+/// memory; a beginning of them may stand there then.
 pub fn put_literals(out: &mut Vec<u8>, literals: &[Lit]) -> Result<(), AllocError>
     ensures { OnOk result (out.new.items ≡ out.old.items ++ spaced (map literal_word literals.now)) }
 {
@@ -61,7 +62,8 @@ pub fn put_literals(out: &mut Vec<u8>, literals: &[Lit]) -> Result<(), AllocErro
     Ok(())
 }
 
-/// Writes the hints at the end, with a space before each. The only error is want of memory.
+/// Writes the hints at the end, with a space before each. The only error is want of memory; a beginning of them may stand
+/// there then.
 pub fn put_hints(out: &mut Vec<u8>, hints: &[u32]) -> Result<(), AllocError>
     ensures { OnOk result (out.new.items ≡ out.old.items ++ spaced (map numeral hints.now)) }
 {

@@ -147,7 +147,7 @@ impl State {
         }
     }
 
-    /// Whether the operation of a call is done.
+    /// Whether the operation of a call is done. Of a wait it is always so: what it waits for is another call's operation.
     pub fn is_done(&self, program: &Program, call: usize) -> bool
         ensures { result ≡ is_done program.now self.now call }
     {
@@ -278,7 +278,7 @@ impl State {
         }
     }
 
-    /// Takes an enabled step. Takes no memory.
+    /// Takes a step that is enabled in a state of this program. Takes no memory.
     pub fn apply(&mut self, program: &Program, step: Step)
         requires of { IsConfigurationOf program.now self.old }
         requires enabled { IsEnabled program.now self.old step }
@@ -353,7 +353,7 @@ impl State {
         true
     }
 
-    /// Whether some rank is not finished and no step is enabled. Takes no memory.
+    /// Whether some rank is not finished and no step is enabled, in a state of this program. Takes no memory.
     pub fn stuck(&self, program: &Program) -> bool
         requires { IsConfigurationOf program.now self.now }
         ensures { IsTrue result ↔ IsStuck program.now self.now }

@@ -105,7 +105,8 @@ pub fn told_deadlock_is_shown()
     ensures { ToldDeadlockIsShown }
 {}
 
-/// In their usual order the words of a command give the files' names, `--json` and `--progress`.
+/// In their usual order the words of a command give the files' names and the options that they look like: `--json`,
+/// `--progress`, `--out`, `--dot` and `--dimacs`.
 pub fn plain_words_are_read()
     ensures { PlainWordsAreRead }
 {}
@@ -117,7 +118,7 @@ pub fn plain_words_are_answered()
 {}
 
 /// `--json` may stand before, between and after the files of `check`, and the options of `prove`
-/// before and after its file.
+/// before and after its file; `--pieces` after the files of `check`.
 pub fn option_words_are_read()
     ensures { OptionWordsAreRead }
 {}

@@ -31,7 +31,7 @@ pub fn is_standard(program: &Program, call: usize) -> bool
     }
 }
 
-/// The receive on the handle of a matched probe.
+/// The receive on the handle of a matched probe, where the call is one; calls count from 0.
 pub fn receive_on_handle(program: &Program, call: usize) -> Option<usize>
     ensures { result ≡ receive_on_handle program.now call }
 {
@@ -44,7 +44,7 @@ pub fn receive_on_handle(program: &Program, call: usize) -> Option<usize>
     }
 }
 
-/// The call directly before this one, if it is of the same rank.
+/// The call directly before this one, if there is one of the same rank; calls count from 0.
 pub fn previous(program: &Program, call: usize) -> Option<usize>
     ensures { result ≡ previous program.now call }
 {

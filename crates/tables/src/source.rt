@@ -124,7 +124,7 @@ impl<'a> Source<'a> {
         self.pairs.len()
     }
 
-    /// The send and the taker of the pair at a place.
+    /// The send and the taker of the pair at a place, from 0; (0, 0) past the last one.
     pub fn pair(&self, place: usize) -> (usize, usize)
         ensures { result ≡ pair_at (pairs_of self.now) place }
     {

@@ -183,4 +183,3 @@ module _ (variables : ℕ) (nodes : List TreeNode) (numbers : List ℕ) (grows :
   pub within_more : (front after : List ℕ) (node : ℕ) (kind : Kind) → All (λ n. n < length nodes) front → kind_at nodes node ≡ Some kind → after ≡ front ++ nodes_below kind → All (λ n. n < length nodes) after
   within_more front after node kind within is then_left =
       All-same (λ n. n < length nodes) after (front ++ nodes_below kind) then_left (All-append (λ n. n < length nodes) front (nodes_below kind) within (below_within node kind is))
-

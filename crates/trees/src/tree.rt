@@ -201,7 +201,7 @@ impl Tree {
         node.kind
     }
 
-    /// The literals from the node of this number up to the root, in constant time.
+    /// The literals from the node of this number, of which there has to be one, up to the root, in constant time.
     pub fn path(&self, node: u32) -> &[Lit]
         requires { node < length self.now.nodes }
         ensures { result.now ≡ path_at self.now.nodes node }

@@ -59,7 +59,7 @@ impl RankSet {
         }
     }
 
-    /// Puts a rank into the set.
+    /// Puts a rank, 0 to 63, into the set.
     pub fn insert(&mut self, rank: u32)
         requires { rank < 64 }
         ensures { (other : ℕ) → has_rank self.new other ≡ (other == rank || has_rank self.old other) }
@@ -67,7 +67,7 @@ impl RankSet {
         self.bits |= 1 << rank;
     }
 
-    /// Takes a rank out of the set.
+    /// Takes a rank, 0 to 63, out of the set.
     pub fn remove(&mut self, rank: u32)
         requires { rank < 64 }
         ensures left { (other : ℕ) → has_rank self.new other ≡ (not (other == rank) && has_rank self.old other) }
