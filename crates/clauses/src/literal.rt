@@ -41,7 +41,7 @@ impl Lit {
     /// and for a number above [`LARGEST_VARIABLE`].
     pub fn make(variable: u32, positive: bool) -> Option<Lit>
         ensures made { IfSome result (λ l. l ≡ record { variable = variable; positive = positive }) }
-        ensures when { IsSome result ↔ ((1 ≤ variable) × (variable ≤ LARGEST_VARIABLE)) }
+        ensures when { IsSome result ↔ ((1 ≤ variable) × (variable ≤ 2147483647)) }
     {
         if variable == 0 || variable > LARGEST_VARIABLE {
             return None;
@@ -58,7 +58,7 @@ impl Lit {
     pub fn variable(&self) -> u32
         ensures same { result ≡ self.now.variable }
         ensures from_one { 1 ≤ result }
-        ensures most { result ≤ LARGEST_VARIABLE }
+        ensures most { result ≤ 2147483647 }
     {
         self.number / 2
     }

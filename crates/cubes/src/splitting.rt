@@ -114,7 +114,7 @@ pub fn branching_variables(alloc: Global, encoded: &Encoded) -> Result<Vec<u32>,
 /// want of memory is [`CubeFault::TooMany`], exactly where `depth` is above [`GREATEST_DEPTH`].
 pub fn split(alloc: Global, encoded: &Encoded, depth: u32) -> Result<Tree, CubeFault>
     ensures tree { IfOk result (λ tree. IsCubeTree encoded.now depth tree) }
-    ensures too_many { result ≡ Err CubeFault.TooMany ↔ GREATEST_DEPTH < depth }
+    ensures too_many { result ≡ Err CubeFault.TooMany ↔ 15 < depth }
 {
     if depth > GREATEST_DEPTH {
         return Err(CubeFault::TooMany);

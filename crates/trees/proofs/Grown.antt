@@ -4,7 +4,6 @@ use Rattle.std.proofs.lemmas.Bool.{cases_lt}
 use Rattle.std.proofs.lemmas.List.{set-append_left, length-append, get_or_append_left, get_or_read}
 use Rattle.refutations.specs.Trees.{branch}
 use Rattle.trees.specs.declared.tree.Kind.TheVariants.{Leaf, Split}
-use Rattle.trees.specs.declared.tree.TheConstants.{MOST_NODES, GREATEST_DEPTH}
 use Rattle.trees.specs.Trees.{TreeNode, TreeState, leaf_with, path_at, IsLeaf, split_at, one_leaf, one_more, HasNoRoom, IsGrown}
 use Rattle.trees.proofs.Splits.{kind_within, length_after, shallow_after, first_shallow}
 
@@ -16,8 +15,8 @@ grown_first variables nodes fits are =
 grown_after : (variables : ℕ) (nodes : List TreeNode) (place v : ℕ) → IsGrown (record { variables = variables; nodes = nodes }) → IsLeaf nodes place → 1 ≤ v → v ≤ variables → (HasNoRoom nodes place → ⊥) → IsGrown (record { variables = variables; nodes = split_at nodes place v })
 grown_after variables nodes place v grown is low high room =
     let there = kind_within nodes place Leaf is in
-    let short : length (path_at nodes place) + 1 ≤ GREATEST_DEPTH = elim (cases_lt GREATEST_DEPTH (length (path_at nodes place) + 1)) [ inl long ↦ absurd (room (inr long)) | inr short ↦ short ] in
-    let few : length nodes + 2 ≤ MOST_NODES = elim (cases_lt MOST_NODES (length nodes + 2)) [ inl many ↦ absurd (room (inl many)) | inr few ↦ few ] in
+    let short : length (path_at nodes place) + 1 ≤ 64 = elim (cases_lt 64 (length (path_at nodes place) + 1)) [ inl long ↦ absurd (room (inr long)) | inr short ↦ short ] in
+    let few : length nodes + 2 ≤ 65536 = elim (cases_lt 65536 (length nodes + 2)) [ inl many ↦ absurd (room (inl many)) | inr few ↦ few ] in
     record {
       variables_fit = grown.variables_fit;
       grows = one_more nodes place v grown.grows is low high;

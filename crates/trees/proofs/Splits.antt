@@ -10,7 +10,6 @@ use Rattle.refutations.specs.BinaryTrees.{Tree, leaf, split}
 use Rattle.refutations.specs.Trees.{branch, IsRefuted, Refutes}
 use Rattle.trees.specs.declared.tree.Kind.{Kind}
 use Rattle.trees.specs.declared.tree.Kind.TheVariants.{Leaf, Split}
-use Rattle.trees.specs.declared.tree.TheConstants.{GREATEST_DEPTH}
 use Rattle.trees.specs.Trees.{TreeNode, leaf_with, path_at, kind_at, IsLeaf, split_at, Grows, one_leaf, one_more, IsShallow, IsBelow}
 use Rattle.trees.specs.Laws.{IsReachedLeaf, OneLeafForEachAssignment, AreLeavesRefuted, ClosedLeavesRefute, IsSplitSound, SplitsAreSound, SplitsChangeOneLeaf, is_path_within, PathsAreWithin}
 
@@ -251,7 +250,7 @@ module _ (nodes : List TreeNode) (place v : ℕ) (there : place < length nodes) 
             ]
       ]
 
-  pub shallow_after : IsShallow nodes → length path + 1 ≤ GREATEST_DEPTH → IsShallow after
+  pub shallow_after : IsShallow nodes → length path + 1 ≤ 64 → IsShallow after
   shallow_after shallow room k =
       elim (cases_lt k (length after)) [
         | inr past ↦ omega (arith, ap (λ (n : TreeNode). length n.path) (get_or_past after k (leaf_with []) past))

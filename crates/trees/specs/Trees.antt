@@ -7,7 +7,6 @@ use Rattle.refutations.specs.Proofs.{is_number}
 use Rattle.refutations.specs.Trees.{branch}
 use Rattle.trees.specs.declared.tree.Kind.{Kind}
 use Rattle.trees.specs.declared.tree.Kind.TheVariants.{Leaf, Split}
-use Rattle.trees.specs.declared.tree.TheConstants.{MOST_NODES, GREATEST_DEPTH}
 
 -- the literals from a node up to the root, and what the node is
 pub record TreeNode : Type 0 where
@@ -50,17 +49,17 @@ pub data Grows (variables : ℕ) : List TreeNode → Type 0 where
 
 -- a split of this leaf would make too many nodes or too long a path
 abbrev pub HasNoRoom : List TreeNode → ℕ → Type 0
-HasNoRoom nodes place = (MOST_NODES < length nodes + 2) ⊎ (GREATEST_DEPTH < length (path_at nodes place) + 1)
+HasNoRoom nodes place = (65536 < length nodes + 2) ⊎ (64 < length (path_at nodes place) + 1)
 
 -- no path is too long
 abbrev pub IsShallow : List TreeNode → Type 0
-IsShallow nodes = (node : ℕ) → length (path_at nodes node) ≤ GREATEST_DEPTH
+IsShallow nodes = (node : ℕ) → length (path_at nodes node) ≤ 64
 
 -- what holds of every tree
 pub record IsGrown (tree : TreeState) : Type 0 where
   pub variables_fit : tree.variables ≤ 2147483647
   pub grows : Grows tree.variables tree.nodes
-  pub few : length tree.nodes ≤ MOST_NODES
+  pub few : length tree.nodes ≤ 65536
   pub shallow : IsShallow tree.nodes
 
 -- the tree that hangs below a node, where each leaf has the number that stands at its place
