@@ -2,6 +2,7 @@ pub mod Answering
 pub mod Assembling
 pub mod Calls
 pub mod Derivations
+pub mod Growth
 pub mod Hints
 pub mod Histories
 pub mod Legal

@@ -1,5 +1,6 @@
 pub mod Batches
 pub mod Counts
+pub mod Growth
 pub mod Laws
 pub mod Reasons
 pub mod Refusals

@@ -1,6 +1,7 @@
 //! What holds of every sound pool, and of every history, apart from any code.
 
 ghost use Rattle.pool.specs.Laws.{LeavesCover, ClosedPoolsRefute, RunsStaySound, RunsAreLegal};
+ghost use Rattle.pool.specs.Growth.{LogsGrow, BasesRise, RunsLoseNothing};
 
 /// The leaves of a pool's tree cover all assignments: each makes all literals of one leaf's path true,
 /// and those of no other.
@@ -21,4 +22,20 @@ pub fn runs_stay_sound()
 /// After a run of calls the history tells it: taken in order from the opening pool, the entries give this pool.
 pub fn runs_are_legal()
     ensures { RunsAreLegal }
+{}
+
+/// Whatever calls are made of a pool, its log begins as it did: lines are only added, at the end.
+pub fn logs_grow()
+    ensures { LogsGrow }
+{}
+
+/// In a run of calls each accepted batch has a base past all lines of the batches accepted before it. So the bases of
+/// batches that aren't empty rise.
+pub fn bases_rise()
+    ensures { BasesRise }
+{}
+
+/// In a run of calls an accepted fetch, whoever makes it, lacks no line past its start that was published or told before it.
+pub fn runs_lose_nothing()
+    ensures { RunsLoseNothing }
 {}

@@ -23,6 +23,9 @@ pub use entry::{
 pub use events::{Event, Reply, run};
 pub use extend::MOST_LINES;
 pub use keep::{Pool, Status};
-pub use laws::{closed_pools_refute, leaves_cover, runs_are_legal, runs_stay_sound};
+pub use laws::{
+    bases_rise, closed_pools_refute, leaves_cover, logs_grow, runs_are_legal, runs_lose_nothing,
+    runs_stay_sound,
+};
 pub use share::Share;
 pub use why::Why;
