@@ -1,6 +1,8 @@
--- In a legal history the log only grows, each call's lines keep their place, and the program and its formula stay.
-use Rattle.std.proofs.Common.{◌≡◌, ℕ, zero, suc, ◌+◌, ◌≤◌, ◌==◌, Bool, true, false, if◌then◌else◌, List, [], ◌∷◌, ◌++◌, length, drop, Result, Ok, Err, refl, sym, ap, ◌∙◌, subst, append_assoc, append-nil, arith}
+-- In a legal history each call's lines keep their place, and what a seat was told stays true of all that it is told later.
+use Rattle.std.proofs.Common.{◌≡◌, ℕ, zero, suc, ◌+◌, ◌<◌, ◌==◌, Bool, true, false, if◌then◌else◌, List, [], ◌∷◌, ◌++◌, length, drop, Option, Some, None, slice_get, Result, Ok, Err, sym, ap, ◌∙◌, subst, append_assoc, arith}
 use Rattle.std.specs.Prelude.{OnOk}
+use Rattle.std.proofs.lemmas.List.{drop-append-le}
+use Rattle.std.proofs.lemmas.List.Elements.{All-weaker}
 use Rattle.atomic_table.specs.Seated.{TableId}
 use Rattle.crossbeam_utils.specs.Seq.{cell_view}
 use Rattle.batches.specs.declared.BatchLine.{BatchLine}
@@ -17,53 +19,20 @@ use Rattle.pool.specs.declared.entry.PublishFault.{PublishFault}
 use Rattle.pool.specs.declared.entry.PublishFault.TheVariants.{NotDerived}
 use Rattle.pool.specs.declared.entry.FoundFault.{FoundFault}
 use Rattle.pool.specs.declared.entry.FoundFault.TheVariants.{Memory, NotStuck}
+use Rattle.pool.specs.Growth.{LosesNothing}
 use Rattle.pool.specs.Replies.{resolved_lines, FailsAt}
 use Rattle.pool.specs.States.{Held, Kept, IsSound, IsReply, IsRun, IsPublished, IsFound, after, after_deed, after_all}
+use Rattle.pool.proofs.Growth.{grows, grows_once, same_program, same_formula, lose_nothing}
 use Rattle.pool.proofs.Histories.{stay_sound}
+use Rattle.sharedpool.specs.Laws.{NothingSeenIsLost}
 use Rattle.sharedpool.specs.Views.{items_of}
 use Rattle.sharedpool.specs.Seats.{Token, Chair, IsSeat, IsLocked, AreNoted, HoldsAt, AllHeld, HoldsOver, IsRefusedOver}
 use Rattle.sharedpool.proofs.Legal.{chair, holds_over}
 
-abbrev Grows : Held → Held → Type 0
-Grows h k = (k.program ≡ h.program) × (k.formula ≡ h.formula) × (more : List ProofLine) × (k.log ≡ h.log ++ more)
-
-same_held : (h : Held) → Grows h h
-same_held h = (refl, refl, [], sym (append-nil h.log))
-
-grows_once : (h : Held) (deed : Deed) (lines : List ProofLine) (steps : List Step) → Grows h (after_deed h deed lines steps)
-grows_once h (Publish count (Ok base)) lines steps = (refl, refl, lines, refl)
-grows_once h (Publish count (Err fault)) lines steps = same_held h
-grows_once h (Fetch from reply) lines steps = same_held h
-grows_once h (Close leaf number (Ok _)) lines steps = same_held h
-grows_once h (Close leaf number (Err fault)) lines steps = same_held h
-grows_once h (Split leaf variable (Ok nodes)) lines steps = same_held h
-grows_once h (Split leaf variable (Err fault)) lines steps = same_held h
-grows_once h (Found count (Ok _)) lines steps = same_held h
-grows_once h (Found count (Err fault)) lines steps = same_held h
-grows_once h (Leave why) lines steps = same_held h
-
-grows : (h : Held) (items : List Item) → Grows h (after_all h items)
-grows h [] = same_held h
-grows h (item ∷ items) =
-    let once = grows_once h item.entry.deed item.lines item.steps in
-    let rest = grows (after h item) items in
-    (rest.0 ∙ once.0, rest.1 ∙ once.1, once.2 ++ rest.2, rest.3 ∙ ap (λ l. l ++ rest.2) once.3 ∙ append_assoc h.log once.2 rest.2)
-
-pub same_program : (h : Held) (items : List Item) → (after_all h items).program ≡ h.program
-same_program h items = (grows h items).0
-
-pub same_formula : (h : Held) (items : List Item) → (after_all h items).formula ≡ h.formula
-same_formula h items = (grows h items).1
-
-drop_front : (from : ℕ) (log more : List ProofLine) → from ≤ length log → drop from (log ++ more) ≡ drop from log ++ more
-drop_front zero log more within = refl
-drop_front (suc from) [] more within = absurd (omega arith)
-drop_front (suc from) (line ∷ log) more within = drop_front from log more (omega arith)
-
 held_now : (h : Held) (deed : Deed) (lines more log : List ProofLine) (steps : List Step) → IsReply h deed lines steps → log ≡ (after_deed h deed lines steps).log ++ more → HoldsAt h.formula log deed lines
 held_now h (Publish count (Ok base)) lines more log steps reply is = (h.log, more, is ∙ append_assoc h.log lines more, reply.1)
 held_now h (Publish count (Err fault)) lines more log steps reply is = tt
-held_now h (Fetch from (Ok count)) lines more log steps reply is = (more, ap (drop from) is ∙ drop_front from h.log more reply.0 ∙ ap (λ l. l ++ more) (sym reply.1))
+held_now h (Fetch from (Ok count)) lines more log steps reply is = (more, ap (drop from) is ∙ drop-append-le from h.log more reply.0 ∙ ap (λ l. l ++ more) (sym reply.1))
 held_now h (Fetch from (Err fault)) lines more log steps reply is = tt
 held_now h (Close leaf number reply') lines more log steps reply is = tt
 held_now h (Split leaf variable reply') lines more log steps reply is = tt
@@ -107,6 +76,59 @@ pub refused_call : (table : TableId) (opening : Held) (pool : Kept) (workers wor
 refused_call table opening pool workers worker keeper later seat after item batch result locked sits noted_as reply place is =
     refused_over opening (chair worker (cell_view seat).mine) batch place locked.sound
     (holds_over table opening pool workers worker keeper later seat after item (λ h. IsPublished h batch (Err (NotDerived place))) locked sits noted_as (subst (IsPublished pool.held batch) is reply))
+
+-- ---- what a seat is told
+
+-- one stands somewhere before the other
+abbrev AreInOrder : List Item → Item → Item → Type 0
+AreInOrder items one later = (i : ℕ) × (j : ℕ) × (i < j) × (slice_get items i ≡ Some one) × (slice_get items j ≡ Some later)
+
+place_if : (b : Bool) (item later : Item) (kept items : List Item) (j : ℕ) → ((k : ℕ) → slice_get kept k ≡ Some later → (l : ℕ) × (slice_get items l ≡ Some later))
+    → slice_get (if b then item ∷ kept else kept) j ≡ Some later → (l : ℕ) × (slice_get (item ∷ items) l ≡ Some later)
+place_if true item later kept items zero rest there = (zero, there)
+place_if true item later kept items (suc j) rest there = let found = rest j there in (suc found.0, found.1)
+place_if false item later kept items j rest there = let found = rest j there in (suc found.0, found.1)
+
+place_of : (worker : ℕ) (items : List Item) (j : ℕ) (later : Item) → slice_get (items_of worker items) j ≡ Some later → (l : ℕ) × (slice_get items l ≡ Some later)
+place_of worker [] j later there = absurd (let told : ◌≡◌ {A = Option Item} None (Some later) = there in cc)
+place_of worker (item ∷ items) j later there = place_if (item.entry.worker == worker) item later (items_of worker items) items j (λ k at. place_of worker items k later at) there
+
+order_if : (b : Bool) (item one later : Item) (kept items : List Item) (i j : ℕ) → ((k : ℕ) → slice_get kept k ≡ Some later → (l : ℕ) × (slice_get items l ≡ Some later))
+    → ((k l : ℕ) → k < l → slice_get kept k ≡ Some one → slice_get kept l ≡ Some later → AreInOrder items one later)
+    → i < j → slice_get (if b then item ∷ kept else kept) i ≡ Some one → slice_get (if b then item ∷ kept else kept) j ≡ Some later → AreInOrder (item ∷ items) one later
+order_if true item one later kept items i zero place rest low first second = absurd (omega arith)
+order_if true item one later kept items zero (suc j) place rest low first second =
+    let found = place j second in
+    (zero, suc found.0, omega arith, first, found.1)
+order_if true item one later kept items (suc i) (suc j) place rest low first second =
+    let found = rest i j (omega arith) first second in
+    let higher : found.0 < found.1 = found.2 in
+    (suc found.0, suc found.1, omega (arith, higher), found.3, found.4)
+order_if false item one later kept items i j place rest low first second =
+    let found = rest i j low first second in
+    let higher : found.0 < found.1 = found.2 in
+    (suc found.0, suc found.1, omega (arith, higher), found.3, found.4)
+
+-- a worker's items keep their order
+order_of : (worker : ℕ) (items : List Item) (i j : ℕ) (one later : Item) → i < j → slice_get (items_of worker items) i ≡ Some one → slice_get (items_of worker items) j ≡ Some later → AreInOrder items one later
+order_of worker [] i j one later low first second = absurd (let told : ◌≡◌ {A = Option Item} None (Some one) = first in cc)
+order_of worker (item ∷ items) i j one later low first second =
+    order_if (item.entry.worker == worker) item one later (items_of worker items) items i j
+    (λ k at. place_of worker items k later at)
+    (λ k l lower at next. order_of worker items k l one later lower at next)
+    low first second
+
+mine_lose_nothing : (worker : ℕ) (formula : Conjunction) (items : List Item) → LosesNothing formula items → LosesNothing formula (items_of worker items)
+mine_lose_nothing worker formula items none i j one later place from line low first second =
+    let found = order_of worker items i j one later low first second in
+    none found.0 found.1 one later place from line found.2 found.3 found.4
+
+pub seats_lose_nothing : NothingSeenIsLost
+seats_lose_nothing opening seats pool counts finished =
+    let none = lose_nothing opening finished.items finished.legal.run in
+    All-weaker (λ (seat : Chair). seat.mine ≡ items_of seat.worker finished.items) (λ (seat : Chair). LosesNothing opening.formula seat.mine)
+    (λ seat is. subst (LosesNothing opening.formula) (sym is) (mine_lose_nothing seat.worker opening.formula finished.items none))
+    seats finished.lists
 
 -- ---- schedules
 

@@ -1,3 +1,4 @@
+pub mod Laws
 pub mod Nothing
 pub mod Seats
 pub mod Views

@@ -12,6 +12,7 @@
 //! Workers count from 0.
 #![tactic(auto)]
 
+mod laws;
 mod locked;
 mod note;
 mod passes;
@@ -19,6 +20,7 @@ mod room;
 mod seat;
 mod shared;
 
+pub use laws::nothing_seen_is_lost;
 pub use room::{Cell, Room, Token};
 pub use seat::Seat;
 pub use shared::{FinishFault, SharedPool, open_room};

@@ -178,6 +178,7 @@ impl<B: Room> SharedPool<B> {
         alloc: Global,
         seats: Vec<Seat<B>>,
     ) -> Result<(Pool, Vec<usize>), (FinishFault, SharedPool<B>, Vec<Seat<B>>)>
+        ensures all { IfOk result (λ r. AreAllSeats B.workers seats.items) }
         ensures finished { IfOk result (λ r. IsFinished B.opening seats.items r.0 r.1.items) }
         ensures program { IfOk result (λ r. r.0.held.program ≡ B.opening.program) }
         ensures formula { IfOk result (λ r. r.0.held.formula ≡ B.opening.formula) }

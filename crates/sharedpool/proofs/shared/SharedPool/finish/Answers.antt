@@ -3,11 +3,15 @@ use Rattle.std.specs.List.{range_with_len}
 use Rattle.pool.specs.States.{Held, IsLegal}
 use Rattle.sharedpool.specs.Views.{items_of, AllBelow}
 use Rattle.sharedpool.specs.Seats.{Shared, Chair, AreAllSeats}
-use Rattle.sharedpool.proofs.Growth.{same_program, same_formula}
+use Rattle.pool.proofs.Growth.{same_program, same_formula}
 use Rattle.sharedpool.proofs.shared.SharedPool.finish.Goals as goal
 
 all_as : (workers made : ℕ) (read seats : List Chair) → workers ≡ made → read ≡ seats → AreAllSeats workers read → AreAllSeats made seats
 all_as workers made read seats one two all = subst (AreAllSeats made) two (subst (λ n. AreAllSeats n read) one all)
+
+pub returns-clause-all : goal.returns-clause-all
+returns-clause-all g c =
+    all_as _ _ _ _ c.workers-workers.ensures.room c.deref.ensures.value (c.are_all.ensures.0 c.if-not-are_all.false)
 
 pub returns-clause-finished : goal.returns-clause-finished
 returns-clause-finished g c =
