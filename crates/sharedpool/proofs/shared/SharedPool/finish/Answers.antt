@@ -1,9 +1,9 @@
 use Rattle.std.proofs.Common.{◌≡◌, ◌<◌, ℕ, List, map, length, sym, ap, ◌∙◌, subst, refl, true≢false, arith}
 use Rattle.std.specs.List.{range_with_len}
 use Rattle.pool.specs.States.{Held, IsLegal}
+use Rattle.pool.proofs.Growth.{same_program, same_formula}
 use Rattle.sharedpool.specs.Views.{items_of, AllBelow}
 use Rattle.sharedpool.specs.Seats.{Shared, Chair, AreAllSeats}
-use Rattle.pool.proofs.Growth.{same_program, same_formula}
 use Rattle.sharedpool.proofs.shared.SharedPool.finish.Goals as goal
 
 all_as : (workers made : ℕ) (read seats : List Chair) → workers ≡ made → read ≡ seats → AreAllSeats workers read → AreAllSeats made seats
