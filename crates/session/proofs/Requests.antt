@@ -1,8 +1,9 @@
 -- How the runs end whose words ask for a command.
 use Rattle.std.proofs.Common.{◌≡◌, ◌∙◌, ◌⊎◌, arith, ap, get_or, inl, inr, refl, sym, subst, ℕ, List, [], Bool, false, Some, None, Option, codes, option_map}
 use Rattle.std.proofs.lemmas.Option.{same_Some}
+use Rattle.std.specs.Str.Parse.{digits_value, without_leading_plus}
 use Rattle.clap.specs.Words.{IsAmong, Kinds, Row, Text, fault_of, subcommand_of}
-use Rattle.session.specs.CommandLine.{IsCheckOf, IsExportOf, IsProveOf, IsReplayOf, MakesSome, command_line}
+use Rattle.session.specs.CommandLine.{IsCheckOf, IsExportOf, IsProveOf, IsReplayOf, MakesSome, Reads, budget_of, command_line}
 use Rattle.session.specs.Deadlocks.{AskToCheck, AskToExport, AskToProve, AskToProveTelling, AskToReplay}
 use Rattle.session.specs.Endings.{Ends, EndsFollowed, EndsUnasked, FailsEarly, RequestEnds, SessionEnds}
 use Rattle.session.specs.Pages.{IsChecked, IsEither, IsExported, IsExportFile, IsProveFile, IsProved, IsReplayed}
@@ -94,8 +95,13 @@ replay_again (Some f) (ask.Replay p1 e1) (ask.Check p2 e2 n2 j2) p e one two is 
 replay_again (Some f) (ask.Replay p1 e1) (ask.Replay p2 e2) p e one two is =
     (same_value one.values.0 two.values.0 is.0, same_value one.values.1 two.values.1 is.1)
 
+same_number : (rows : List Row) (id : Text) (a b : ℕ) → Reads rows id a → Reads rows id b → a ≡ b
+same_number rows id a b one two =
+    one.3 ∙ ap (λ (t : Text). digits_value 10 (without_leading_plus t)) (same_Some one.0 two.0 (sym one.1 ∙ two.1)) ∙ sym two.3
+
 prove_again : (found : Option (Text × List Row)) (a b : Request) (p : Text) (out : Option Text) (progress json : Bool) → MakesSome found a
-    → MakesSome found b → IsProveOf p out progress json a → (telling : Bool) × (as_json : Bool) × IsProveOf p out telling as_json b
+    → MakesSome found b → IsProveOf p out progress json a
+    → (telling : Bool) × (as_json : Bool) × IsProveOf p out telling as_json b × (budget_of b ≡ budget_of a)
 prove_again None a b p out progress json one two is = absurd one
 prove_again (Some f) (ask.Check p1 e1 n1 j1) b p out progress json one two is = absurd is
 prove_again (Some f) (ask.Replay p1 e1) b p out progress json one two is = absurd is
@@ -107,8 +113,12 @@ prove_again (Some f) (ask.Prove p1 o1 s1 g1 j1) (ask.Explain p2 e2 g2) p out pro
 prove_again (Some f) (ask.Prove p1 o1 s1 g1 j1) (ask.Encode p2 d2) p out progress json one two is = absurd (encode_prove (sym two.command ∙ one.command))
 prove_again (Some f) (ask.Prove p1 o1 s1 g1 j1) (ask.Check p2 e2 n2 j2) p out progress json one two is = absurd (prove_check (sym one.command ∙ two.command))
 prove_again (Some f) (ask.Prove p1 o1 s1 g1 j1) (ask.Replay p2 e2) p out progress json one two is = absurd (prove_replay (sym one.command ∙ two.command))
-prove_again (Some f) (ask.Prove p1 o1 s1 g1 j1) (ask.Prove p2 o2 s2 g2 j2) p out progress json one two is =
-    (g2, j2, (same_value one.values.0 two.values.0 is.0, sym two.values.1 ∙ one.values.1 ∙ is.1, refl, refl))
+prove_again (Some f) (ask.Prove p1 o1 s1 g1 j1) (ask.Prove p2 o2 s2 g2 j2) p out progress json one two is = (
+  g2,
+  j2,
+  (same_value one.values.0 two.values.0 is.0, sym two.values.1 ∙ one.values.1 ∙ is.1, refl, refl),
+  same_number f.1 (codes "budget") s2.budget s1.budget two.values.3.budget one.values.3.budget,
+)
 
 export_again : (found : Option (Text × List Row)) (a b : Request) (p e out : Text) → MakesSome found a → MakesSome found b
     → IsExportOf p e out a → IsExportOf p e out b
@@ -187,30 +197,36 @@ module _ (words : List Text) (tells : Bool) (before after : List ℕ → Option 
   replay_ends p e asks (inr unasked) = inr (faulted asks.1.faultless unasked)
 
   -- how a search ends
-  abbrev pub ProveEnds : Text → Option Text → Bool → Bool → Type 0
-  ProveEnds p out progress json =
-      EndsFollowed progress (IsProved tells before after p out json) (IsProveFile p out before after) want.Unknown json
+  abbrev pub ProveEnds : Text → Option Text → ℕ → Bool → Bool → Type 0
+  ProveEnds p out budget progress json =
+      EndsFollowed progress (IsProved tells before after p out budget json) (IsProveFile p out before after) want.Unknown json
       before after old new told_old told_new status
 
-  prove_of : (request : Request) (p : Text) (out : Option Text) (progress json : Bool) → IsProveOf p out progress json request
-      → RequestEnds tells before after request old new told_old told_new status → ProveEnds p out progress json
-  prove_of (ask.Check p1 e1 n1 j1) p out progress json is ends = absurd is
-  prove_of (ask.Encode p1 d1) p out progress json is ends = absurd is
-  prove_of (ask.Explain p1 e1 g1) p out progress json is ends = absurd is
-  prove_of (ask.Export p1 e1 o1) p out progress json is ends = absurd is
-  prove_of (ask.Replay p1 e1) p out progress json is ends = absurd is
-  prove_of (ask.Prove p1 o1 s1 g1 j1) p out progress json is ends =
-      subst (λ (x : Text). ProveEnds x out progress json) is.0
-      (subst (λ (x : Option Text). ProveEnds p1.now x progress json) is.1
-      (subst (λ (x : Bool). ProveEnds p1.now (option_map (λ s. s.now) o1) x json) is.2
-      (subst (λ (x : Bool). ProveEnds p1.now (option_map (λ s. s.now) o1) g1 x) is.3 ends.1)))
+  prove_of : (request : Request) (p : Text) (out : Option Text) (budget : ℕ) (progress json : Bool) → IsProveOf p out progress json request
+      → budget_of request ≡ budget → RequestEnds tells before after request old new told_old told_new status → ProveEnds p out budget progress json
+  prove_of (ask.Check p1 e1 n1 j1) p out budget progress json is same ends = absurd is
+  prove_of (ask.Encode p1 d1) p out budget progress json is same ends = absurd is
+  prove_of (ask.Explain p1 e1 g1) p out budget progress json is same ends = absurd is
+  prove_of (ask.Export p1 e1 o1) p out budget progress json is same ends = absurd is
+  prove_of (ask.Replay p1 e1) p out budget progress json is same ends = absurd is
+  prove_of (ask.Prove p1 o1 s1 g1 j1) p out budget progress json is same ends =
+      subst (λ (x : Text). ProveEnds x out budget progress json) is.0
+      (subst (λ (x : Option Text). ProveEnds p1.now x budget progress json) is.1
+      (subst (λ (x : ℕ). ProveEnds p1.now (option_map (λ s. s.now) o1) x progress json) same
+      (subst (λ (x : Bool). ProveEnds p1.now (option_map (λ s. s.now) o1) s1.budget x json) is.2
+      (subst (λ (x : Bool). ProveEnds p1.now (option_map (λ s. s.now) o1) s1.budget g1 x) is.3 ends.1))))
 
-  pub prove_ends : (p : Text) (out : Option Text) → AskToProve words p out → SessionEnds words tells before after old new told_old told_new status
-      → ((progress : Bool) × (json : Bool) × AskToProveTelling words p out progress × ProveEnds p out progress json)
+  pub prove_ends : (p : Text) (out : Option Text) (asks : AskToProve words p out) → SessionEnds words tells before after old new told_old told_new status
+      → ((progress : Bool) × (json : Bool) × AskToProveTelling words p out progress × ProveEnds p out (budget_of asks.0) progress json)
       ⊎ FailsEarly old new told_old told_new status
   prove_ends p out asks (inl asked) =
       let again = prove_again (subcommand_of command_line words) asks.0 asked.0 p out asks.1 asks.2 asks.3.named asked.1.named asks.4 in
-      inl (again.0, again.1, (asked.0, again.1, asked.1, again.2), prove_of asked.0 p out again.0 again.1 again.2 asked.2)
+      inl (
+        again.0,
+        again.1,
+        (asked.0, again.1, asked.1, again.2),
+        prove_of asked.0 p out (budget_of asks.0) again.0 again.1 again.2 again.3 asked.2,
+      )
   prove_ends p out asks (inr unasked) = inr (faulted asks.3.faultless unasked)
 
   -- how an export ends

@@ -1,5 +1,5 @@
 -- The laws of how a run ended.
-use Rattle.std.proofs.Common.{◌≡◌, ◌∙◌, ◌⊎◌, arith, ap, inl, inr, refl, sym, subst, ℕ, List, Bool, true, false, Some, Option, option_map}
+use Rattle.std.proofs.Common.{◌≡◌, ◌∙◌, ◌<◌, ◌⊎◌, arith, ap, inl, inr, refl, sym, subst, ℕ, List, Bool, true, false, Some, Option, option_map}
 use Rattle.std.specs.Io.KnownBytes.{Appends}
 use Rattle.clap.specs.Words.{Text}
 use Rattle.clap.specs.declared.error.kind.ErrorKind.{ErrorKind}
@@ -13,8 +13,8 @@ use Rattle.formulas.specs.Numbering.{formula_of}
 use Rattle.prover.specs.Answers.{Replays}
 use Rattle.prover.specs.declared.steps.Replayed.{Replayed}
 use Rattle.prover.specs.declared.steps.Replayed.TheVariants as replays
-use Rattle.session.specs.CommandLine.{AskFor}
-use Rattle.session.specs.Deadlocks.{AskToProveTelling, CheckedDeadlockIsShown, CheckedSafetyIsPrinted, CheckedSafetyIsTrue, ExportedProofIsWritten, ExportedSafetyIsTrue, IsRightlyTold, ProvedDeadlockIsShown, ProvedSafetyIsPrinted, ProvedSafetyIsTrue, RefutedIsChecked, ReplayedDeadlockIsShown, ShownDeadlockIsChecked, ShownDeadlockIsReplayed, TellsDeadlock, ToldDeadlockIsShown, WrittenDeadlockIsShown, WrittenSafetyIsRefuted}
+use Rattle.session.specs.CommandLine.{AskFor, budget_of}
+use Rattle.session.specs.Deadlocks.{AskToProveTelling, CheckedDeadlockIsShown, CheckedSafetyIsPrinted, CheckedSafetyIsTrue, ExportedProofIsWritten, ExportedSafetyIsTrue, IsRightlyTold, ProvedDeadlockIsShown, ProvedSafetyIsPrinted, ProvedSafetyIsTrue, ProvedUnknownFinishes, RefutedIsChecked, ReplayedDeadlockIsShown, ShownDeadlockIsChecked, ShownDeadlockIsReplayed, TellsDeadlock, ToldDeadlockIsShown, WrittenDeadlockIsShown, WrittenSafetyIsRefuted}
 use Rattle.session.specs.Endings.{Complains, Ends, EndsFollowed, EndsUnasked, Explains, FailsEarly, Prints, PrintsAlone, RequestEnds}
 use Rattle.session.specs.Lines.{IsLine, early_line, memory_line, no_deadlock_line, told_of_answer, told_of_verdict, told_status, version_line}
 use Rattle.session.specs.Pages.{IsChecked, IsEither, IsEncoded, IsExplained, IsExported, IsExportFile, IsProveFile, IsProved, IsReplayPage, IsReplayed}
@@ -23,8 +23,8 @@ use Rattle.session.specs.declared.page.Want.TheVariants as want
 use Rattle.session.specs.declared.request.Request.{Request}
 use Rattle.session.specs.declared.request.Request.TheVariants as ask
 use Rattle.session.specs.declared.told.Told.TheVariants as told
-use Rattle.session.proofs.DeadlockLines.{PageTells, deadlock_page, deadlock_printed, deadlock_untold, dimacs_untold, formula_untold, help_untold, line_tells, safe_line, safety_page, safety_untold, version_untold, zero_told}
-use Rattle.session.proofs.Deadlocks.{check_never, check_shows, explained_shows, exported_checked, exported_proof, file_refutes, file_shows, prove_never, prove_shows, read_as_held, read_shows, replayed_shows}
+use Rattle.session.proofs.DeadlockLines.{PageTells, deadlock_page, deadlock_printed, deadlock_untold, dimacs_untold, formula_untold, help_untold, line_tells, safe_line, safety_page, safety_untold, unknown_page, unknown_untold, version_untold, zero_told}
+use Rattle.session.proofs.Deadlocks.{check_never, check_shows, explained_shows, exported_checked, exported_proof, file_refutes, file_shows, prove_finishes, prove_never, prove_shows, read_as_held, read_shows, replayed_shows}
 use Rattle.session.proofs.Requests.{check_ends, export_ends, prove_ends, replay_ends}
 
 -- a run that complains with another status tells no deadlock
@@ -213,22 +213,22 @@ followed_that_told words IsPage IsFile before after old new told_old told_new st
 
 pub proved : ProvedDeadlockIsShown
 proved words p out tells before after program old new told_old told_new status asks held ends says =
-    let page = followed_that_told words (IsProved tells before after p out) (IsProveFile p out before after) before after
+    let page = followed_that_told words (IsProved tells before after p out (budget_of asks.0)) (IsProveFile p out before after) before after
     old new told_old told_new status p out (prove_ends words tells before after old new told_old told_new status p out asks ends) says in
-    prove_shows tells before after p out page.0 page.1 page.2 program page.3 page.4 held
+    prove_shows tells before after p out (budget_of asks.0) page.0 page.1 page.2 program page.3 page.4 held
 
 pub written : WrittenDeadlockIsShown
 written words p file before after program old new told_old told_new status asks held ends says =
-    let page = followed_that_told words (IsProved true before after p (Some file)) (IsProveFile p (Some file) before after) before after
+    let page = followed_that_told words (IsProved true before after p (Some file) (budget_of asks.0)) (IsProveFile p (Some file) before after) before after
     old new told_old told_new status p (Some file) (prove_ends words true before after old new told_old told_new status p (Some file) asks ends) says in
-    file_shows before after p file page.0 page.1 page.2 program page.3 page.4 held
+    file_shows before after p file (budget_of asks.0) page.0 page.1 page.2 program page.3 page.4 held
 
 pub proved_never : ProvedSafetyIsTrue
 proved_never words p out tells before after program old new told_old told_new status asks held ends says =
     elim (prove_ends words tells before after old new told_old told_new status p out asks ends) [
       | inl ended ↦
-          let page = safety_page (IsProved tells before after p out ended.1) (IsProveFile p out before after) want.Unknown ended.1 before after old new ended.3.0 told_new status ended.3.2 says in
-          prove_never tells before after p out ended.1 page.0 page.1 program page.2 page.3 held
+          let page = safety_page (IsProved tells before after p out (budget_of asks.0) ended.1) (IsProveFile p out before after) want.Unknown ended.1 before after old new ended.3.0 told_new status ended.3.2 says in
+          prove_never tells before after p out (budget_of asks.0) ended.1 page.0 page.1 program page.2 page.3 held
       | inr fails ↦ absurd (safety_untold old new status (λ zero. omega (arith, fails.0, zero)) fails.1 says)
     ]
 
@@ -236,16 +236,16 @@ pub written_never : WrittenSafetyIsRefuted
 written_never words p file before after program old new told_old told_new status asks held ends says =
     elim (prove_ends words true before after old new told_old told_new status p (Some file) asks ends) [
       | inl ended ↦
-          let page = safety_page (IsProved true before after p (Some file) ended.1) (IsProveFile p (Some file) before after) want.Unknown ended.1 before after old new ended.3.0 told_new status ended.3.2 says in
-          file_refutes before after p file ended.1 page.0 page.1 program page.2 page.3 held
+          let page = safety_page (IsProved true before after p (Some file) (budget_of asks.0) ended.1) (IsProveFile p (Some file) before after) want.Unknown ended.1 before after old new ended.3.0 told_new status ended.3.2 says in
+          file_refutes before after p file (budget_of asks.0) ended.1 page.0 page.1 program page.2 page.3 held
       | inr fails ↦ absurd (safety_untold old new status (λ zero. omega (arith, fails.0, zero)) fails.1 says)
     ]
 
-proved_page : (tells : Bool) (before after : List ℕ → Option (List ℕ)) (path : List ℕ) (out : Option (List ℕ)) (json : Bool) (text : List ℕ) (status : ℕ)
-    → IsProved tells before after path out json text status → status ≡ 0 → text ≡ no_deadlock_line json
-proved_page tells before after path out json text status page zero =
-    let safe = zero_told (told_of_answer page.1) (sym page.5.3 ∙ zero) in
-    safe_line json text status (subst (λ t. IsLine t json text status) safe page.5)
+proved_page : (tells : Bool) (before after : List ℕ → Option (List ℕ)) (path : List ℕ) (out : Option (List ℕ)) (budget : ℕ) (json : Bool) (text : List ℕ) (status : ℕ)
+    → IsProved tells before after path out budget json text status → status ≡ 0 → text ≡ no_deadlock_line json
+proved_page tells before after path out budget json text status page zero =
+    let safe = zero_told (told_of_answer page.1) (sym page.6.3 ∙ zero) in
+    safe_line json text status (subst (λ t. IsLine t json text status) safe page.6)
 
 pub proved_safe : ProvedSafetyIsPrinted
 proved_safe words p out tells before after old new told_old told_new status asks ends zero =
@@ -256,10 +256,21 @@ proved_safe words p out tells before after old new told_old told_new status asks
         ended.3.0,
         ended.2,
         ended.3.1,
-        safe_ended (IsProved tells before after p out ended.1) (IsProveFile p out before after) want.Unknown ended.1 before after old new ended.3.0 told_new status
-            (proved_page tells before after p out ended.1) ended.3.2 zero,
+        safe_ended (IsProved tells before after p out (budget_of asks.0) ended.1) (IsProveFile p out before after) want.Unknown ended.1 before after old new ended.3.0 told_new status
+            (proved_page tells before after p out (budget_of asks.0) ended.1) ended.3.2 zero,
       )
       | inr fails ↦ absurd (omega (arith, fails.0, zero))
+    ]
+
+pub unknown_finishes : ProvedUnknownFinishes
+unknown_finishes words p out budget tells before after program old new told_old told_new status asks some held ends says =
+    elim (prove_ends words tells before after old new told_old told_new status p out (asks.0, asks.1, asks.2, asks.3, asks.4) ends) [
+      | inl ended ↦
+          let page = unknown_page says.0 says.1 (IsProved tells before after p out (budget_of asks.0) ended.1) (IsProveFile p out before after) ended.1 before after
+          old new ended.3.0 told_new status ended.3.2 says.2 in
+          prove_finishes tells before after p out (budget_of asks.0) ended.1 page.0 page.1 program says.0 says.1 page.2 page.3
+          (subst (λ (b : ℕ). 0 < b) (sym asks.5) some) held
+      | inr fails ↦ absurd (unknown_untold says.0 old new status (λ two. omega (arith, fails.0, two)) fails.1 says.2)
     ]
 
 -- ---- export
@@ -300,9 +311,9 @@ asked_told words tells before after old new told_old told_new status (ask.Prove 
       option_map (λ s. s.now) out,
       (ask.Prove p out options progress json, progress, json, asks, (refl, refl, refl, refl)),
       λ program held.
-          let page = deadlock_page (IsProved tells before after p.now (option_map (λ s. s.now) out) json)
+          let page = deadlock_page (IsProved tells before after p.now (option_map (λ s. s.now) out) options.budget json)
           (IsProveFile p.now (option_map (λ s. s.now) out) before after) want.Unknown json before after old new ends.1.0 told_new status ends.1.2 says in
-          prove_shows tells before after p.now (option_map (λ s. s.now) out) json page.0 page.1 program page.2 page.3 held,
+          prove_shows tells before after p.now (option_map (λ s. s.now) out) options.budget json page.0 page.1 program page.2 page.3 held,
     )
 asked_told words tells before after old new told_old told_new status (ask.Check p e pieces json) asks ends says =
     inr (

@@ -223,6 +223,15 @@ IsProveOf program file telling as_json (ask.Encode p dimacs) = ⊥
 IsProveOf program file telling as_json (ask.Export p e out) = ⊥
 IsProveOf program file telling as_json (ask.Explain p e graph) = ⊥
 
+-- the budget of a request's search, or 0 where nothing is searched
+abbrev pub budget_of : Request → ℕ
+budget_of (ask.Prove p out options progress json) = options.budget
+budget_of (ask.Check p e pieces json) = 0
+budget_of (ask.Replay p e) = 0
+budget_of (ask.Encode p dimacs) = 0
+budget_of (ask.Export p e out) = 0
+budget_of (ask.Explain p e graph) = 0
+
 -- the numbers are the usual ones
 abbrev pub HasUsualOptions : Request → Type 0
 HasUsualOptions (ask.Prove p out options progress json) = AreUsual options.workers options.depth options.budget

@@ -10,6 +10,7 @@ ghost use Rattle.session.specs.Deadlocks.{
   ProvedDeadlockIsShown,
   ProvedSafetyIsPrinted,
   ProvedSafetyIsTrue,
+  ProvedUnknownFinishes,
   RefutedIsChecked,
   ReplayedDeadlockIsShown,
   ShownDeadlockIsChecked,
@@ -86,6 +87,12 @@ pub fn written_safety_is_refuted()
 /// its words ask for that, and else nothing.
 pub fn proved_safety_is_printed()
     ensures { ProvedSafetyIsPrinted }
+{}
+
+/// Where words ask to prove a program with a budget above 0, and the run printed the line `unknown budget`, `unknown full` or `unknown left`
+/// or ended with the status 2, some run of the program of the file ends with all ranks finished.
+pub fn proved_unknown_finishes()
+    ensures { ProvedUnknownFinishes }
 {}
 
 /// Where words ask to export a proof, and the run printed the line that tells that there is no deadlock or ended with the status 0, no

@@ -1,15 +1,8 @@
--- Where the file for the evidence failed, there is an evidence; where the program's failed, nothing was told.
-use Rattle.std.proofs.Common.{◌≡◌, ◌∙◌, Bool, true, false, IfErr, ℕ, List, Result, Ok, Err, inr, option_map, refl, sym, subst}
+-- Where the program's file failed, nothing was told.
+use Rattle.std.proofs.Common.{Bool, true, false, ℕ, List, refl}
 use Rattle.std.specs.Prelude.{Option}
-use Rattle.files.specs.Contents.{AreAll}
 use Rattle.progress.proofs.Tellings.{none_told}
-use Rattle.prover.specs.Answers.{Answers}
-use Rattle.prover.specs.declared.answer.Answer.{Answer}
 use Rattle.session.specs.Endings.{IsFollowed}
-use Rattle.session.specs.Pages.{IsEvidenceFile, IsProveFile, StopsBy}
-use Rattle.session.specs.declared.commands.Stop.{Stop}
-use Rattle.session.specs.declared.commands.Stop.TheVariants as stop
-use Rattle.session.specs.declared.page.Page.{Page}
 use Rattle.session.proofs.commands.prove_page.Goals as goal
 
 -- a search that never began told nothing

@@ -27,7 +27,7 @@ returns-in-Prove g c =
       (
         g.E.Write.contents c.prove_page-page.new.err,
         c.prove_page-page.ensures.followed,
-        ended (IsProved g.F.FileSet.tells_written before after c.in-Prove.program.now out c.in-Prove.json)
+        ended (IsProved g.F.FileSet.tells_written before after c.in-Prove.program.now out c.in-Prove.options.budget c.in-Prove.json)
             (IsProveFile c.in-Prove.program.now out before after) _ _ _ before after _ _ _ _ _
             c.prove_page-page.ensures.page c.prove_page-page.ensures.stop c.finish.ensures,
       ),

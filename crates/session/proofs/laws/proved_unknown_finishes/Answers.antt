@@ -1,0 +1,5 @@
+use Rattle.session.proofs.RunLaws.{unknown_finishes}
+use Rattle.session.proofs.laws.proved_unknown_finishes.Goals as goal
+
+pub returns : goal.returns
+returns c = unknown_finishes
