@@ -1,0 +1,57 @@
+//! Files in memory that tell what they hold.
+ghost use Rattle.std.specs.Prelude.{bytes_eq, codes, option_map, true};
+ghost use Rattle.test_disk.specs.Shelves.{shelf_file};
+
+use files::{FileSet, OpenFault};
+use std::alloc::Global;
+
+/// Two files that can be read, `program` and `evidence`, and one that can be written, `out`.
+/// Contracts see what they hold. Every other path isn't there.
+#[derive(Drop)]
+pub struct Shelf<'a> {
+    /// The memory for what is written.
+    pub alloc: Global,
+    /// What the file `program` holds.
+    pub program: &'a [u8],
+    /// What the file `evidence` holds.
+    pub evidence: &'a [u8],
+    /// What the file `out` holds, once it was written and closed.
+    pub out: Option<Vec<u8>>,
+}
+
+impl<'a> FileSet for Shelf<'a> {
+    ghost held = { λ shelf. shelf_file shelf.program.now shelf.evidence.now
+        (option_map (λ bytes. bytes.items) shelf.out) };
+
+    ghost tells_written = { true };
+
+    ghost takes = { λ _ path. bytes_eq path (codes "out") };
+
+    type Reader = &'a [u8];
+
+    type Writer = Vec<u8>;
+
+    fn open_read(&mut self, path: &str) -> Result<&'a [u8], OpenFault> {
+        if path == "program" {
+            return Ok(self.program);
+        }
+        if path == "evidence" {
+            return Ok(self.evidence);
+        }
+        Err(OpenFault::Device)
+    }
+
+    fn open_write(&mut self, path: &str) -> Result<Vec<u8>, OpenFault> {
+        if path == "out" {
+            self.out = None;
+            return Ok(Vec::new(self.alloc));
+        }
+        Err(OpenFault::Device)
+    }
+
+    fn close(&mut self, path: &str, writer: Vec<u8>) {
+        if path == "out" {
+            self.out = Some(writer);
+        }
+    }
+}
