@@ -10,13 +10,13 @@ ghost use Rattle.prover.specs.Searches.{HasFinishedRun, IsEvidenceOn, IsFormulaO
 use crate::answer::Answer;
 use crate::explore::stuck_walk;
 use crate::formula::encoded_of;
-use crate::options::Options;
 use crate::search::pool_of;
 use callorder::Program;
 use checker::{Reason, formula_of, program_of};
 use encode::Encoded;
 use pool::{AssembleFault, Pool, Why, schedule_of_run};
 use prooflog::{Evidence, write_evidence};
+use settings::Options;
 use std::alloc::{AllocError, Global};
 use std::sync::Wait;
 use std::thread::Threads;

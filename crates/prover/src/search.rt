@@ -5,10 +5,10 @@ ghost use Rattle.steal.specs.Deques.{AreDealt, deques_of};
 ghost use Rattle.crossbeam_utils.specs.Seq.{cell_view};
 ghost use Rattle.sharedpool.specs.Views.{knower};
 
-use crate::options::Options;
 use cubes::{CubeFault, split};
 use encode::Encoded;
 use pool::{Pool, Why};
+use settings::Options;
 use sharedpool::{Cell, FinishFault, Room, Seat, SharedPool, Token, open_room};
 use std::alloc::{AllocError, Global};
 use std::marker::Brand;

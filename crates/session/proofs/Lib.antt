@@ -1,12 +1,6 @@
 pub mod DeadlockLines
 pub mod HeldFiles
 pub mod Deadlocks
-pub mod CommandLines
-pub mod SecondWords
-pub mod PlainWords
-pub mod PlainFaults
-pub mod Requests
+pub mod TaskEnds
 pub mod RunLaws
 pub mod PlainAnswers
-pub mod OptionWords
-pub mod PieceWords

@@ -11,21 +11,21 @@ use Rattle.checker.specs.declared.reason.Verdict.TheVariants as verdicts
 use Rattle.checker.proofs.OneVerdicts.{kinds_differ, right_or_memory}
 use Rattle.formulas.specs.Numbering.{formula_of}
 use Rattle.prover.specs.Answers.{Replays}
+use Rattle.prover.specs.Telling.{told_run}
 use Rattle.prover.specs.declared.steps.Replayed.{Replayed}
 use Rattle.prover.specs.declared.steps.Replayed.TheVariants as replays
-use Rattle.session.specs.CommandLine.{AskFor, budget_of}
-use Rattle.session.specs.Deadlocks.{AskToProveTelling, CheckedDeadlockIsShown, CheckedSafetyIsPrinted, CheckedSafetyIsTrue, ExportedProofIsWritten, ExportedSafetyIsTrue, IsRightlyTold, ProvedDeadlockIsShown, ProvedSafetyIsPrinted, ProvedSafetyIsTrue, ProvedUnknownFinishes, RefutedIsChecked, ReplayedDeadlockIsShown, ShownDeadlockIsChecked, ShownDeadlockIsReplayed, TellsDeadlock, ToldDeadlockIsShown, WrittenDeadlockIsShown, WrittenSafetyIsRefuted}
-use Rattle.session.specs.Endings.{Complains, Ends, EndsFollowed, EndsUnasked, Explains, FailsEarly, Prints, PrintsAlone, RequestEnds}
-use Rattle.session.specs.Lines.{IsLine, early_line, memory_line, no_deadlock_line, told_of_answer, told_of_verdict, told_status, version_line}
-use Rattle.session.specs.Pages.{IsChecked, IsEither, IsEncoded, IsExplained, IsExported, IsExportFile, IsProveFile, IsProved, IsReplayPage, IsReplayed}
+use Rattle.command_line.specs.CommandLine.{version_line}
+use Rattle.command_line.specs.Requests.{AskFor, Task, to_check, to_encode, to_explain, to_export, to_prove, to_replay}
+use Rattle.session.specs.Deadlocks.{AskToCheck, AskToProve, AskToReplay, CheckedDeadlockIsPrinted, CheckedDeadlockIsShown, CheckedSafetyIsPrinted, CheckedSafetyIsTrue, EncodedFormulaIsPrinted, ExportedAnswerIsPrinted, ExportedProofIsWritten, ExportedSafetyIsTrue, IsRightlyTold, ProvedDeadlockIsPrinted, ProvedDeadlockIsShown, ProvedSafetyIsPrinted, ProvedSafetyIsTrue, ProvedUnknownFinishes, RefutedIsChecked, ReplayedDeadlockIsShown, ReplayedRunIsPrinted, ShownDeadlockIsChecked, ShownDeadlockIsReplayed, TellsDeadlock, TellsSafety, ToldDeadlockIsShown, WrittenDeadlockIsShown, WrittenSafetyIsRefuted}
+use Rattle.session.specs.Endings.{Complains, Ends, EndsFollowed, EndsUnasked, Explains, FailsEarly, IsFollowed, Prints, PrintsAlone, SessionEnds, TaskEnds}
+use Rattle.session.specs.Lines.{IsLine, deadlock_line, early_line, memory_line, no_deadlock_line, told_of_answer, told_of_verdict, told_status}
+use Rattle.session.specs.Pages.{HasTextOfFormula, IsChecked, IsEither, IsEncoded, IsExplained, IsExported, IsExportedTo, IsExportFile, IsProveFile, IsProved, IsReplayPage, IsReplayed}
 use Rattle.session.specs.declared.page.Want.{Want}
 use Rattle.session.specs.declared.page.Want.TheVariants as want
-use Rattle.session.specs.declared.request.Request.{Request}
-use Rattle.session.specs.declared.request.Request.TheVariants as ask
 use Rattle.session.specs.declared.told.Told.TheVariants as told
-use Rattle.session.proofs.DeadlockLines.{PageTells, deadlock_page, deadlock_printed, deadlock_untold, dimacs_untold, formula_untold, help_untold, line_tells, safe_line, safety_page, safety_untold, unknown_page, unknown_untold, version_untold, zero_told}
-use Rattle.session.proofs.Deadlocks.{check_never, check_shows, explained_shows, exported_checked, exported_proof, file_refutes, file_shows, prove_finishes, prove_never, prove_shows, read_as_held, read_shows, replayed_shows}
-use Rattle.session.proofs.Requests.{check_ends, export_ends, prove_ends, replay_ends}
+use Rattle.session.proofs.DeadlockLines.{PageTells, PageTellsSafety, deadlock_page, deadlock_printed, deadlock_untold, dimacs_untold, formula_untold, help_untold, line_tells, one_told, safe_line, safety_page, safety_untold, stuck_line, unknown_page, unknown_untold, version_untold, zero_told}
+use Rattle.session.proofs.Deadlocks.{all_are, check_never, check_shows, explained_shows, exported_checked, exported_proof, file_refutes, file_shows, held_as_read, prove_finishes, prove_never, prove_shows, read_as_held, read_shows, refused_above, refused_differs, replayed_shows, safe_differs}
+use Rattle.session.proofs.TaskEnds.{task_ends}
 
 -- a run that complains with another status tells no deadlock
 complaint_untold : (old new told_old told_new : Option (List ℕ)) (text : List ℕ) (status result : ℕ) → (status ≡ 1 → ⊥)
@@ -34,23 +34,49 @@ complaint_untold old new told_old told_new text status result other complains te
     deadlock_untold old new result (λ one. other (sym complains.0 ∙ one)) complains.1 tells
 
 -- where a run told a deadlock, its command ended by a page that tells it
-page_that_told : (IsPage : Bool → List ℕ → ℕ → Type 0) (IsFile : List ℕ → Type 0) (w : Want) (before after : List ℕ → Option (List ℕ))
-    (old new told_old told_new : Option (List ℕ)) (status : ℕ)
-    → ((json : Bool) × Ends (IsPage json) IsFile w json before after old new told_old told_new status) ⊎ FailsEarly old new told_old told_new status
-    → TellsDeadlock old new status → (json : Bool) × (text : List ℕ) × (page_status : ℕ) × IsPage json text page_status × PageTells text page_status
-page_that_told IsPage IsFile w before after old new told_old told_new status (inl ended) says =
-    let page = deadlock_page (IsPage ended.0) IsFile w ended.0 before after old new told_old told_new status ended.1 says in
-    (ended.0, page.0, page.1, page.2, page.3)
-page_that_told IsPage IsFile w before after old new told_old told_new status (inr fails) says =
+page_that_told : (IsPage : List ℕ → ℕ → Type 0) (IsFile : List ℕ → Type 0) (w : Want) (json : Bool) (before after : List ℕ → Option (List ℕ)) (old new told_old told_new : Option (List ℕ)) (status : ℕ)
+    → Ends IsPage IsFile w json before after old new told_old told_new status ⊎ FailsEarly old new told_old told_new status
+    → TellsDeadlock old new status → (text : List ℕ) × (page_status : ℕ) × IsPage text page_status × PageTells text page_status
+page_that_told IsPage IsFile w json before after old new told_old told_new status (inl ended) says = deadlock_page IsPage IsFile w json before after old new told_old told_new status ended says
+page_that_told IsPage IsFile w json before after old new told_old told_new status (inr fails) says =
     absurd (complaint_untold old new told_old told_new early_line 4 status (λ one. omega (arith, one)) fails says)
 
--- ---- check
+-- and where it told that there is none, by a page that tells that
+page_that_reassured : (IsPage : List ℕ → ℕ → Type 0) (IsFile : List ℕ → Type 0) (w : Want) (json : Bool) (before after : List ℕ → Option (List ℕ)) (old new told_old told_new : Option (List ℕ)) (status : ℕ)
+    → Ends IsPage IsFile w json before after old new told_old told_new status ⊎ FailsEarly old new told_old told_new status
+    → TellsSafety old new status → (text : List ℕ) × (page_status : ℕ) × IsPage text page_status × PageTellsSafety text page_status
+page_that_reassured IsPage IsFile w json before after old new told_old told_new status (inl ended) says = safety_page IsPage IsFile w json before after old new told_old told_new status ended says
+page_that_reassured IsPage IsFile w json before after old new told_old told_new status (inr fails) says =
+    absurd (safety_untold old new status (λ zero. omega (arith, fails.0, zero)) fails.1 says)
 
-pub checked : CheckedDeadlockIsShown
-checked words p e tells before after program evidence old new told_old told_new status asks held_p held_e ends says =
-    let page = page_that_told (IsChecked (before p) (before e)) (IsEither p e) want.Refused before after old new told_old told_new status
-    (check_ends words tells before after old new told_old told_new status p e asks ends) says in
-    check_shows (before p) (before e) page.0 page.1 page.2 program evidence page.3 page.4 held_p held_e
+-- a run with a status below 4 printed the whole of its command's page
+page_printed : (own : ℕ) → own < 4 → (IsPage : List ℕ → ℕ → Type 0) (IsFile : List ℕ → Type 0) (w : Want) (json : Bool) (before after : List ℕ → Option (List ℕ)) (old new told_old told_new : Option (List ℕ)) (status : ℕ)
+    → Ends IsPage IsFile w json before after old new told_old told_new status ⊎ FailsEarly old new told_old told_new status → status ≡ own
+    → (text : List ℕ) × IsPage text own × PrintsAlone old new told_old told_new text own status
+page_printed own low IsPage IsFile w json before after old new told_old told_new status (inl (inl page)) is = elim page.3.0 [
+  | inl whole ↦ (page.0, subst (λ (n : ℕ). IsPage page.0 n) (sym whole.0 ∙ is) page.2, (inl (is, whole.1), page.3.1))
+  | inr part ↦ absurd (omega (arith, low, is, part.0))
+]
+page_printed own low IsPage IsFile w json before after old new told_old told_new status (inl (inr (inl memory))) is = elim memory.1.0 [
+  | inl whole ↦ absurd (omega (arith, low, is, whole.0))
+  | inr part ↦ absurd (omega (arith, low, is, part.0))
+]
+page_printed own low IsPage IsFile w json before after old new told_old told_new status (inl (inr (inr file))) is = absurd (omega (arith, low, is, file.2.0))
+page_printed own low IsPage IsFile w json before after old new told_old told_new status (inr fails) is = absurd (omega (arith, low, is, fails.0))
+
+-- the same, of a page whose text is known
+text_printed : (own : ℕ) → own < 4 → (line : List ℕ) (IsPage : List ℕ → ℕ → Type 0) (IsFile : List ℕ → Type 0) (w : Want) (json : Bool) (before after : List ℕ → Option (List ℕ)) (old new told_old told_new : Option (List ℕ)) (status : ℕ)
+    → ((text : List ℕ) → IsPage text own → text ≡ line)
+    → Ends IsPage IsFile w json before after old new told_old told_new status ⊎ FailsEarly old new told_old told_new status → status ≡ own
+    → PrintsAlone old new told_old told_new line own status
+text_printed own low line IsPage IsFile w json before after old new told_old told_new status known ends is =
+    let page = page_printed own low IsPage IsFile w json before after old new told_old told_new status ends is in
+    subst (λ (text : List ℕ). PrintsAlone old new told_old told_new text own status) (known page.0 page.1) page.2
+
+-- the end of a task that changes no file
+ended : {A B F : Type 0} → (A × B) ⊎ F → B ⊎ F
+ended (inl both) = inl both.1
+ended (inr fails) = inr fails
 
 -- ---- statuses
 
@@ -65,16 +91,15 @@ own_printed own old new text page_status status (inl whole) (inr four) = inr (in
 own_printed own old new text page_status status (inr part) is = inr (inr part.0)
 
 -- a run of a command whose page has this status or 4
-own_ended : (own : ℕ) (IsPage : Bool → List ℕ → ℕ → Type 0) (IsFile : List ℕ → Type 0) (w : Want) (before after : List ℕ → Option (List ℕ))
-    (old new told_old told_new : Option (List ℕ)) (status : ℕ)
-    → ((json : Bool) × Ends (IsPage json) IsFile w json before after old new told_old told_new status) ⊎ FailsEarly old new told_old told_new status
-    → ((json : Bool) (text : List ℕ) (page_status : ℕ) → IsPage json text page_status → (page_status ≡ own) ⊎ (page_status ≡ 4)) → IsOwnOrFails own status
-own_ended own IsPage IsFile w before after old new told_old told_new status (inl (json, inl page)) is =
-    own_printed own old new page.0 page.1 status page.3.0 (is json page.0 page.1 page.2)
-own_ended own IsPage IsFile w before after old new told_old told_new status (inl (json, inr (inl memory))) is =
+own_ended : (own : ℕ) (IsPage : List ℕ → ℕ → Type 0) (IsFile : List ℕ → Type 0) (w : Want) (json : Bool) (before after : List ℕ → Option (List ℕ)) (old new told_old told_new : Option (List ℕ)) (status : ℕ)
+    → Ends IsPage IsFile w json before after old new told_old told_new status ⊎ FailsEarly old new told_old told_new status
+    → ((text : List ℕ) (page_status : ℕ) → IsPage text page_status → (page_status ≡ own) ⊎ (page_status ≡ 4)) → IsOwnOrFails own status
+own_ended own IsPage IsFile w json before after old new told_old told_new status (inl (inl page)) is =
+    own_printed own old new page.0 page.1 status page.3.0 (is page.0 page.1 page.2)
+own_ended own IsPage IsFile w json before after old new told_old told_new status (inl (inr (inl memory))) is =
     own_printed own old new (memory_line w json) 4 status memory.1.0 (inr refl)
-own_ended own IsPage IsFile w before after old new told_old told_new status (inl (json, inr (inr file))) is = inr (inr file.2.0)
-own_ended own IsPage IsFile w before after old new told_old told_new status (inr fails) is = inr (inl fails.0)
+own_ended own IsPage IsFile w json before after old new told_old told_new status (inl (inr (inr file))) is = inr (inr file.2.0)
+own_ended own IsPage IsFile w json before after old new told_old told_new status (inr fails) is = inr (inl fails.0)
 
 abbrev status_of : Verdict → ℕ
 status_of v = told_status (told_of_verdict v)
@@ -95,77 +120,70 @@ checked_status right some program_file evidence_file json text status program ev
     let same = read_as_held (λ p e. Judges p e right) program_file evidence_file page.0 page.1 program evidence page.3 page.4 held_p held_e judges in
     same_status (status_of right) status (status_of page.2) page.6.3 (verdict_status page.2 right (right_or_memory page.0 page.1 page.2 right page.5 same some))
 
+-- ---- check
+
+module _ (as_json : Bool) (words : List Text) (p e : Text) (tells : Bool) (before after : List ℕ → Option (List ℕ)) (old new told_old told_new : Option (List ℕ)) (status : ℕ) where
+  check_ends : AskToCheck as_json words p e → SessionEnds words tells before after old new told_old told_new status
+      → Ends (IsChecked (before p) (before e) as_json) (IsEither p e) want.Refused as_json before after old new told_old told_new status ⊎ FailsEarly old new told_old told_new status
+  check_ends asks ends = ended (task_ends words tells before after old new told_old told_new status (to_check p e asks.0 as_json) asks.1 ends)
+
+pub checked : CheckedDeadlockIsShown
+checked as_json words p e tells before after program evidence old new told_old told_new status asks held_p held_e ends says =
+    let page = page_that_told (IsChecked (before p) (before e) as_json) (IsEither p e) want.Refused as_json before after old new told_old told_new status
+    (check_ends as_json words p e tells before after old new told_old told_new status asks ends) says in
+    check_shows (before p) (before e) as_json page.0 page.1 program evidence page.2 page.3 held_p held_e
+
 pub shown_checked : ShownDeadlockIsChecked
-shown_checked words p e tells before after program evidence old new told_old told_new status asks held_p held_e ends shows =
-    own_ended 1 (IsChecked (before p) (before e)) (IsEither p e) want.Refused before after old new told_old told_new status
-    (check_ends words tells before after old new told_old told_new status p e asks ends)
-    (λ json text page_status. checked_status verdicts.Deadlock (λ e. cc) (before p) (before e) json text page_status program evidence held_p held_e shows)
+shown_checked as_json words p e tells before after program evidence old new told_old told_new status asks held_p held_e ends shows =
+    own_ended 1 (IsChecked (before p) (before e) as_json) (IsEither p e) want.Refused as_json before after old new told_old told_new status
+    (check_ends as_json words p e tells before after old new told_old told_new status asks ends)
+    (λ text page_status. checked_status verdicts.Deadlock (λ e. cc) (before p) (before e) as_json text page_status program evidence held_p held_e shows)
 
 pub refuted_checked : RefutedIsChecked
-refuted_checked words p e tells before after program evidence old new told_old told_new status asks held_p held_e ends refutes =
-    own_ended 0 (IsChecked (before p) (before e)) (IsEither p e) want.Refused before after old new told_old told_new status
-    (check_ends words tells before after old new told_old told_new status p e asks ends)
-    (λ json text page_status. checked_status verdicts.NoDeadlock (λ e. cc) (before p) (before e) json text page_status program evidence held_p held_e refutes)
-
--- ---- no deadlock
+refuted_checked as_json words p e tells before after program evidence old new told_old told_new status asks held_p held_e ends refutes =
+    own_ended 0 (IsChecked (before p) (before e) as_json) (IsEither p e) want.Refused as_json before after old new told_old told_new status
+    (check_ends as_json words p e tells before after old new told_old told_new status asks ends)
+    (λ text page_status. checked_status verdicts.NoDeadlock (λ e. cc) (before p) (before e) as_json text page_status program evidence held_p held_e refutes)
 
 pub checked_never : CheckedSafetyIsTrue
-checked_never words p e tells before after program old new told_old told_new status asks held ends says =
-    elim (check_ends words tells before after old new told_old told_new status p e asks ends) [
-      | inl ended ↦
-          let page = safety_page (IsChecked (before p) (before e) ended.0) (IsEither p e) want.Refused ended.0 before after old new told_old told_new status ended.1 says in
-          check_never (before p) (before e) ended.0 page.0 page.1 program page.2 page.3 held
-      | inr fails ↦ absurd (safety_untold old new status (λ zero. omega (arith, fails.0, zero)) fails.1 says)
-    ]
+checked_never as_json words p e tells before after program old new told_old told_new status asks held ends says =
+    let page = page_that_reassured (IsChecked (before p) (before e) as_json) (IsEither p e) want.Refused as_json before after old new told_old told_new status
+    (check_ends as_json words p e tells before after old new told_old told_new status asks ends) says in
+    check_never (before p) (before e) as_json page.0 page.1 program page.2 page.3 held
 
--- ---- the status 0
+-- what the page of a check with the status 0 tells, and one with the status 1
+safe_page : (program_file evidence_file : Option (List ℕ)) (json : Bool) (text : List ℕ) → IsChecked program_file evidence_file json text 0
+    → text ≡ no_deadlock_line json
+safe_page program_file evidence_file json text page =
+    safe_line json text 0 (subst (λ t. IsLine t json text 0) (zero_told (told_of_verdict page.2) (sym page.6.3)) page.6)
 
-safe_page : (program_file evidence_file : Option (List ℕ)) (json : Bool) (text : List ℕ) (status : ℕ)
-    → IsChecked program_file evidence_file json text status → status ≡ 0 → text ≡ no_deadlock_line json
-safe_page program_file evidence_file json text status page zero =
-    let safe = zero_told (told_of_verdict page.2) (sym page.6.3 ∙ zero) in
-    safe_line json text status (subst (λ t. IsLine t json text status) safe page.6)
-
-safe_printed : (old new told_old told_new : Option (List ℕ)) (json : Bool) (text : List ℕ) (page_status status : ℕ)
-    → PrintsAlone old new told_old told_new text page_status status → status ≡ 0
-    → ((page_status ≡ 0) → text ≡ no_deadlock_line json) → PrintsAlone old new told_old told_new (no_deadlock_line json) 0 status
-safe_printed old new told_old told_new json text page_status status printed zero safe = elim printed.0 [
-  | inl whole ↦
-      let line = safe (sym whole.0 ∙ zero) in
-      (inl (zero, subst (λ (t : List ℕ). Appends old new t) line whole.1), printed.1)
-  | inr part ↦ absurd (omega (arith, part.0, zero))
-]
-
--- a run whose page with the status 0 is the line that tells that there is no deadlock
-safe_ended : (IsPage : List ℕ → ℕ → Type 0) (IsFile : List ℕ → Type 0) (w : Want) (json : Bool) (before after : List ℕ → Option (List ℕ)) (old new told_old told_new : Option (List ℕ)) (status : ℕ)
-    → ((text : List ℕ) (page_status : ℕ) → IsPage text page_status → page_status ≡ 0 → text ≡ no_deadlock_line json)
-    → Ends IsPage IsFile w json before after old new told_old told_new status → status ≡ 0 → PrintsAlone old new told_old told_new (no_deadlock_line json) 0 status
-safe_ended IsPage IsFile w json before after old new told_old told_new status safe (inl page) zero =
-    safe_printed old new told_old told_new json page.0 page.1 status page.3 zero (safe page.0 page.1 page.2)
-safe_ended IsPage IsFile w json before after old new told_old told_new status safe (inr (inl memory)) zero = elim memory.1.0 [
-  | inl whole ↦ absurd (omega (arith, whole.0, zero))
-  | inr part ↦ absurd (omega (arith, part.0, zero))
-]
-safe_ended IsPage IsFile w json before after old new told_old told_new status safe (inr (inr file)) zero = absurd (omega (arith, file.2.0, zero))
+stuck_page : (program_file evidence_file : Option (List ℕ)) (json : Bool) (text : List ℕ) → IsChecked program_file evidence_file json text 1
+    → text ≡ deadlock_line json
+stuck_page program_file evidence_file json text page =
+    stuck_line json text 1 (subst (λ t. IsLine t json text 1) (one_told (told_of_verdict page.2) (sym page.6.3)) page.6)
 
 pub checked_safe : CheckedSafetyIsPrinted
-checked_safe words p e tells before after old new told_old told_new status asks ends zero =
-    elim (check_ends words tells before after old new told_old told_new status p e asks ends) [
-      | inl ended ↦ (
-        ended.0,
-        safe_ended (IsChecked (before p) (before e) ended.0) (IsEither p e) want.Refused ended.0 before after old new told_old told_new status
-            (safe_page (before p) (before e) ended.0) ended.1 zero,
-      )
-      | inr fails ↦ absurd (omega (arith, fails.0, zero))
-    ]
+checked_safe as_json words p e tells before after old new told_old told_new status asks ends zero =
+    text_printed 0 (omega arith) (no_deadlock_line as_json) (IsChecked (before p) (before e) as_json) (IsEither p e) want.Refused as_json before after old new told_old told_new status
+    (safe_page (before p) (before e) as_json) (check_ends as_json words p e tells before after old new told_old told_new status asks ends) zero
+
+pub checked_stuck : CheckedDeadlockIsPrinted
+checked_stuck as_json words p e tells before after old new told_old told_new status asks ends one =
+    text_printed 1 (omega arith) (deadlock_line as_json) (IsChecked (before p) (before e) as_json) (IsEither p e) want.Refused as_json before after old new told_old told_new status
+    (stuck_page (before p) (before e) as_json) (check_ends as_json words p e tells before after old new told_old told_new status asks ends) one
 
 -- ---- replay
 
+module _ (words : List Text) (p e : Text) (tells : Bool) (before after : List ℕ → Option (List ℕ)) (old new told_old told_new : Option (List ℕ)) (status : ℕ) where
+  replay_ends : AskToReplay words p e → SessionEnds words tells before after old new told_old told_new status
+      → Ends (IsReplayed (before p) (before e)) (IsEither p e) want.Refused false before after old new told_old told_new status ⊎ FailsEarly old new told_old told_new status
+  replay_ends asks ends = ended (task_ends words tells before after old new told_old told_new status (to_replay p e) asks ends)
+
 pub replayed : ReplayedDeadlockIsShown
 replayed words p e tells before after program evidence old new told_old told_new status asks held_p held_e ends says =
-    let page = page_that_told (λ json. IsReplayed (before p) (before e)) (IsEither p e) want.Refused before after old new told_old told_new status
-    (replay_ends words tells before after old new told_old told_new status p e asks ends) says in
-    replayed_shows (before p) (before e) page.1 page.2 program evidence page.3 page.4 held_p held_e
+    let page = page_that_told (IsReplayed (before p) (before e)) (IsEither p e) want.Refused false before after old new told_old told_new status
+    (replay_ends words p e tells before after old new told_old told_new status asks ends) says in
+    replayed_shows (before p) (before e) page.0 page.1 program evidence page.2 page.3 held_p held_e
 
 -- where a replay is refused though the evidence shows a deadlock, it is for want of memory
 refused_by_memory : (program evidence : List ℕ) (reason : Reason) → Judges program evidence (verdicts.Refused reason) → Shows program evidence
@@ -192,106 +210,204 @@ replayed_status program_file evidence_file text status program evidence page hel
 
 pub shown_replayed : ShownDeadlockIsReplayed
 shown_replayed words p e tells before after program evidence old new told_old told_new status asks held_p held_e ends shows =
-    own_ended 1 (λ json. IsReplayed (before p) (before e)) (IsEither p e) want.Refused before after old new told_old told_new status
-    (replay_ends words tells before after old new told_old told_new status p e asks ends)
-    (λ json text page_status page. replayed_status (before p) (before e) text page_status program evidence page held_p held_e shows)
+    own_ended 1 (IsReplayed (before p) (before e)) (IsEither p e) want.Refused false before after old new told_old told_new status
+    (replay_ends words p e tells before after old new told_old told_new status asks ends)
+    (λ text page_status page. replayed_status (before p) (before e) text page_status program evidence page held_p held_e shows)
+
+-- the page of a replay with the status 1 is the run that is shown
+stuck_replay : (program evidence : List ℕ) (r : Replayed) (text : List ℕ) → Replays program evidence r → IsReplayPage r text 1
+    → (shown : Shows program evidence) × (text ≡ told_run shown.p shown.steps)
+stuck_replay program evidence (replays.Stuck steps) text given page = (given.0, page.0 ∙ given.1)
+stuck_replay program evidence (replays.Refused reason) text given page = absurd (omega (arith, page.3, refused_above reason))
+stuck_replay program evidence replays.NotASchedule text given page = absurd (omega (arith, page.3))
+
+-- and none has the status 0
+never_replayed : (r : Replayed) (text : List ℕ) → IsReplayPage r text 0 → ⊥
+never_replayed (replays.Stuck steps) text page = omega (arith, page.1)
+never_replayed (replays.Refused reason) text page = omega (arith, page.3, refused_above reason)
+never_replayed replays.NotASchedule text page = omega (arith, page.3)
+
+pub replayed_run : ReplayedRunIsPrinted
+replayed_run = record {
+  run = λ words p e tells before after program evidence old new told_old told_new status asks held_p held_e ends one.
+      let page = page_printed 1 (omega arith) (IsReplayed (before p) (before e)) (IsEither p e) want.Refused false before after old new told_old told_new status
+      (replay_ends words p e tells before after old new told_old told_new status asks ends) one in
+      let replayed = page.1 in
+      let stuck = stuck_replay replayed.0 replayed.1 replayed.2 page.0 replayed.5 replayed.6 in
+      held_as_read (λ x y. (shown : Shows x y) × PrintsAlone old new told_old told_new (told_run shown.p shown.steps) 1 status) (before p) (before e)
+      replayed.0 replayed.1 program evidence replayed.3 replayed.4 held_p held_e
+      (stuck.0, subst (λ (text : List ℕ). PrintsAlone old new told_old told_new text 1 status) stuck.1 page.2);
+  never_safe = λ words p e tells before after old new told_old told_new status asks ends zero.
+      let page = page_printed 0 (omega arith) (IsReplayed (before p) (before e)) (IsEither p e) want.Refused false before after old new told_old told_new status
+      (replay_ends words p e tells before after old new told_old told_new status asks ends) zero in
+      never_replayed page.1.2 page.0 page.1.6;
+}
+
+-- ---- encode
+
+module _ (words : List Text) (p : Text) (dimacs tells : Bool) (before after : List ℕ → Option (List ℕ)) (old new told_old told_new : Option (List ℕ)) (status : ℕ) where
+  encode_ends : AskFor words (to_encode p dimacs) → SessionEnds words tells before after old new told_old told_new status
+      → Ends (IsEncoded dimacs (before p)) (λ path. path ≡ p) want.Refused false before after old new told_old told_new status ⊎ FailsEarly old new told_old told_new status
+  encode_ends asks ends = ended (task_ends words tells before after old new told_old told_new status (to_encode p dimacs) asks ends)
+
+-- the page of `encode` with the status 0 is the formula's text
+encoded_text : (dimacs : Bool) (file : Option (List ℕ)) (text program : List ℕ) → IsEncoded dimacs file text 0 → file ≡ Some program
+    → HasTextOfFormula dimacs program text
+encoded_text dimacs file text program (read, all, inl formula) held =
+    subst (λ (x : List ℕ). HasTextOfFormula dimacs x text) (all_are file read program all held) formula.0
+encoded_text dimacs file text program (read, all, inr (reason, why, line)) held = absurd (omega (arith, line.3, refused_above reason))
+
+-- and none has the status 1
+never_encoded : (dimacs : Bool) (file : Option (List ℕ)) (text : List ℕ) → IsEncoded dimacs file text 1 → ⊥
+never_encoded dimacs file text (read, all, inl formula) = omega (arith, formula.1)
+never_encoded dimacs file text (read, all, inr (reason, why, line)) = omega (arith, line.3, refused_above reason)
+
+pub encoded : EncodedFormulaIsPrinted
+encoded = record {
+  formula = λ words p dimacs tells before after program old new told_old told_new status asks held ends zero.
+      let page = page_printed 0 (omega arith) (IsEncoded dimacs (before p)) (λ path. path ≡ p) want.Refused false before after old new told_old told_new status
+      (encode_ends words p dimacs tells before after old new told_old told_new status asks ends) zero in
+      (page.0, encoded_text dimacs (before p) page.0 program page.1 held, page.2);
+  never_stuck = λ words p dimacs tells before after old new told_old told_new status asks ends one.
+      let page = page_printed 1 (omega arith) (IsEncoded dimacs (before p)) (λ path. path ≡ p) want.Refused false before after old new told_old told_new status
+      (encode_ends words p dimacs tells before after old new told_old told_new status asks ends) one in
+      never_encoded dimacs (before p) page.0 page.1;
+}
 
 -- ---- prove
 
--- where a search told a deadlock, it ended by a page that tells it
-followed_that_told : (words : List Text) (IsPage : Bool → List ℕ → ℕ → Type 0) (IsFile : List ℕ → Type 0) (before after : List ℕ → Option (List ℕ))
-    (old new told_old told_new : Option (List ℕ)) (status : ℕ) (p : Text) (out : Option Text)
-    → ((progress : Bool) × (json : Bool) × AskToProveTelling words p out progress
-    × EndsFollowed progress (IsPage json) IsFile want.Unknown json before after old new told_old told_new status)
+-- a search ends by a page of `prove`, once its progress was told or not, or by want of memory before its command is known
+abbrev SearchEnds : Text → Option Text → ℕ → Bool → Bool → Bool → (List ℕ → Option (List ℕ)) → (List ℕ → Option (List ℕ))
+    → Option (List ℕ) → Option (List ℕ) → Option (List ℕ) → Option (List ℕ) → ℕ → Type 0
+SearchEnds p out budget progress as_json tells before after old new told_old told_new status =
+    EndsFollowed progress (IsProved tells before after p out budget as_json) (IsProveFile p out before after) want.Unknown as_json before after old new told_old told_new status
     ⊎ FailsEarly old new told_old told_new status
-    → TellsDeadlock old new status → (json : Bool) × (text : List ℕ) × (page_status : ℕ) × IsPage json text page_status × PageTells text page_status
-followed_that_told words IsPage IsFile before after old new told_old told_new status p out (inl ended) says =
-    let page = deadlock_page (IsPage ended.1) IsFile want.Unknown ended.1 before after old new ended.3.0 told_new status ended.3.2 says in
-    (ended.1, page.0, page.1, page.2, page.3)
-followed_that_told words IsPage IsFile before after old new told_old told_new status p out (inr fails) says =
-    absurd (complaint_untold old new told_old told_new early_line 4 status (λ one. omega (arith, one)) fails says)
+
+search_ends : (words : List Text) (p : Text) (out : Option Text) (budget : ℕ) (progress as_json tells : Bool) (before after : List ℕ → Option (List ℕ)) (old new told_old told_new : Option (List ℕ)) (status : ℕ)
+    → AskToProve words p out budget progress as_json → SessionEnds words tells before after old new told_old told_new status → SearchEnds p out budget progress as_json tells before after old new told_old told_new status
+search_ends words p out budget progress as_json tells before after old new told_old told_new status asks ends =
+    ended (task_ends words tells before after old new told_old told_new status (to_prove p out asks.0 asks.1 budget progress as_json) asks.2 ends)
+
+module _ (p : Text) (out : Option Text) (budget : ℕ) (progress as_json tells : Bool) (before after : List ℕ → Option (List ℕ)) (old new told_old told_new : Option (List ℕ)) (status : ℕ) where
+  search_that_told : SearchEnds p out budget progress as_json tells before after old new told_old told_new status → TellsDeadlock old new status
+      → (text : List ℕ) × (page_status : ℕ) × IsProved tells before after p out budget as_json text page_status × PageTells text page_status
+  search_that_told (inl ends) says =
+      deadlock_page (IsProved tells before after p out budget as_json) (IsProveFile p out before after) want.Unknown as_json
+      before after old new ends.0 told_new status ends.2 says
+  search_that_told (inr fails) says =
+      absurd (complaint_untold old new told_old told_new early_line 4 status (λ one. omega (arith, one)) fails says)
+
+  search_that_reassured : SearchEnds p out budget progress as_json tells before after old new told_old told_new status → TellsSafety old new status
+      → (text : List ℕ) × (page_status : ℕ) × IsProved tells before after p out budget as_json text page_status × PageTellsSafety text page_status
+  search_that_reassured (inl ends) says =
+      safety_page (IsProved tells before after p out budget as_json) (IsProveFile p out before after) want.Unknown as_json
+      before after old new ends.0 told_new status ends.2 says
+  search_that_reassured (inr fails) says = absurd (safety_untold old new status (λ zero. omega (arith, fails.0, zero)) fails.1 says)
+
+  search_printed : (own : ℕ) → own < 4 → (line : List ℕ)
+      → ((text : List ℕ) → IsProved tells before after p out budget as_json text own → text ≡ line) → SearchEnds p out budget progress as_json tells before after old new told_old told_new status → status ≡ own
+      → (told : Option (List ℕ)) × IsFollowed progress told_old told × PrintsAlone old new told told_new line own status
+  search_printed own low line known (inl ends) is = (
+    ends.0,
+    ends.1,
+    text_printed own low line (IsProved tells before after p out budget as_json) (IsProveFile p out before after) want.Unknown as_json
+        before after old new ends.0 told_new status known (inl ends.2) is,
+  )
+  search_printed own low line known (inr fails) is = absurd (omega (arith, low, is, fails.0))
 
 pub proved : ProvedDeadlockIsShown
-proved words p out tells before after program old new told_old told_new status asks held ends says =
-    let page = followed_that_told words (IsProved tells before after p out (budget_of asks.0)) (IsProveFile p out before after) before after
-    old new told_old told_new status p out (prove_ends words tells before after old new told_old told_new status p out asks ends) says in
-    prove_shows tells before after p out (budget_of asks.0) page.0 page.1 page.2 program page.3 page.4 held
+proved words p out budget progress as_json tells before after program old new told_old told_new status asks held ends says =
+    let page = search_that_told p out budget progress as_json tells before after old new told_old told_new status (search_ends words p out budget progress as_json tells before after old new told_old told_new status asks ends) says in
+    prove_shows tells before after p out budget as_json page.0 page.1 program page.2 page.3 held
 
 pub written : WrittenDeadlockIsShown
-written words p file before after program old new told_old told_new status asks held ends says =
-    let page = followed_that_told words (IsProved true before after p (Some file) (budget_of asks.0)) (IsProveFile p (Some file) before after) before after
-    old new told_old told_new status p (Some file) (prove_ends words true before after old new told_old told_new status p (Some file) asks ends) says in
-    file_shows before after p file (budget_of asks.0) page.0 page.1 page.2 program page.3 page.4 held
+written words p file budget progress as_json before after program old new told_old told_new status asks held ends says =
+    let page = search_that_told p (Some file) budget progress as_json true before after old new told_old told_new status
+    (search_ends words p (Some file) budget progress as_json true before after old new told_old told_new status asks ends) says in
+    file_shows before after p file budget as_json page.0 page.1 program page.2 page.3 held
 
 pub proved_never : ProvedSafetyIsTrue
-proved_never words p out tells before after program old new told_old told_new status asks held ends says =
-    elim (prove_ends words tells before after old new told_old told_new status p out asks ends) [
-      | inl ended ↦
-          let page = safety_page (IsProved tells before after p out (budget_of asks.0) ended.1) (IsProveFile p out before after) want.Unknown ended.1 before after old new ended.3.0 told_new status ended.3.2 says in
-          prove_never tells before after p out (budget_of asks.0) ended.1 page.0 page.1 program page.2 page.3 held
-      | inr fails ↦ absurd (safety_untold old new status (λ zero. omega (arith, fails.0, zero)) fails.1 says)
-    ]
+proved_never words p out budget progress as_json tells before after program old new told_old told_new status asks held ends says =
+    let page = search_that_reassured p out budget progress as_json tells before after old new told_old told_new status (search_ends words p out budget progress as_json tells before after old new told_old told_new status asks ends) says in
+    prove_never tells before after p out budget as_json page.0 page.1 program page.2 page.3 held
 
 pub written_never : WrittenSafetyIsRefuted
-written_never words p file before after program old new told_old told_new status asks held ends says =
-    elim (prove_ends words true before after old new told_old told_new status p (Some file) asks ends) [
-      | inl ended ↦
-          let page = safety_page (IsProved true before after p (Some file) (budget_of asks.0) ended.1) (IsProveFile p (Some file) before after) want.Unknown ended.1 before after old new ended.3.0 told_new status ended.3.2 says in
-          file_refutes before after p file (budget_of asks.0) ended.1 page.0 page.1 program page.2 page.3 held
-      | inr fails ↦ absurd (safety_untold old new status (λ zero. omega (arith, fails.0, zero)) fails.1 says)
-    ]
+written_never words p file budget progress as_json before after program old new told_old told_new status asks held ends says =
+    let page = search_that_reassured p (Some file) budget progress as_json true before after old new told_old told_new status
+    (search_ends words p (Some file) budget progress as_json true before after old new told_old told_new status asks ends) says in
+    file_refutes before after p file budget as_json page.0 page.1 program page.2 page.3 held
 
-proved_page : (tells : Bool) (before after : List ℕ → Option (List ℕ)) (path : List ℕ) (out : Option (List ℕ)) (budget : ℕ) (json : Bool) (text : List ℕ) (status : ℕ)
-    → IsProved tells before after path out budget json text status → status ≡ 0 → text ≡ no_deadlock_line json
-proved_page tells before after path out budget json text status page zero =
-    let safe = zero_told (told_of_answer page.1) (sym page.6.3 ∙ zero) in
-    safe_line json text status (subst (λ t. IsLine t json text status) safe page.6)
+safe_search : (tells : Bool) (before after : List ℕ → Option (List ℕ)) (path : List ℕ) (out : Option (List ℕ)) (budget : ℕ) (json : Bool) (text : List ℕ)
+    → IsProved tells before after path out budget json text 0 → text ≡ no_deadlock_line json
+safe_search tells before after path out budget json text page =
+    safe_line json text 0 (subst (λ t. IsLine t json text 0) (zero_told (told_of_answer page.1) (sym page.6.3)) page.6)
+
+stuck_search : (tells : Bool) (before after : List ℕ → Option (List ℕ)) (path : List ℕ) (out : Option (List ℕ)) (budget : ℕ) (json : Bool) (text : List ℕ)
+    → IsProved tells before after path out budget json text 1 → text ≡ deadlock_line json
+stuck_search tells before after path out budget json text page =
+    stuck_line json text 1 (subst (λ t. IsLine t json text 1) (one_told (told_of_answer page.1) (sym page.6.3)) page.6)
 
 pub proved_safe : ProvedSafetyIsPrinted
-proved_safe words p out tells before after old new told_old told_new status asks ends zero =
-    elim (prove_ends words tells before after old new told_old told_new status p out asks ends) [
-      | inl ended ↦ (
-        ended.0,
-        ended.1,
-        ended.3.0,
-        ended.2,
-        ended.3.1,
-        safe_ended (IsProved tells before after p out (budget_of asks.0) ended.1) (IsProveFile p out before after) want.Unknown ended.1 before after old new ended.3.0 told_new status
-            (proved_page tells before after p out (budget_of asks.0) ended.1) ended.3.2 zero,
-      )
-      | inr fails ↦ absurd (omega (arith, fails.0, zero))
-    ]
+proved_safe words p out budget progress as_json tells before after old new told_old told_new status asks ends zero =
+    search_printed p out budget progress as_json tells before after old new told_old told_new status 0 (omega arith) (no_deadlock_line as_json)
+    (safe_search tells before after p out budget as_json) (search_ends words p out budget progress as_json tells before after old new told_old told_new status asks ends) zero
+
+pub proved_stuck : ProvedDeadlockIsPrinted
+proved_stuck words p out budget progress as_json tells before after old new told_old told_new status asks ends one =
+    search_printed p out budget progress as_json tells before after old new told_old told_new status 1 (omega arith) (deadlock_line as_json)
+    (stuck_search tells before after p out budget as_json) (search_ends words p out budget progress as_json tells before after old new told_old told_new status asks ends) one
 
 pub unknown_finishes : ProvedUnknownFinishes
-unknown_finishes words p out budget tells before after program old new told_old told_new status asks some held ends says =
-    elim (prove_ends words tells before after old new told_old told_new status p out (asks.0, asks.1, asks.2, asks.3, asks.4) ends) [
+unknown_finishes words p out budget progress as_json tells before after program old new told_old told_new status asks some held ends says =
+    elim (search_ends words p out budget progress as_json tells before after old new told_old told_new status asks ends) [
       | inl ended ↦
-          let page = unknown_page says.0 says.1 (IsProved tells before after p out (budget_of asks.0) ended.1) (IsProveFile p out before after) ended.1 before after
-          old new ended.3.0 told_new status ended.3.2 says.2 in
-          prove_finishes tells before after p out (budget_of asks.0) ended.1 page.0 page.1 program says.0 says.1 page.2 page.3
-          (subst (λ (b : ℕ). 0 < b) (sym asks.5) some) held
+          let page = unknown_page says.0 says.1 (IsProved tells before after p out budget as_json) (IsProveFile p out before after) as_json before after
+          old new ended.0 told_new status ended.2 says.2 in
+          prove_finishes tells before after p out budget as_json page.0 page.1 program says.0 says.1 page.2 page.3 some held
       | inr fails ↦ absurd (unknown_untold says.0 old new status (λ two. omega (arith, fails.0, two)) fails.1 says.2)
     ]
 
 -- ---- export
 
+module _ (words : List Text) (p e out : Text) (tells : Bool) (before after : List ℕ → Option (List ℕ)) (old new told_old told_new : Option (List ℕ)) (status : ℕ) where
+  export_ends : AskFor words (to_export p e out) → SessionEnds words tells before after old new told_old told_new status
+      → Ends (IsExported tells before after p e out) (IsExportFile p e out before after) want.Refused false before after old new told_old told_new status ⊎ FailsEarly old new told_old told_new status
+  export_ends asks ends = ended (task_ends words tells before after old new told_old told_new status (to_export p e out) asks ends)
+
 pub exported_never : ExportedSafetyIsTrue
 exported_never words p e out tells before after program old new told_old told_new status asks held ends says =
-    elim (export_ends words tells before after old new told_old told_new status p e out asks ends) [
-      | inl ended ↦
-          let page = safety_page (IsExported tells before after p e out) (IsExportFile p e out before after) want.Refused false before after old new told_old told_new status ended says in
-          check_never (before p) (before e) false page.0 page.1 program (exported_checked tells before after p e out page.0 page.1 page.2) page.3 held
-      | inr fails ↦ absurd (safety_untold old new status (λ zero. omega (arith, fails.0, zero)) fails.1 says)
-    ]
+    let page = page_that_reassured (IsExported tells before after p e out) (IsExportFile p e out before after) want.Refused false before after old new told_old told_new status
+    (export_ends words p e out tells before after old new told_old told_new status asks ends) says in
+    check_never (before p) (before e) false page.0 page.1 program (exported_checked tells before after p e out page.0 page.1 page.2) page.3 held
 
 pub exported_written : ExportedProofIsWritten
 exported_written words p e out before after program evidence old new told_old told_new status asks held_p held_e ends says =
-    elim (export_ends words true before after old new told_old told_new status p e out asks ends) [
-      | inl ended ↦
-          let page = safety_page (IsExported true before after p e out) (IsExportFile p e out before after) want.Refused false before after old new told_old told_new status ended says in
-          exported_proof before after p e out page.0 page.1 program evidence page.2 page.3 held_p held_e
-      | inr fails ↦ absurd (safety_untold old new status (λ zero. omega (arith, fails.0, zero)) fails.1 says)
-    ]
+    let page = page_that_reassured (IsExported true before after p e out) (IsExportFile p e out before after) want.Refused false before after old new told_old told_new status
+    (export_ends words p e out true before after old new told_old told_new status asks ends) says in
+    exported_proof before after p e out page.0 page.1 program evidence page.2 page.3 held_p held_e
+
+-- an export that tells a deadlock changes no file
+stuck_export : (tells : Bool) (before after : List ℕ → Option (List ℕ)) (file program evidence : List ℕ) (v : Verdict) → told_of_verdict v ≡ told.Deadlock
+    → IsExportedTo tells before after file program evidence v → after ≡ before
+stuck_export tells before after file program evidence verdicts.NoDeadlock e exported = absurd (safe_differs e)
+stuck_export tells before after file program evidence verdicts.Deadlock e exported = exported
+stuck_export tells before after file program evidence (verdicts.Refused reason) e exported = absurd (refused_differs reason e)
+
+pub exported : ExportedAnswerIsPrinted
+exported = record {
+  safety = λ words p e out tells before after old new told_old told_new status asks ends zero.
+      text_printed 0 (omega arith) (no_deadlock_line false) (IsExported tells before after p e out) (IsExportFile p e out before after) want.Refused false before after old new told_old told_new status
+      (λ text page. safe_page (before p) (before e) false text (exported_checked tells before after p e out text 0 page))
+      (export_ends words p e out tells before after old new told_old told_new status asks ends) zero;
+  deadlock = λ words p e out tells before after old new told_old told_new status asks ends one.
+      let page = page_printed 1 (omega arith) (IsExported tells before after p e out) (IsExportFile p e out before after) want.Refused false before after old new told_old told_new status
+      (export_ends words p e out tells before after old new told_old told_new status asks ends) one in
+      let is = page.1 in (
+        stuck_export tells before after out is.0 is.1 is.2 (one_told (told_of_verdict is.2) (sym is.7.3)) is.6,
+        subst (λ (text : List ℕ). PrintsAlone old new told_old told_new text 1 status)
+            (stuck_page (before p) (before e) false page.0 (exported_checked tells before after p e out page.0 1 is)) page.2,
+      );
+}
 
 -- ---- any words
 
@@ -303,59 +419,60 @@ encoded_untold true file text status (program, all, inl formula) tells = dimacs_
 encoded_untold dimacs file text status (program, all, inr (reason, why, line)) tells =
     let other : told.Refused reason ≡ told.Deadlock = line_tells (told.Refused reason) false text status line tells in cc
 
-asked_told : (words : List Text) (tells : Bool) (before after : List ℕ → Option (List ℕ)) (old new told_old told_new : Option (List ℕ)) (status : ℕ) (request : Request)
-    → AskFor words request → RequestEnds tells before after request old new told_old told_new status → TellsDeadlock old new status → IsRightlyTold words before
-asked_told words tells before after old new told_old told_new status (ask.Prove p out options progress json) asks ends says =
+asked_told : (words : List Text) (tells : Bool) (before after : List ℕ → Option (List ℕ)) (old new told_old told_new : Option (List ℕ)) (status : ℕ) (task : Task)
+    → AskFor words task → TaskEnds tells before after task old new told_old told_new status → TellsDeadlock old new status → IsRightlyTold words before
+asked_told words tells before after old new told_old told_new status (to_prove p out workers depth budget progress json) asks ends says =
     inl (
-      p.now,
-      option_map (λ s. s.now) out,
-      (ask.Prove p out options progress json, progress, json, asks, (refl, refl, refl, refl)),
+      p,
+      out,
+      budget,
+      progress,
+      json,
+      (workers, depth, asks),
       λ program held.
-          let page = deadlock_page (IsProved tells before after p.now (option_map (λ s. s.now) out) options.budget json)
-          (IsProveFile p.now (option_map (λ s. s.now) out) before after) want.Unknown json before after old new ends.1.0 told_new status ends.1.2 says in
-          prove_shows tells before after p.now (option_map (λ s. s.now) out) options.budget json page.0 page.1 program page.2 page.3 held,
+          let page = search_that_told p out budget progress json tells before after old new told_old told_new status (inl ends.1) says in
+          prove_shows tells before after p out budget json page.0 page.1 program page.2 page.3 held,
     )
-asked_told words tells before after old new told_old told_new status (ask.Check p e pieces json) asks ends says =
+asked_told words tells before after old new told_old told_new status (to_check p e pieces json) asks ends says =
     inr (
-      p.now,
-      e.now,
-      inl (ask.Check p e pieces json, json, asks, (refl, refl, refl)),
+      p,
+      e,
+      inl (json, (pieces, asks)),
       λ program evidence held_p held_e.
-          let page = deadlock_page (IsChecked (before p.now) (before e.now) json) (IsEither p.now e.now) want.Refused json before after old new told_old told_new status ends.1 says in
-          check_shows (before p.now) (before e.now) json page.0 page.1 program evidence page.2 page.3 held_p held_e,
+          let page = deadlock_page (IsChecked (before p) (before e) json) (IsEither p e) want.Refused json before after old new told_old told_new status ends.1 says in
+          check_shows (before p) (before e) json page.0 page.1 program evidence page.2 page.3 held_p held_e,
     )
-asked_told words tells before after old new told_old told_new status (ask.Replay p e) asks ends says =
+asked_told words tells before after old new told_old told_new status (to_replay p e) asks ends says =
     inr (
-      p.now,
-      e.now,
-      inr (inl (ask.Replay p e, asks, (refl, refl))),
+      p,
+      e,
+      inr (inl asks),
       λ program evidence held_p held_e.
-          let page = deadlock_page (IsReplayed (before p.now) (before e.now)) (IsEither p.now e.now) want.Refused false before after old new told_old told_new status ends.1 says in
-          replayed_shows (before p.now) (before e.now) page.0 page.1 program evidence page.2 page.3 held_p held_e,
+          let page = deadlock_page (IsReplayed (before p) (before e)) (IsEither p e) want.Refused false before after old new told_old told_new status ends.1 says in
+          replayed_shows (before p) (before e) page.0 page.1 program evidence page.2 page.3 held_p held_e,
     )
-asked_told words tells before after old new told_old told_new status (ask.Explain p e graph) asks ends says =
+asked_told words tells before after old new told_old told_new status (to_explain p e graph) asks ends says =
     inr (
-      p.now,
-      e.now,
-      inr (inr (inl (ask.Explain p e graph, graph, asks, (refl, refl, refl)))),
+      p,
+      e,
+      inr (inr (inl (graph, asks))),
       λ program evidence held_p held_e.
-          let page = deadlock_page (IsExplained (before p.now) (before e.now) graph) (IsEither p.now e.now) want.Refused false before after old new told_old told_new status ends.1 says in
-          explained_shows (before p.now) (before e.now) graph page.0 page.1 program evidence page.2 page.3 held_p held_e,
+          let page = deadlock_page (IsExplained (before p) (before e) graph) (IsEither p e) want.Refused false before after old new told_old told_new status ends.1 says in
+          explained_shows (before p) (before e) graph page.0 page.1 program evidence page.2 page.3 held_p held_e,
     )
-asked_told words tells before after old new told_old told_new status (ask.Export p e out) asks ends says =
+asked_told words tells before after old new told_old told_new status (to_export p e out) asks ends says =
     inr (
-      p.now,
-      e.now,
-      inr (inr (inr (out.now, (ask.Export p e out, asks, (refl, refl, refl))))),
+      p,
+      e,
+      inr (inr (inr (out, asks))),
       λ program evidence held_p held_e.
-          let page = deadlock_page (IsExported tells before after p.now e.now out.now) (IsExportFile p.now e.now out.now before after) want.Refused false before after
-          old new told_old told_new status ends.1 says in
-          check_shows (before p.now) (before e.now) false page.0 page.1 program evidence
-          (exported_checked tells before after p.now e.now out.now page.0 page.1 page.2) page.3 held_p held_e,
+          let page = deadlock_page (IsExported tells before after p e out) (IsExportFile p e out before after) want.Refused false before after old new told_old told_new status ends.1 says in
+          check_shows (before p) (before e) false page.0 page.1 program evidence
+          (exported_checked tells before after p e out page.0 page.1 page.2) page.3 held_p held_e,
     )
-asked_told words tells before after old new told_old told_new status (ask.Encode p dimacs) asks ends says =
-    let page = deadlock_page (IsEncoded dimacs (before p.now)) (λ path. path ≡ p.now) want.Refused false before after old new told_old told_new status ends.1 says in
-    absurd (encoded_untold dimacs (before p.now) page.0 page.1 page.2 page.3)
+asked_told words tells before after old new told_old told_new status (to_encode p dimacs) asks ends says =
+    let page = deadlock_page (IsEncoded dimacs (before p)) (λ path. path ≡ p) want.Refused false before after old new told_old told_new status ends.1 says in
+    absurd (encoded_untold dimacs (before p) page.0 page.1 page.2 page.3)
 
 explained_untold : (kind : ErrorKind) (old new told_old told_new : Option (List ℕ)) (status : ℕ) → Explains kind old new told_old told_new status
     → TellsDeadlock old new status → ⊥

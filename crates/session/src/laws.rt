@@ -1,18 +1,22 @@
 //! What follows from how a run ended. Each function does nothing: its contract is the law.
-ghost use Rattle.session.specs.CommandLine.{OptionWordsAreRead, PlainWordsAreRead};
 ghost use Rattle.session.specs.Deadlocks.{
+  CheckedDeadlockIsPrinted,
   CheckedDeadlockIsShown,
   CheckedSafetyIsPrinted,
   CheckedSafetyIsTrue,
+  EncodedFormulaIsPrinted,
+  ExportedAnswerIsPrinted,
   ExportedProofIsWritten,
   ExportedSafetyIsTrue,
   PlainWordsAreAnswered,
+  ProvedDeadlockIsPrinted,
   ProvedDeadlockIsShown,
   ProvedSafetyIsPrinted,
   ProvedSafetyIsTrue,
   ProvedUnknownFinishes,
   RefutedIsChecked,
   ReplayedDeadlockIsShown,
+  ReplayedRunIsPrinted,
   ShownDeadlockIsChecked,
   ShownDeadlockIsReplayed,
   ToldDeadlockIsShown,
@@ -49,6 +53,11 @@ pub fn checked_safety_is_printed()
     ensures { CheckedSafetyIsPrinted }
 {}
 
+/// And one that ended with the status 1 printed the line that tells a deadlock.
+pub fn checked_deadlock_is_printed()
+    ensures { CheckedDeadlockIsPrinted }
+{}
+
 /// Where words ask for a replay, and the run ended with the status 1, the evidence of the one file
 /// shows a stuck run of the program of the other.
 pub fn replayed_deadlock_is_shown()
@@ -59,6 +68,11 @@ pub fn replayed_deadlock_is_shown()
 /// with the status 1, or with that of want of memory or of a file or an output that fails.
 pub fn shown_deadlock_is_replayed()
     ensures { ShownDeadlockIsReplayed }
+{}
+
+/// A replay that ended with the status 1 printed the run that the evidence shows, and none ends with the status 0.
+pub fn replayed_run_is_printed()
+    ensures { ReplayedRunIsPrinted }
 {}
 
 /// Where words ask to prove a program, and the run printed the line that tells a deadlock or ended
@@ -89,6 +103,11 @@ pub fn proved_safety_is_printed()
     ensures { ProvedSafetyIsPrinted }
 {}
 
+/// And one that ended with the status 1 printed the line that tells a deadlock.
+pub fn proved_deadlock_is_printed()
+    ensures { ProvedDeadlockIsPrinted }
+{}
+
 /// Where words ask to prove a program with a budget above 0, and the run printed the line `unknown budget`, `unknown full` or `unknown left`
 /// or ended with the status 2, some run of the program of the file ends with all ranks finished.
 pub fn proved_unknown_finishes()
@@ -106,26 +125,26 @@ pub fn exported_proof_is_written()
     ensures { ExportedProofIsWritten }
 {}
 
+/// An export that ended with the status 0 printed the line that tells that there is no deadlock, and one with the status 1 the line that
+/// tells one, and then no file has changed.
+pub fn exported_answer_is_printed()
+    ensures { ExportedAnswerIsPrinted }
+{}
+
+/// Where words ask to encode a program, and the run ended with the status 0, it printed the text of the formula of the program of the file, in
+/// the DIMACS format where they ask for that; and none ends with the status 1.
+pub fn encoded_formula_is_printed()
+    ensures { EncodedFormulaIsPrinted }
+{}
+
 /// Where any run printed the line of a deadlock or ended with the status 1, its words ask to prove, check,
 /// replay, explain or export a program, and a stuck run of that program is shown.
 pub fn told_deadlock_is_shown()
     ensures { ToldDeadlockIsShown }
 {}
 
-/// In their usual order the words of a command give the files' names and the options that they look like: `--json`,
-/// `--progress`, `--out`, `--dot` and `--dimacs`.
-pub fn plain_words_are_read()
-    ensures { PlainWordsAreRead }
-{}
-
-/// A run of such words answers their command, or tells want of memory, with the status 4, before it
+/// A run of words in their usual order answers their command, or tells want of memory, with the status 4, before it
 /// is known.
 pub fn plain_words_are_answered()
     ensures { PlainWordsAreAnswered }
-{}
-
-/// `--json` may stand before, between and after the files of `check`, and the options of `prove`
-/// before and after its file; `--pieces` after the files of `check`.
-pub fn option_words_are_read()
-    ensures { OptionWordsAreRead }
 {}

@@ -1,0 +1,69 @@
+-- The task that a command's name and its matches make is one.
+use Rattle.std.proofs.Common.{◌≡◌, ◌∙◌, ap, sym, ℕ, List, [], Some, None, Option, codes}
+use Rattle.std.specs.Prelude.{if◌then◌else◌, unwrap_or}
+use Rattle.std.specs.Str.{bytes_eq}
+use Rattle.clap.specs.Words.{Row, Text, first_of, one_of, subcommand_of}
+use Rattle.clap.proofs.OnLiterals.{clap_on_literals}
+use Rattle.command_line.specs.CommandLine.{command_line}
+use Rattle.command_line.specs.Requests.{Makes, MakesSome, OneTaskIsAsked, Reads, Task, is_true, number_of, to_check, to_encode, to_explain, to_export, to_prove, to_replay}
+
+abbrev text_in : Option Text → Text
+text_in o = unwrap_or o []
+
+abbrev number_in : Option Text → ℕ
+number_in o = number_of (text_in o)
+
+-- the task of a command's name and its matches
+abbrev pub read : Text → List Row → Task
+read name rows =
+    if bytes_eq name (codes "prove")
+    then to_prove (text_in (first_of (codes "PROGRAM") rows)) (first_of (codes "out") rows) (number_in (one_of (codes "workers") rows))
+    (number_in (one_of (codes "depth") rows)) (number_in (one_of (codes "budget") rows)) (is_true (one_of (codes "progress") rows))
+    (is_true (one_of (codes "json") rows))
+    else (if bytes_eq name (codes "check")
+    then to_check (text_in (first_of (codes "PROGRAM") rows)) (text_in (first_of (codes "EVIDENCE") rows)) (number_in (one_of (codes "pieces") rows))
+    (is_true (one_of (codes "json") rows))
+    else (if bytes_eq name (codes "replay")
+    then to_replay (text_in (first_of (codes "PROGRAM") rows)) (text_in (first_of (codes "EVIDENCE") rows))
+    else (if bytes_eq name (codes "encode")
+    then to_encode (text_in (first_of (codes "PROGRAM") rows)) (is_true (one_of (codes "dimacs") rows))
+    else (if bytes_eq name (codes "explain")
+    then to_explain (text_in (first_of (codes "PROGRAM") rows)) (text_in (first_of (codes "EVIDENCE") rows)) (is_true (one_of (codes "dot") rows))
+    else to_export (text_in (first_of (codes "PROGRAM") rows)) (text_in (first_of (codes "EVIDENCE") rows)) (text_in (first_of (codes "out") rows))))))
+
+given : (o : Option Text) (text : Text) → o ≡ Some text → text ≡ text_in o
+given o text e = sym (ap text_in e)
+
+spelled : (rows : List Row) (id : Text) (n : ℕ) → Reads rows id n → n ≡ number_in (one_of id rows)
+spelled rows id n reads = reads.3 ∙ sym (ap number_in reads.1)
+
+pub is_read : (name : Text) (rows : List Row) (task : Task) → Makes name rows task → task ≡ read name rows
+unfolding clap_on_literals
+is_read name rows (to_prove p out w d b progress json) makes =
+    let v = makes.values in
+    (λ i. to_prove (given _ p v.0 i) (sym v.1 i) (spelled rows (codes "workers") w v.2 i) (spelled rows (codes "depth") d v.3 i)
+    (spelled rows (codes "budget") b v.4 i) (v.5 i) (v.6 i))
+    ∙ ap (λ (n : Text). read n rows) (sym makes.command)
+is_read name rows (to_check p e n json) makes =
+    let v = makes.values in
+    (λ i. to_check (given _ p v.0 i) (given _ e v.1 i) (spelled rows (codes "pieces") n v.2 i) (v.3 i))
+    ∙ ap (λ (n : Text). read n rows) (sym makes.command)
+is_read name rows (to_replay p e) makes =
+    let v = makes.values in
+    (λ i. to_replay (given _ p v.0 i) (given _ e v.1 i)) ∙ ap (λ (n : Text). read n rows) (sym makes.command)
+is_read name rows (to_encode p dimacs) makes =
+    let v = makes.values in
+    (λ i. to_encode (given _ p v.0 i) (v.1 i)) ∙ ap (λ (n : Text). read n rows) (sym makes.command)
+is_read name rows (to_explain p e graph) makes =
+    let v = makes.values in
+    (λ i. to_explain (given _ p v.0 i) (given _ e v.1 i) (v.2 i)) ∙ ap (λ (n : Text). read n rows) (sym makes.command)
+is_read name rows (to_export p e out) makes =
+    let v = makes.values in
+    (λ i. to_export (given _ p v.0 i) (given _ e v.1 i) (given _ out v.2 i)) ∙ ap (λ (n : Text). read n rows) (sym makes.command)
+
+same : (found : Option (Text × List Row)) (one other : Task) → MakesSome found one → MakesSome found other → one ≡ other
+same None one other first second = absurd first
+same (Some f) one other first second = is_read f.0 f.1 one first ∙ sym (is_read f.0 f.1 other second)
+
+pub one_task_is_asked : OneTaskIsAsked
+one_task_is_asked words one other first second = same (subcommand_of command_line words) one other first.named second.named

@@ -1,0 +1,133 @@
+-- The command line: its commands and their arguments.
+use Rattle.std.specs.Prelude.{◌≡◌, ℕ, ◌∷◌, [], true, false, pos, Some, codes, List}
+use Rattle.clap.specs.Words.{App, Rule, Text, app_of, new_app, new_rule, rule_of, with_rule, with_subcommand}
+use Rattle.clap.specs.declared.builder.action.ArgAction.TheVariants.{Set, SetTrue}
+use Rattle.clap.specs.declared.builder.arg.Arg.{Arg}
+use Rattle.clap.specs.declared.builder.command.Command.{Command}
+use Rattle.clap.specs.declared.builder.command.Command.TheViews.{out-Command}
+use Rattle.clap.specs.declared.builder.value_parser.ValueParser.{ValueParser}
+use Rattle.clap.specs.declared.builder.value_parser.ValueParser.TheVariants.{Signed}
+
+-- a required argument without a name
+abbrev pub file_rule : Text → Rule
+file_rule name = record (new_rule name) { required = true; action = Some Set }
+
+-- an option with a long name and one value
+abbrev pub option_rule : Text → Rule
+option_rule name = record (new_rule name) { long = Some name; action = Some Set }
+
+-- an option with a number for its value, read by this parser
+abbrev pub number_rule : Text → ValueParser → Rule
+number_rule name parser = record (option_rule name) { value_names = 1; parser = Some parser }
+
+-- the same, with a number from low to high, and this text where none is given
+abbrev pub number_with : Text → ℕ → ℕ → Text → Rule
+number_with name low high usual = record (number_rule name (Signed (pos low) (pos high))) { defaults = usual ∷ [] }
+
+-- `--out FILE`
+abbrev pub out_rule : Rule
+out_rule = record (option_rule (codes "out")) { value_names = 1 }
+
+-- `--json`, which takes no value
+abbrev pub json_rule : Rule
+json_rule = record (option_rule (codes "json")) { action = Some SetTrue }
+
+-- the file PROGRAM
+abbrev pub program_rule : Rule
+program_rule = file_rule (codes "PROGRAM")
+
+-- the file EVIDENCE
+abbrev pub evidence_rule : Rule
+evidence_rule = file_rule (codes "EVIDENCE")
+
+-- the command `replay`
+abbrev pub replay_app : App
+replay_app = with_rule (with_rule (new_app (codes "replay")) program_rule) evidence_rule
+
+-- the command `check`
+abbrev pub check_app : App
+check_app =
+    with_rule (with_rule (with_rule (with_rule (new_app (codes "check")) program_rule) evidence_rule) (number_with (codes "pieces") 1 64 (codes "4")))
+    json_rule
+
+-- `--dot`, which takes no value
+abbrev pub dot_rule : Rule
+dot_rule = record (option_rule (codes "dot")) { action = Some SetTrue }
+
+-- the command `explain`
+abbrev pub explain_app : App
+explain_app = with_rule (with_rule (with_rule (new_app (codes "explain")) program_rule) evidence_rule) dot_rule
+
+-- `--dimacs`, which takes no value
+abbrev pub dimacs_rule : Rule
+dimacs_rule = record (option_rule (codes "dimacs")) { action = Some SetTrue }
+
+-- the command `encode`
+abbrev pub encode_app : App
+encode_app = with_rule (with_rule (new_app (codes "encode")) program_rule) dimacs_rule
+
+-- `--out FILE`, which has to be given
+abbrev pub proof_rule : Rule
+proof_rule = record out_rule { required = true }
+
+-- the command `export`
+abbrev pub export_app : App
+export_app = with_rule (with_rule (with_rule (new_app (codes "export")) program_rule) evidence_rule) proof_rule
+
+-- `--progress`, which takes no value
+abbrev pub progress_rule : Rule
+progress_rule = record (option_rule (codes "progress")) { action = Some SetTrue }
+
+-- the command `prove`
+abbrev pub prove_app : App
+prove_app =
+    with_rule
+    (with_rule
+    (with_rule
+    (with_rule
+    (with_rule
+    (with_rule
+    (with_rule (new_app (codes "prove")) program_rule)
+    out_rule)
+    (number_with (codes "workers") 1 64 (codes "4")))
+    (number_with (codes "depth") 0 15 (codes "4")))
+    (number_with (codes "budget") 0 1000000000 (codes "1000000")))
+    progress_rule)
+    json_rule
+
+-- the command asks for one of its subcommands
+abbrev pub wants_subcommand : App → App
+wants_subcommand a = record a { top = record a.top { subcommand_required = true } }
+
+-- the command has a version, which `--version` asks for
+abbrev pub with_version : App → App
+with_version a = record a { top = record a.top { has_version = true } }
+
+-- the whole command line: one of the six commands, or a question for help or for the version
+abbrev pub command_line : App
+command_line =
+    with_subcommand
+    (with_subcommand
+    (with_subcommand
+    (with_subcommand
+    (with_subcommand
+    (with_subcommand (with_version (wants_subcommand (new_app (codes "mpiprove")))) prove_app.top)
+    check_app.top)
+    replay_app.top)
+    encode_app.top)
+    explain_app.top)
+    export_app.top
+
+-- the argument has this rule, and is of its own command alone
+pub record IsRuled (a : Arg) (rule : Rule) : Type 0 where
+  pub read_as : rule_of a ≡ rule
+  pub own : a.global ≡ false
+
+-- the command has these arguments and subcommands, and none for all of its subcommands
+pub record IsShaped (c : Command) (app : App) : Type 0 where
+  pub read_as : app_of c ≡ app
+  pub own : (out-Command c).has_globals ≡ false
+
+-- what `--version` prints
+abbrev pub version_line : List ℕ
+version_line = codes "mpiprove 0.1.0\n"

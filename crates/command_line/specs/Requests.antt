@@ -1,0 +1,106 @@
+-- What the words of a command line ask for.
+use Rattle.std.specs.Prelude.{◌≡◌, ℕ, [], Bool, false, Some, None, Option, option_map, codes, List, slice_get}
+use Rattle.std.specs.Str.{bytes_eq}
+use Rattle.std.specs.Str.Parse.{IsNumeral, digits_value, without_leading_plus}
+use Rattle.clap.specs.Words.{Row, Text, fault_of, first_of, one_of, subcommand_of}
+use Rattle.command_line.specs.CommandLine.{command_line}
+use Rattle.command_line.specs.declared.request.Request.{Request}
+use Rattle.command_line.specs.declared.request.Request.TheVariants as ask
+
+-- What may be asked for: to prove a program, with the file for the evidence, where one is named, the numbers of workers, the depth and the
+-- budget, whether the progress is told, and whether the answer is a JSON object; to check a program by an evidence, in so many pieces, with
+-- the answer as a JSON object or not; to replay an evidence on a program; to encode a program, in the DIMACS format or not; to explain what an
+-- evidence shows of a program, by a graph or not; and to export the proof that an evidence makes of a program, to a file.
+pub data Task : Type 0 where
+  to_prove : Text → Option Text → ℕ → ℕ → ℕ → Bool → Bool → Task
+  to_check : Text → Text → ℕ → Bool → Task
+  to_replay : Text → Text → Task
+  to_encode : Text → Bool → Task
+  to_explain : Text → Text → Bool → Task
+  to_export : Text → Text → Text → Task
+
+-- what a request asks for
+abbrev pub task_of : Request → Task
+task_of (ask.Prove program out options progress json) =
+    to_prove program.now (option_map (λ path. path.now) out) options.workers options.depth options.budget progress json
+task_of (ask.Check program evidence pieces json) = to_check program.now evidence.now pieces.number json
+task_of (ask.Replay program evidence) = to_replay program.now evidence.now
+task_of (ask.Encode program dimacs) = to_encode program.now dimacs
+task_of (ask.Explain program evidence graph) = to_explain program.now evidence.now graph
+task_of (ask.Export program evidence out) = to_export program.now evidence.now out.now
+
+-- the word of a task's command
+abbrev pub command_of : Task → Text
+command_of (to_prove program out workers depth budget progress json) = codes "prove"
+command_of (to_check program evidence pieces json) = codes "check"
+command_of (to_replay program evidence) = codes "replay"
+command_of (to_encode program dimacs) = codes "encode"
+command_of (to_explain program evidence graph) = codes "explain"
+command_of (to_export program evidence out) = codes "export"
+
+-- ---- what the words after a command give
+
+-- they give this value
+abbrev pub Gives : List Row → Text → Text → Type 0
+Gives rows id value = first_of id rows ≡ Some value
+
+-- the text is `true`
+abbrev pub is_true : Option Text → Bool
+is_true None = false
+is_true (Some text) = bytes_eq text (codes "true")
+
+-- the flag is set exactly where they set it
+abbrev pub Flags : List Row → Text → Bool → Type 0
+Flags rows id value = value ≡ is_true (one_of id rows)
+
+-- the number that a text spells in decimal digits, a plus before which doesn't count
+abbrev pub number_of : Text → ℕ
+number_of text = digits_value 10 (without_leading_plus text)
+
+-- the number is the one that the argument's text spells
+abbrev pub Reads : List Row → Text → ℕ → Type 0
+Reads rows id number =
+    (text : Text) × (one_of id rows ≡ Some text) × IsNumeral 10 (without_leading_plus text) × (number ≡ number_of text)
+
+-- the values of a task are those of its command's arguments
+abbrev pub HasValues : List Row → Task → Type 0
+HasValues rows (to_prove program out workers depth budget progress json) =
+    Gives rows (codes "PROGRAM") program × (first_of (codes "out") rows ≡ out) × Reads rows (codes "workers") workers × Reads rows (codes "depth") depth
+    × Reads rows (codes "budget") budget × Flags rows (codes "progress") progress × Flags rows (codes "json") json
+HasValues rows (to_check program evidence pieces json) =
+    Gives rows (codes "PROGRAM") program × Gives rows (codes "EVIDENCE") evidence × Reads rows (codes "pieces") pieces × Flags rows (codes "json") json
+HasValues rows (to_replay program evidence) = Gives rows (codes "PROGRAM") program × Gives rows (codes "EVIDENCE") evidence
+HasValues rows (to_encode program dimacs) = Gives rows (codes "PROGRAM") program × Flags rows (codes "dimacs") dimacs
+HasValues rows (to_explain program evidence graph) =
+    Gives rows (codes "PROGRAM") program × Gives rows (codes "EVIDENCE") evidence × Flags rows (codes "dot") graph
+HasValues rows (to_export program evidence out) =
+    Gives rows (codes "PROGRAM") program × Gives rows (codes "EVIDENCE") evidence × Gives rows (codes "out") out
+
+-- a command's name and its matches make this task
+pub record Makes (name : Text) (rows : List Row) (task : Task) : Type 0 where
+  pub command : name ≡ command_of task
+  pub values : HasValues rows task
+
+-- the same, where a command was met
+abbrev pub MakesSome : Option (Text × List Row) → Task → Type 0
+MakesSome None task = ⊥
+MakesSome (Some found) task = Makes found.0 found.1 task
+
+-- ---- what the words ask for
+
+-- the words name the task's command, and the values after it are the task's, as the command line reads them
+abbrev pub NamesTask : List Text → Task → Type 0
+NamesTask words task = MakesSome (subcommand_of command_line words) task
+
+-- and they have no fault
+pub record AskFor (words : List Text) (task : Task) : Type 0 where
+  pub named : NamesTask words task
+  pub faultless : fault_of command_line words ≡ []
+
+-- what words ask for is one
+abbrev pub OneTaskIsAsked : Type 0
+OneTaskIsAsked = (words : List Text) (one other : Task) → AskFor words one → AskFor words other → one ≡ other
+
+-- and their second word is that of its command
+abbrev pub CommandIsSecond : Type 0
+CommandIsSecond = (words : List Text) (task : Task) → AskFor words task → slice_get words 1 ≡ Some (command_of task)

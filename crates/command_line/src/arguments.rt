@@ -1,0 +1,147 @@
+//! The arguments of the commands.
+
+ghost use Rattle.std.specs.Prelude.{codes};
+ghost use Rattle.command_line.specs.CommandLine.{IsRuled, dimacs_rule, dot_rule, evidence_rule, json_rule, number_rule, number_with, option_rule, out_rule, program_rule, progress_rule, proof_rule};
+
+use clap::builder::ValueParser;
+use clap::{Arg, ArgAction, value_parser};
+use std::alloc::Global;
+
+pub const PROGRAM: &str = "PROGRAM";
+
+pub const EVIDENCE: &str = "EVIDENCE";
+
+pub const OUT: &str = "out";
+
+pub const WORKERS: &str = "workers";
+
+pub const DEPTH: &str = "depth";
+
+pub const BUDGET: &str = "budget";
+
+pub const PIECES: &str = "pieces";
+
+pub const PROGRESS: &str = "progress";
+
+pub const JSON: &str = "json";
+
+pub const DOT: &str = "dot";
+
+pub const DIMACS: &str = "dimacs";
+
+pub fn program<'a>(alloc: Global) -> Arg<'a>
+    ensures { IsRuled result program_rule }
+{
+    Arg::new(alloc, PROGRAM)
+        .required(true)
+        .action(ArgAction::Set)
+        .help("The file with the program text")
+}
+
+pub fn evidence<'a>(alloc: Global) -> Arg<'a>
+    ensures { IsRuled result evidence_rule }
+{
+    Arg::new(alloc, EVIDENCE)
+        .required(true)
+        .action(ArgAction::Set)
+        .help("The file with the evidence text")
+}
+
+pub fn json<'a>(alloc: Global) -> Arg<'a>
+    ensures { IsRuled result json_rule }
+{
+    option(alloc, JSON)
+        .action(ArgAction::SetTrue)
+        .help("Print the answer as a JSON object")
+}
+
+pub fn progress<'a>(alloc: Global) -> Arg<'a>
+    ensures { IsRuled result progress_rule }
+{
+    option(alloc, PROGRESS).action(ArgAction::SetTrue).help(
+        "Tell on standard error, once a second, how far the search is",
+    )
+}
+
+pub fn dot<'a>(alloc: Global) -> Arg<'a>
+    ensures { IsRuled result dot_rule }
+{
+    option(alloc, DOT)
+        .action(ArgAction::SetTrue)
+        .help("Print who waits for whom as a graph for Graphviz")
+}
+
+pub fn dimacs<'a>(alloc: Global) -> Arg<'a>
+    ensures { IsRuled result dimacs_rule }
+{
+    option(alloc, DIMACS)
+        .action(ArgAction::SetTrue)
+        .help("Print the formula in the DIMACS format")
+}
+
+pub fn proof<'a>(alloc: Global) -> Arg<'a>
+    ensures { IsRuled result proof_rule }
+{
+    written(alloc, "Write the proof to this file").required(true)
+}
+
+pub fn out<'a>(alloc: Global) -> Arg<'a>
+    ensures { IsRuled result out_rule }
+{
+    written(alloc, "Write the evidence to this file")
+}
+
+/// The file to write.
+fn written<'a>(alloc: Global, about: &'a str) -> Arg<'a>
+    ensures { IsRuled result out_rule }
+{
+    option(alloc, OUT).value_name("FILE").help(about)
+}
+
+pub fn workers<'a>(alloc: Global) -> Arg<'a>
+    ensures { IsRuled result (number_with (codes "workers") 1 64 (codes "4")) }
+{
+    number(alloc, WORKERS, value_parser!(u32).range(1..=64))
+        .default_value("4")
+        .help(
+            "How many threads search at once, 1 to 64; with more than one the evidence differs from run to run",
+        )
+}
+
+pub fn depth<'a>(alloc: Global) -> Arg<'a>
+    ensures { IsRuled result (number_with (codes "depth") 0 15 (codes "4")) }
+{
+    number(alloc, DEPTH, value_parser!(u32).range(0..=15))
+        .default_value("4")
+        .help("How often the search is split before it begins, 0 to 15: up to 2^N parts")
+}
+
+pub fn budget<'a>(alloc: Global) -> Arg<'a>
+    ensures { IsRuled result (number_with (codes "budget") 0 1000000000 (codes "1000000")) }
+{
+    number(alloc, BUDGET, value_parser!(u32).range(0..=1_000_000_000))
+        .default_value("1000000")
+        .help(
+            "How many conflicts each thread may count, 0 to 1000000000; with 0 no run is tried and nothing is searched",
+        )
+}
+
+pub fn pieces<'a>(alloc: Global) -> Arg<'a>
+    ensures { IsRuled result (number_with (codes "pieces") 1 64 (codes "4")) }
+{
+    number(alloc, PIECES, value_parser!(u32).range(1..=64))
+        .default_value("4")
+        .help("How many threads check a refutation at once, 1 to 64; the answer is the same")
+}
+
+fn number<'a>(alloc: Global, name: &'a str, parser: ValueParser<'a>) -> Arg<'a>
+    ensures { IsRuled result (number_rule name.entry.now parser.entry) }
+{
+    option(alloc, name).value_name("N").value_parser(parser)
+}
+
+fn option<'a>(alloc: Global, name: &'a str) -> Arg<'a>
+    ensures { IsRuled result (option_rule name.entry.now) }
+{
+    Arg::new(alloc, name).long(name).action(ArgAction::Set)
+}

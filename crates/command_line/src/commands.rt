@@ -1,0 +1,146 @@
+//! The commands of the command line.
+
+ghost use Rattle.std.specs.Prelude.{◌≡◌, IfOk};
+ghost use Rattle.clap.specs.Words.{App, Rule, new_app, with_rule, with_subcommand};
+ghost use Rattle.command_line.specs.CommandLine.{IsRuled, IsShaped, check_app, command_line, encode_app, explain_app, export_app, prove_app, replay_app, version_line};
+
+use crate::arguments::{
+    budget, depth, dimacs, dot, evidence, json, out, pieces, program, progress, proof, workers,
+};
+use crate::help_ends::{
+    CHECK_END, ENCODE_END, EXPLAIN_END, EXPORT_END, HELP_END, PROVE_END, REPLAY_END,
+};
+use clap::Arg;
+use clap::builder::Command;
+use std::alloc::{AllocError, Global};
+
+/// What `--version` prints. The library is told it too, so that it knows that there is a version; its own text isn't printed.
+pub fn version_line() -> &'static str
+    ensures { result.now ≡ version_line }
+{
+    "mpiprove 0.1.0\n"
+}
+
+/// A command with one more command below it. Either may be missing for want of memory, so that a list of these has no exits.
+fn under<'a>(
+    whole: Result<Command<'a>, AllocError>,
+    below: Result<Command<'a>, AllocError>,
+) -> Result<Command<'a>, AllocError>
+    ensures { (app sub : App) → IfOk whole.entry (λ c. IsShaped c app) → IfOk below.entry (λ c. IsShaped c sub)
+        → IfOk result (λ c. IsShaped c (with_subcommand app sub.top)) }
+{
+    whole?.subcommand(below?)
+}
+
+/// A command with one more argument, in the same way.
+fn with<'a>(whole: Result<Command<'a>, AllocError>, arg: Arg<'a>) -> Result<Command<'a>, AllocError>
+    ensures { (app : App) (rule : Rule) → IfOk whole.entry (λ c. IsShaped c app) → IsRuled arg.entry rule
+        → IfOk result (λ c. IsShaped c (with_rule app rule)) }
+{
+    whole?.arg(arg)
+}
+
+/// A command with this name, whose help begins and ends so.
+fn named<'a>(alloc: Global, name: &'a str, about: &'a str, end: &'a str) -> Command<'a>
+    ensures { IsShaped result (new_app name.entry.now) }
+{
+    Command::new(alloc, name).about(about).after_help(end)
+}
+
+/// The whole command line.
+pub fn command<'a>(alloc: Global) -> Result<Command<'a>, AllocError>
+    ensures { IfOk result (λ c. IsShaped c command_line) }
+{
+    let top = Command::new(alloc, "mpiprove")
+        .version(version_line())
+        .subcommand_required(true)
+        .after_help(HELP_END);
+    let top = under(Ok(top), prove_command(alloc));
+    let top = under(top, check_command(alloc));
+    let top = under(top, replay_command(alloc));
+    let top = under(top, encode_command(alloc));
+    let top = under(top, explain_command(alloc));
+    under(top, export_command(alloc))
+}
+
+fn prove_command<'a>(alloc: Global) -> Result<Command<'a>, AllocError>
+    ensures { IfOk result (λ c. IsShaped c prove_app) }
+{
+    let command = named(
+        alloc,
+        "prove",
+        "Decides whether some run of a program gets stuck",
+        PROVE_END,
+    );
+    let command = with(Ok(command), program(alloc));
+    let command = with(command, out(alloc));
+    let command = with(command, workers(alloc));
+    let command = with(command, depth(alloc));
+    let command = with(command, budget(alloc));
+    let command = with(command, progress(alloc));
+    with(command, json(alloc))
+}
+
+fn check_command<'a>(alloc: Global) -> Result<Command<'a>, AllocError>
+    ensures { IfOk result (λ c. IsShaped c check_app) }
+{
+    let command = named(alloc, "check", "Judges a program by an evidence", CHECK_END);
+    let command = with(Ok(command), program(alloc));
+    let command = with(command, evidence(alloc));
+    let command = with(command, pieces(alloc));
+    with(command, json(alloc))
+}
+
+fn replay_command<'a>(alloc: Global) -> Result<Command<'a>, AllocError>
+    ensures { IfOk result (λ c. IsShaped c replay_app) }
+{
+    let command = named(
+        alloc,
+        "replay",
+        "Prints the steps of a schedule",
+        REPLAY_END,
+    );
+    let command = with(Ok(command), program(alloc));
+    with(command, evidence(alloc))
+}
+
+fn encode_command<'a>(alloc: Global) -> Result<Command<'a>, AllocError>
+    ensures { IfOk result (λ c. IsShaped c encode_app) }
+{
+    let command = named(
+        alloc,
+        "encode",
+        "Prints the formula of a program",
+        ENCODE_END,
+    );
+    let command = with(Ok(command), program(alloc));
+    with(command, dimacs(alloc))
+}
+
+fn explain_command<'a>(alloc: Global) -> Result<Command<'a>, AllocError>
+    ensures { IfOk result (λ c. IsShaped c explain_app) }
+{
+    let command = named(
+        alloc,
+        "explain",
+        "Explains what an evidence shows of a program",
+        EXPLAIN_END,
+    );
+    let command = with(Ok(command), program(alloc));
+    let command = with(command, evidence(alloc));
+    with(command, dot(alloc))
+}
+
+fn export_command<'a>(alloc: Global) -> Result<Command<'a>, AllocError>
+    ensures { IfOk result (λ c. IsShaped c export_app) }
+{
+    let command = named(
+        alloc,
+        "export",
+        "Writes a refutation as a proof in the LRAT format",
+        EXPORT_END,
+    );
+    let command = with(Ok(command), program(alloc));
+    let command = with(command, evidence(alloc));
+    with(command, proof(alloc))
+}

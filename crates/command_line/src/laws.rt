@@ -1,0 +1,30 @@
+//! What words ask for. Each function does nothing: its contract is the law.
+ghost use Rattle.command_line.specs.Requests.{CommandIsSecond, OneTaskIsAsked};
+ghost use Rattle.command_line.specs.UsualWords.{OptionWordsAreRead, PlainWordsAreFaultless, PlainWordsAreRead};
+
+/// What words ask for is one: the same command, and the same files, numbers and flags.
+pub fn one_task_is_asked()
+    ensures { OneTaskIsAsked }
+{}
+
+/// Where words ask for something, the second of them is the command.
+pub fn command_is_second()
+    ensures { CommandIsSecond }
+{}
+
+/// In their usual order the words of a command give the files' names and the options that they look like: `--json`,
+/// `--progress`, `--out`, `--dot` and `--dimacs`.
+pub fn plain_words_are_read()
+    ensures { PlainWordsAreRead }
+{}
+
+/// Such words have no fault: where they aren't read memory ran out.
+pub fn plain_words_are_faultless()
+    ensures { PlainWordsAreFaultless }
+{}
+
+/// `--json` may stand before, between and after the files of `check`, and the options of `prove`
+/// before and after its file; `--pieces` after the files of `check`.
+pub fn option_words_are_read()
+    ensures { OptionWordsAreRead }
+{}

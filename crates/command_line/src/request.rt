@@ -1,0 +1,157 @@
+//! What the words of a command line ask for.
+
+ghost use Rattle.std.specs.Prelude.{◌≡◌, ◌⊎◌, IfErr, IfOk, IfSome, map, string_bytes};
+ghost use Rattle.clap.specs.Words.{IsAmong, fault_of, found_of, kind_of, rows_of, subcommand_rows_of};
+ghost use Rattle.command_line.specs.CommandLine.{command_line};
+ghost use Rattle.command_line.specs.Requests.{AskFor, Flags, Makes, MakesSome, task_of};
+
+use crate::arguments::{
+    BUDGET, DEPTH, DIMACS, DOT, EVIDENCE, JSON, OUT, PIECES, PROGRAM, PROGRESS, WORKERS,
+};
+use crate::commands::command;
+use clap::error::ErrorKind;
+use clap::{ArgMatches, Error};
+use settings::{Options, Pieces};
+use std::alloc::{AllocError, Global};
+
+/// What a command line asks for, with the paths of its files.
+#[derive(Clone, Copy)]
+pub enum Request<'a> {
+    /// Search for an answer, tell meanwhile how far the search is or not, and write its evidence to the file `out`.
+    Prove {
+        program: &'a str,
+        out: Option<&'a str>,
+        options: Options,
+        progress: bool,
+        json: bool,
+    },
+    /// Judge a program by an evidence.
+    Check {
+        program: &'a str,
+        evidence: &'a str,
+        pieces: Pieces,
+        json: bool,
+    },
+    /// Print the steps of a schedule.
+    Replay {
+        program: &'a str,
+        evidence: &'a str,
+    },
+    /// Print the formula of a program, in the DIMACS format or not.
+    Encode {
+        program: &'a str,
+        dimacs: bool,
+    },
+    /// Explain what an evidence shows of a program, by a text or by a graph.
+    Explain {
+        program: &'a str,
+        evidence: &'a str,
+        graph: bool,
+    },
+    /// Write the proof that an evidence makes of a program's formula to the file `out`.
+    Export {
+        program: &'a str,
+        evidence: &'a str,
+        out: &'a str,
+    },
+}
+
+/// What the words ask for. The first word is the program's own name. An error is a fault of usage, a
+/// question for help, or want of memory.
+pub fn request_of(alloc: Global, words: &[String]) -> Result<Request<'_>, Error>
+    ensures asked { IfOk result (λ request. AskFor (map (λ w. string_bytes w) words.now) (task_of request)) }
+    ensures faults { IfErr result (λ e. (kind_of e ≡ ErrorKind.OutOfMemory)
+        ⊎ IsAmong (kind_of e) (fault_of command_line (map (λ w. string_bytes w) words.now))) }
+{
+    let mut command = command(alloc)?;
+    let matches = match command.try_get_matches_from_mut(words) {
+        Ok(matches) => matches,
+        Err(fault) => return Err(fault),
+    };
+    match requested_by(&matches) {
+        Some(request) => Ok(request),
+        // A parse that succeeds gives each value, so this doesn't come.
+        None => Err(Error::from(AllocError)),
+    }
+}
+
+/// The request of the matches of a whole command line.
+fn requested_by<'a>(matches: &ArgMatches<'a>) -> Option<Request<'a>>
+    ensures { IfSome result (λ request. MakesSome (subcommand_rows_of matches.now) (task_of request)) }
+{
+    let Some(subcommand) = matches.subcommand() else {
+        return None;
+    };
+    requested(subcommand)
+}
+
+/// The request of a subcommand's matches. There is one wherever its required arguments have values
+/// in their ranges, as after each parse.
+fn requested<'a>(subcommand: (&'a str, &ArgMatches<'a>)) -> Option<Request<'a>>
+    ensures { IfSome result (λ request.
+        Makes subcommand.entry.0.now (rows_of (found_of subcommand.entry.1.now)) (task_of request)) }
+{
+    let (name, matches) = subcommand;
+    let program = matches.get_str(PROGRAM)?;
+    match name {
+        "prove" => {
+            let workers = matches.get_one::<u32>(WORKERS)?;
+            let depth = matches.get_one::<u32>(DEPTH)?;
+            let budget = matches.get_one::<u32>(BUDGET)?;
+            Some(Request::Prove {
+                program,
+                out: matches.get_str(OUT),
+                options: Options::make(workers, depth, budget)?,
+                progress: is_set(matches, PROGRESS),
+                json: is_set(matches, JSON),
+            })
+        }
+        "check" => {
+            let evidence = matches.get_str(EVIDENCE)?;
+            let pieces = matches.get_one::<u32>(PIECES)?;
+            Some(Request::Check {
+                program,
+                evidence,
+                pieces: Pieces::make(pieces)?,
+                json: is_set(matches, JSON),
+            })
+        }
+        "replay" => Some(Request::Replay {
+            program,
+            evidence: matches.get_str(EVIDENCE)?,
+        }),
+        "encode" => {
+            let dimacs = is_set(matches, DIMACS);
+            Some(Request::Encode { program, dimacs })
+        }
+        "explain" => {
+            let evidence = matches.get_str(EVIDENCE)?;
+            let graph = is_set(matches, DOT);
+            Some(Request::Explain {
+                program,
+                evidence,
+                graph,
+            })
+        }
+        "export" => {
+            let evidence = matches.get_str(EVIDENCE)?;
+            let out = matches.get_str(OUT)?;
+            Some(Request::Export {
+                program,
+                evidence,
+                out,
+            })
+        }
+        _ => None,
+    }
+}
+
+/// Whether the words set a flag.
+fn is_set(matches: &ArgMatches<'_>, flag: &str) -> bool
+    ensures { Flags (rows_of (found_of matches.now)) flag.now result }
+{
+    match matches.get_one::<bool>(flag) {
+        Some(value) => value,
+        None => false,
+    }
+}

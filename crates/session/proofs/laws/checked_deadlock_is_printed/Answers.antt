@@ -1,0 +1,5 @@
+use Rattle.session.proofs.RunLaws.{checked_stuck}
+use Rattle.session.proofs.laws.checked_deadlock_is_printed.Goals as goal
+
+pub returns : goal.returns
+returns c = checked_stuck

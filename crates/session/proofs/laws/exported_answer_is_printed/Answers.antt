@@ -1,0 +1,5 @@
+use Rattle.session.proofs.RunLaws.{exported}
+use Rattle.session.proofs.laws.exported_answer_is_printed.Goals as goal
+
+pub returns : goal.returns
+returns c = exported

@@ -1,5 +1,0 @@
-use Rattle.session.proofs.OptionWords.{option_words_are_read}
-use Rattle.session.proofs.laws.option_words_are_read.Goals as goal
-
-pub returns : goal.returns
-returns c = option_words_are_read

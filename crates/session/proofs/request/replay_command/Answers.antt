@@ -1,6 +1,0 @@
-use Rattle.session.proofs.request.replay_command.Goals as goal
-
-pub returns : goal.returns
-returns c =
-    let one = c.with-command.ensures _ _ c.named-command.ensures c.program.ensures in
-    c.with.ensures _ _ one c.evidence.ensures
