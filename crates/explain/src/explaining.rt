@@ -13,7 +13,7 @@ use calltext::Source;
 use semantics::Step;
 use std::alloc::{AllocError, Global};
 
-/// The text, in plain ASCII, that explains a run of a program that ends stuck: what decided it, where each rank stands
+/// The text, in plain ASCII, that explains a run of a program that ends stuck: the choices on the way, where each rank stands
 /// and for what it waits, who waits for whom, and which messages nobody received. `text` is the program's text,
 /// `source` what it says, and `program` its calls. The only error is want of memory.
 pub fn explanation(
@@ -33,7 +33,7 @@ pub fn explanation(
     let noun = if count == 1 { "step" } else { "steps" };
     let mut out = format!(in alloc; "deadlock after {count} {noun}\n")?;
     let decided = decisions(alloc, program, &scene.calls, steps)?;
-    put_part(&mut out, "what decided it:", &decided)?;
+    put_part(&mut out, "choices on the way:", &decided)?;
     put_part(
         &mut out,
         "where each rank stands:",

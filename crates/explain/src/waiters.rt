@@ -4,7 +4,7 @@ use crate::placing::{Scene, put_call, put_call_of, put_number_of, put_ranks};
 use callorder::Program;
 use std::alloc::{AllocError, Global};
 use waits::{
-    Fate, Need, RankSet, Standing, awaited, circle, fate_of, fitting, need_of, operation_of,
+    Fate, Need, RankSet, Standing, awaited, cycle, fate_of, fitting, need_of, operation_of,
     standing_of,
 };
 
@@ -223,27 +223,27 @@ pub fn edges(alloc: Global, program: &Program, scene: &Scene) -> Result<Vec<Rank
         .collect(alloc)
 }
 
-/// Tells a circle, which ends with the rank that it begins with.
-fn put_circle(out: &mut String, ranks: &[u32]) -> Result<(), AllocError> {
+/// Tells a cycle, which ends with the rank that it begins with.
+fn put_cycle(out: &mut String, ranks: &[u32]) -> Result<(), AllocError> {
     let Some(first) = ranks.first() else {
         return Ok(());
     };
-    out.push_str("  circle: ")?;
+    out.push_str("  cycle: ")?;
     for rank in ranks {
         write!(out, "rank {rank}, ")?;
     }
     writeln!(out, "rank {first}")
 }
 
-/// Tells for whom each rank waits, and a circle, if there is one.
+/// Tells for whom each rank waits, and a cycle, if there is one.
 pub fn waiters(alloc: Global, program: &Program, scene: &Scene) -> Result<String, AllocError> {
     let mut out = String::new(alloc);
     for rank in 0..program.ranks() {
         put_awaited(&mut out, alloc, program, scene, rank)?;
     }
     let edges = edges(alloc, program, scene)?;
-    if let Some(ranks) = circle(alloc, &edges)? {
-        put_circle(&mut out, &ranks)?;
+    if let Some(ranks) = cycle(alloc, &edges)? {
+        put_cycle(&mut out, &ranks)?;
     }
     Ok(out)
 }

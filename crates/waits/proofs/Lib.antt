@@ -1,5 +1,5 @@
 pub mod RankSetLaws
-pub mod CircleLaws
+pub mod CycleLaws
 pub mod StuckRanks
 pub mod NeededCalls
 pub mod NeededRanks

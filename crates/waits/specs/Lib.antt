@@ -1,4 +1,4 @@
 pub mod RankSets
-pub mod Circles
+pub mod Cycles
 pub mod Waiting
 pub mod Laws

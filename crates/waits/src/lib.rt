@@ -1,10 +1,10 @@
 //! What is known of a program's state, rank by rank: where each rank stands, what it waits for, and which ranks wait
-//! for one another in a circle.
+//! for one another in a cycle.
 //!
 //! A call is named by its place, from 0, in the program's list of calls.
 #![tactic(auto)]
 
-mod circles;
+mod cycles;
 mod fates;
 mod laws;
 mod needs;
@@ -12,7 +12,7 @@ mod rank_set;
 mod standings;
 mod waiting;
 
-pub use circles::circle;
+pub use cycles::cycle;
 pub use fates::{Fate, fate_of, fits_with, fitting};
 pub use laws::{
     fit_calls_are_not_both_open, needed_calls_are_not_open, no_rank_is_ready_where_stuck,

@@ -1,9 +1,9 @@
 use Rattle.std.proofs.Common.{ℕ, ◌≢◌, IsTrue}
 use Rattle.std.specs.List.{AllPairs}
 use Rattle.waits.specs.RankSets.{has_rank, size}
-use Rattle.waits.specs.Circles.{LeadTo}
-use Rattle.waits.proofs.CircleLaws.{HasBeen, AreApart}
-use Rattle.waits.proofs.circles.walk.Given as goal
+use Rattle.waits.specs.Cycles.{LeadTo}
+use Rattle.waits.proofs.CycleLaws.{HasBeen, AreApart}
+use Rattle.waits.proofs.cycles.walk.Given as goal
 
 abbrev pub invariant-loop-left : goal.invariant-loop-left
 invariant-loop-left l =

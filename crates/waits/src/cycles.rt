@@ -1,9 +1,9 @@
-//! Circles of ranks that wait for one another.
+//! Cycles of ranks that wait for one another.
 
 ghost use Rattle.std.specs.Prelude.{◌≡◌, ◌≢◌, ℕ, ◌<◌, List, length, slice_index, IsTrue, IfOk, IfSome, IfNone, Contains, MatchOption};
 ghost use Rattle.std.specs.List.{AllPairs};
 ghost use Rattle.waits.specs.RankSets.{has_rank};
-ghost use Rattle.waits.specs.Circles.{has_edge, LeadTo, IsCircle, LeadsOn, HasAllCircles};
+ghost use Rattle.waits.specs.Cycles.{has_edge, LeadTo, IsCycle, LeadsOn, HasAllCycles};
 
 use crate::rank_set::RankSet;
 use std::alloc::{AllocError, Global};
@@ -35,7 +35,7 @@ fn leaf(edges: &[RankSet], left: RankSet) -> Option<u32>
 /// The ranks that are left when those that wait for nobody left are taken out, one after another.
 fn endless(edges: &[RankSet]) -> RankSet
     ensures onward { LeadsOn edges.now result }
-    ensures circles { HasAllCircles edges.now result }
+    ensures cycles { HasAllCycles edges.now result }
 {
     let mut left = RankSet::all();
     while let Some(rank) = leaf(edges, left) {
@@ -80,11 +80,11 @@ fn place_of(path: &[u32], rank: u32) -> Option<usize>
     path.iter().position(|other| *other == rank)
 }
 
-/// Ranks that wait for one another in a circle, each for the next one and the last for the first, and no rank twice; none
-/// where there is no circle. `edges` has the ranks that each rank waits for, by rank from 0; only ranks 0 to 63 are looked
+/// Ranks that wait for one another in a cycle, each for the next one and the last for the first, and no rank twice; none
+/// where there is no cycle. `edges` has the ranks that each rank waits for, by rank from 0; only ranks 0 to 63 are looked
 /// at, all that a set of ranks holds. The only error is want of memory.
-pub fn circle(alloc: Global, edges: &[RankSet]) -> Result<Option<Vec<u32>>, AllocError>
-    ensures circle { IfOk result (λ found. MatchOption found ((ranks : List ℕ) → IsCircle edges.now ranks → ⊥) (λ ranks. IsCircle edges.now ranks.items)) }
+pub fn cycle(alloc: Global, edges: &[RankSet]) -> Result<Option<Vec<u32>>, AllocError>
+    ensures cycle { IfOk result (λ found. MatchOption found ((ranks : List ℕ) → IsCycle edges.now ranks → ⊥) (λ ranks. IsCycle edges.now ranks.items)) }
     ensures once { IfOk result (λ found. IfSome found (λ ranks. AllPairs (λ one other. one ≢ other) ranks.items)) }
 {
     let left = endless(edges);

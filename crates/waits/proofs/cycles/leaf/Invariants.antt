@@ -1,7 +1,7 @@
 use Rattle.std.proofs.Common.{ℕ, ◌<◌, IsTrue}
 use Rattle.waits.specs.RankSets.{has_rank}
-use Rattle.waits.specs.Circles.{has_edge}
-use Rattle.waits.proofs.circles.leaf.Given as goal
+use Rattle.waits.specs.Cycles.{has_edge}
+use Rattle.waits.proofs.cycles.leaf.Given as goal
 
 abbrev pub invariant-loop-rank : goal.invariant-loop-rank
 invariant-loop-rank l =

@@ -1,4 +1,4 @@
--- Circles: which ranks wait on one, how a path grows, and where one closes.
+-- Cycles: which ranks wait on one, how a path grows, and where one closes.
 use Rattle.std.proofs.Common.{◌≡◌, ℕ, zero, suc, ◌<◌, ◌⊎◌, inl, inr, false, not, ◌&&◌, ◌==◌, IsTrue, List, [], ◌∷◌, ◌++◌, Option, Some, None, length, get_or, drop, refl, ap, sym, ◌∙◌, ◌≢◌, subst, arith}
 use Rattle.std.proofs.lemmas.Bool.{cases_lt, cases_eq, and_parts, and_from, eq-eqb, ltb-true, ne_eqb, not_from_false, true≢false}
 use Rattle.std.proofs.lemmas.List.{get_or_default, get_or_past}
@@ -8,9 +8,9 @@ use Rattle.std.specs.List.{AllPairs}
 use Rattle.std.specs.Prelude.{slice_get, Contains}
 use Rattle.waits.specs.declared.rank_set.RankSet.{RankSet}
 use Rattle.waits.specs.RankSets.{has_rank}
-use Rattle.waits.specs.Circles.{has_edge, has_edge_in, LeadTo, IsCircle, HasAllCircles}
+use Rattle.waits.specs.Cycles.{has_edge, has_edge_in, LeadTo, IsCycle, HasAllCycles}
 
--- ---- the ranks of a circle
+-- ---- the ranks of a cycle
 
 -- each rank of a path waits for the next one, the last for `to`
 LeadTo-at : (edges : List RankSet) (xs : List ℕ) (to k : ℕ) → LeadTo edges xs to → k < length xs → IsTrue (has_edge edges (get_or xs k 0) (get_or xs (suc k) to))
@@ -18,40 +18,40 @@ LeadTo-at edges [] to k leads within = absurd (omega arith)
 LeadTo-at edges (x ∷ xs) to zero leads within = leads.0
 LeadTo-at edges (x ∷ xs) to (suc k) leads within = LeadTo-at edges xs to k leads.1 (omega arith)
 
--- each rank of a circle waits for one of its ranks
-next_on : (edges : List RankSet) (xs : List ℕ) → IsCircle edges xs → (k : ℕ) → k < length xs → (j : ℕ) × (j < length xs) × IsTrue (has_edge edges (get_or xs k 0) (get_or xs j 0))
-next_on edges [] circle k within = absurd circle
-next_on edges (x ∷ xs) circle k within =
-    let edge : IsTrue (has_edge edges (get_or (x ∷ xs) k 0) (get_or (x ∷ xs) (suc k) x)) = LeadTo-at edges (x ∷ xs) x k circle within in
+-- each rank of a cycle waits for one of its ranks
+next_on : (edges : List RankSet) (xs : List ℕ) → IsCycle edges xs → (k : ℕ) → k < length xs → (j : ℕ) × (j < length xs) × IsTrue (has_edge edges (get_or xs k 0) (get_or xs j 0))
+next_on edges [] cycle k within = absurd cycle
+next_on edges (x ∷ xs) cycle k within =
+    let edge : IsTrue (has_edge edges (get_or (x ∷ xs) k 0) (get_or (x ∷ xs) (suc k) x)) = LeadTo-at edges (x ∷ xs) x k cycle within in
     elim (cases_lt (suc k) (length (x ∷ xs))) [
       | inl more ↦ (suc k, more, subst (λ (q : ℕ). IsTrue (has_edge edges (get_or (x ∷ xs) k 0) q)) (get_or_default (x ∷ xs) (suc k) x 0 more) edge)
       | inr last ↦ (0, omega arith, subst (λ (q : ℕ). IsTrue (has_edge edges (get_or (x ∷ xs) k 0) q)) (get_or_past (x ∷ xs) (suc k) x last) edge)
     ]
 
--- for each rank of a circle one of its ranks waits
-before_on : (edges : List RankSet) (xs : List ℕ) → IsCircle edges xs → (k : ℕ) → k < length xs → (j : ℕ) × IsTrue (has_edge edges (get_or xs j 0) (get_or xs k 0))
-before_on edges [] circle k within = absurd circle
-before_on edges (x ∷ xs) circle zero within =
-    (length xs, subst (λ (q : ℕ). IsTrue (has_edge edges (get_or (x ∷ xs) (length xs) 0) q)) (get_or_past (x ∷ xs) (suc (length xs)) x (omega arith)) (LeadTo-at edges (x ∷ xs) x (length xs) circle (omega arith)))
-before_on edges (x ∷ xs) circle (suc k) within =
-    (k, subst (λ (q : ℕ). IsTrue (has_edge edges (get_or (x ∷ xs) k 0) q)) (get_or_default (x ∷ xs) (suc k) x 0 within) (LeadTo-at edges (x ∷ xs) x k circle (omega arith)))
+-- for each rank of a cycle one of its ranks waits
+before_on : (edges : List RankSet) (xs : List ℕ) → IsCycle edges xs → (k : ℕ) → k < length xs → (j : ℕ) × IsTrue (has_edge edges (get_or xs j 0) (get_or xs k 0))
+before_on edges [] cycle k within = absurd cycle
+before_on edges (x ∷ xs) cycle zero within =
+    (length xs, subst (λ (q : ℕ). IsTrue (has_edge edges (get_or (x ∷ xs) (length xs) 0) q)) (get_or_past (x ∷ xs) (suc (length xs)) x (omega arith)) (LeadTo-at edges (x ∷ xs) x (length xs) cycle (omega arith)))
+before_on edges (x ∷ xs) cycle (suc k) within =
+    (k, subst (λ (q : ℕ). IsTrue (has_edge edges (get_or (x ∷ xs) k 0) q)) (get_or_default (x ∷ xs) (suc k) x 0 within) (LeadTo-at edges (x ∷ xs) x k cycle (omega arith)))
 
 edge_within : (o : Option RankSet) (to : ℕ) → IsTrue (has_edge_in o to) → to < 64
 edge_within None to edge = absurd (cc)
 edge_within (Some set) to edge = ltb-true to 64 (and_parts _ _ edge).0
 
--- the ranks of circles are below 64
-pub circles_within : (edges : List RankSet) (set : RankSet) → ((rank : ℕ) → rank < 64 → IsTrue (has_rank set rank)) → HasAllCircles edges set
-circles_within edges set all xs circle k within =
-    let before = before_on edges xs circle k within in
+-- the ranks of cycles are below 64
+pub cycles_within : (edges : List RankSet) (set : RankSet) → ((rank : ℕ) → rank < 64 → IsTrue (has_rank set rank)) → HasAllCycles edges set
+cycles_within edges set all xs cycle k within =
+    let before = before_on edges xs cycle k within in
     all (get_or xs k 0) (edge_within (slice_get edges (get_or xs before.0 0)) (get_or xs k 0) before.1)
 
--- a rank that waits for none of a set that has all circles is on no circle
-pub circles_without : (edges : List RankSet) (old new : RankSet) (rank : ℕ) → HasAllCircles edges old → ((next : ℕ) → IsTrue (has_rank old next) → IsTrue (has_edge edges rank next) → ⊥)
-    → ((other : ℕ) → has_rank new other ≡ (not (other == rank) && has_rank old other)) → HasAllCircles edges new
-circles_without edges old new rank all none left xs circle k within =
-    let other : get_or xs k 0 ≡ rank → ⊥ = λ is. (let next = next_on edges xs circle k within in none (get_or xs next.0 0) (all xs circle next.0 next.1) (subst (λ (r : ℕ). IsTrue (has_edge edges r (get_or xs next.0 0))) is next.2)) in
-    left (get_or xs k 0) ∙ and_from _ _ (not_from_false _ (ne_eqb (get_or xs k 0) rank other)) (all xs circle k within)
+-- a rank that waits for none of a set that has all cycles is on no cycle
+pub cycles_without : (edges : List RankSet) (old new : RankSet) (rank : ℕ) → HasAllCycles edges old → ((next : ℕ) → IsTrue (has_rank old next) → IsTrue (has_edge edges rank next) → ⊥)
+    → ((other : ℕ) → has_rank new other ≡ (not (other == rank) && has_rank old other)) → HasAllCycles edges new
+cycles_without edges old new rank all none left xs cycle k within =
+    let other : get_or xs k 0 ≡ rank → ⊥ = λ is. (let next = next_on edges xs cycle k within in none (get_or xs next.0 0) (all xs cycle next.0 next.1) (subst (λ (r : ℕ). IsTrue (has_edge edges r (get_or xs next.0 0))) is next.2)) in
+    left (get_or xs k 0) ∙ and_from _ _ (not_from_false _ (ne_eqb (get_or xs k 0) rank other)) (all xs cycle k within)
 
 -- ---- paths
 
@@ -65,11 +65,11 @@ LeadTo-push edges [] r q leads edge = (edge, tt)
 LeadTo-push edges (x ∷ xs) r q leads edge =
     (subst (λ (z : ℕ). IsTrue (has_edge edges x z)) (head_of_push xs r q) leads.0, LeadTo-push edges xs r q leads.1 edge)
 
--- from where a path comes back to, it is a circle
-pub circle_from : (edges : List RankSet) (xs : List ℕ) (to k : ℕ) → LeadTo edges xs to → k < length xs → get_or xs k 0 ≡ to → IsCircle edges (drop k xs)
-circle_from edges [] to k leads within again = absurd (omega arith)
-circle_from edges (x ∷ xs) to zero leads within again = subst (λ (z : ℕ). LeadTo edges (x ∷ xs) z) (sym again) leads
-circle_from edges (x ∷ xs) to (suc k) leads within again = circle_from edges xs to k leads.1 (omega arith) again
+-- from where a path comes back to, it is a cycle
+pub cycle_from : (edges : List RankSet) (xs : List ℕ) (to k : ℕ) → LeadTo edges xs to → k < length xs → get_or xs k 0 ≡ to → IsCycle edges (drop k xs)
+cycle_from edges [] to k leads within again = absurd (omega arith)
+cycle_from edges (x ∷ xs) to zero leads within again = subst (λ (z : ℕ). LeadTo edges (x ∷ xs) z) (sym again) leads
+cycle_from edges (x ∷ xs) to (suc k) leads within again = cycle_from edges xs to k leads.1 (omega arith) again
 
 -- each rank of the set is still fresh or on the path
 abbrev pub HasBeen : RankSet → RankSet → List ℕ → Type 0
@@ -110,9 +110,9 @@ once-drop path zero once = once
 once-drop [] (suc k) once = once
 once-drop (x ∷ path) (suc k) once = once-drop path k (λ i j d before within. once (suc i) (suc j) d (omega arith) (omega arith))
 
--- ---- no circle
+-- ---- no cycle
 
--- where no rank of a set is left that has all circles, there is no circle
-pub no_circle : (edges : List RankSet) (set : RankSet) → HasAllCircles edges set → ((rank : ℕ) → has_rank set rank ≡ false) → (ranks : List ℕ) → IsCircle edges ranks → ⊥
-no_circle edges set all none [] circle = circle
-no_circle edges set all none (rank ∷ others) circle = true≢false (sym (all (rank ∷ others) circle 0 (omega arith)) ∙ none rank)
+-- where no rank of a set is left that has all cycles, there is no cycle
+pub no_cycle : (edges : List RankSet) (set : RankSet) → HasAllCycles edges set → ((rank : ℕ) → has_rank set rank ≡ false) → (ranks : List ℕ) → IsCycle edges ranks → ⊥
+no_cycle edges set all none [] cycle = cycle
+no_cycle edges set all none (rank ∷ others) cycle = true≢false (sym (all (rank ∷ others) cycle 0 (omega arith)) ∙ none rank)

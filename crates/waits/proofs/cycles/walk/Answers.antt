@@ -1,7 +1,7 @@
 use Rattle.std.proofs.Common.{◌∙◌, List, ℕ, sym, subst}
-use Rattle.waits.specs.Circles.{LeadTo}
-use Rattle.waits.proofs.CircleLaws.{LeadTo-push, HasBeen-push, AreApart-push, once-push}
-use Rattle.waits.proofs.circles.walk.Goals as goal
+use Rattle.waits.specs.Cycles.{LeadTo}
+use Rattle.waits.proofs.CycleLaws.{LeadTo-push, HasBeen-push, AreApart-push, once-push}
+use Rattle.waits.proofs.cycles.walk.Goals as goal
 
 pub loop-left-preserved : goal.loop-left-preserved
 loop-left-preserved c =
