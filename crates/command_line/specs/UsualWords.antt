@@ -49,12 +49,19 @@ pub record OptionWordsAreRead : Type 0 where
       → AskFor (name ∷ codes "check" ∷ codes "--json" ∷ p ∷ e ∷ []) task → task ≡ to_check p e 4 true
   pub check_json_between : (name p e : Text) (task : Task) → begins_with_hyphen p ≡ false → begins_with_hyphen e ≡ false
       → AskFor (name ∷ codes "check" ∷ p ∷ codes "--json" ∷ e ∷ []) task → task ≡ to_check p e 4 true
-  pub check_pieces : (name p e pieces : Text) (task : Task) → begins_with_hyphen p ≡ false → begins_with_hyphen e ≡ false → begins_with_hyphen pieces ≡ false
+  pub check_pieces : (name p e pieces : Text) (task : Task) → begins_with_hyphen p ≡ false → begins_with_hyphen e ≡ false
+      → begins_with_hyphen pieces ≡ false
       → AskFor (name ∷ codes "check" ∷ p ∷ e ∷ codes "--pieces" ∷ pieces ∷ []) task → task ≡ to_check p e (number_of pieces) false
-  pub prove_options_first : (name p file workers depth budget : Text) (task : Task) → begins_with_hyphen p ≡ false → begins_with_hyphen file ≡ false → begins_with_hyphen workers ≡ false → begins_with_hyphen depth ≡ false → begins_with_hyphen budget ≡ false
-      → AskFor (name ∷ codes "prove" ∷ codes "--out" ∷ file ∷ codes "--workers" ∷ workers ∷ codes "--depth" ∷ depth ∷ codes "--budget" ∷ budget ∷ codes "--progress" ∷ codes "--json" ∷ p ∷ []) task → task ≡ to_prove p (Some file) (number_of workers) (number_of depth) (number_of budget) true true
-  pub prove_options_last : (name p file workers depth budget : Text) (task : Task) → begins_with_hyphen p ≡ false → begins_with_hyphen file ≡ false → begins_with_hyphen workers ≡ false → begins_with_hyphen depth ≡ false → begins_with_hyphen budget ≡ false
-      → AskFor (name ∷ codes "prove" ∷ p ∷ codes "--out" ∷ file ∷ codes "--workers" ∷ workers ∷ codes "--depth" ∷ depth ∷ codes "--budget" ∷ budget ∷ codes "--progress" ∷ codes "--json" ∷ []) task → task ≡ to_prove p (Some file) (number_of workers) (number_of depth) (number_of budget) true true
+  pub prove_options_first : (name p file workers depth budget : Text) (task : Task) → begins_with_hyphen p ≡ false
+      → begins_with_hyphen file ≡ false → begins_with_hyphen workers ≡ false → begins_with_hyphen depth ≡ false → begins_with_hyphen budget ≡ false
+      → AskFor (name ∷ codes "prove" ∷ codes "--out" ∷ file ∷ codes "--workers" ∷ workers
+      ∷ codes "--depth" ∷ depth ∷ codes "--budget" ∷ budget ∷ codes "--progress" ∷ codes "--json" ∷ p ∷ []) task
+      → task ≡ to_prove p (Some file) (number_of workers) (number_of depth) (number_of budget) true true
+  pub prove_options_last : (name p file workers depth budget : Text) (task : Task) → begins_with_hyphen p ≡ false
+      → begins_with_hyphen file ≡ false → begins_with_hyphen workers ≡ false → begins_with_hyphen depth ≡ false → begins_with_hyphen budget ≡ false
+      → AskFor (name ∷ codes "prove" ∷ p ∷ codes "--out" ∷ file ∷ codes "--workers" ∷ workers
+      ∷ codes "--depth" ∷ depth ∷ codes "--budget" ∷ budget ∷ codes "--progress" ∷ codes "--json" ∷ []) task
+      → task ≡ to_prove p (Some file) (number_of workers) (number_of depth) (number_of budget) true true
 
 -- words in their usual order, where no file's name begins with a hyphen, have no fault
 pub record PlainWordsAreFaultless : Type 0 where
@@ -76,6 +83,7 @@ pub record PlainWordsAreFaultless : Type 0 where
       → fault_of command_line (name ∷ codes "explain" ∷ p ∷ e ∷ codes "--dot" ∷ []) ≡ []
   pub prove : (name p : Text) → begins_with_hyphen p ≡ false → fault_of command_line (name ∷ codes "prove" ∷ p ∷ []) ≡ []
   pub prove_as_json : (name p : Text) → begins_with_hyphen p ≡ false → fault_of command_line (name ∷ codes "prove" ∷ p ∷ codes "--json" ∷ []) ≡ []
-  pub prove_progress : (name p : Text) → begins_with_hyphen p ≡ false → fault_of command_line (name ∷ codes "prove" ∷ p ∷ codes "--progress" ∷ []) ≡ []
+  pub prove_progress : (name p : Text) → begins_with_hyphen p ≡ false
+      → fault_of command_line (name ∷ codes "prove" ∷ p ∷ codes "--progress" ∷ []) ≡ []
   pub prove_out : (name p file : Text) → begins_with_hyphen p ≡ false → begins_with_hyphen file ≡ false
       → fault_of command_line (name ∷ codes "prove" ∷ p ∷ codes "--out" ∷ file ∷ []) ≡ []
