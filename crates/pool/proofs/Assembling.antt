@@ -19,7 +19,7 @@ use Rattle.trees.specs.declared.tree.Kind.TheVariants.{Leaf}
 use Rattle.trees.specs.Laws.{AreLeavesRefuted}
 use Rattle.trees.specs.Trees.{TreeNode, TreeState, IsGrown, IsBelow, AreLeavesNumbered, path_at}
 use Rattle.trees.proofs.Splits.{kind_within, closed_refute, splits_sound}
-use Rattle.pool.specs.States.{Held, IsSound, IsOpen}
+use Rattle.pool.specs.States.{Held, IsSound, IsOpen, IsTreeOf}
 use Rattle.pool.proofs.Sizes.{few_nodes, shallow_below}
 
 number_named : (clauses : List (List Literal)) (n : ℕ) (clause : List Literal) → length clauses ≤ 2147483647 → clause_numbered clauses n ≡ Some clause → is_number n ≡ true
@@ -88,6 +88,10 @@ within_limits_of state variables clauses log lines nodes one two grown few_claus
     subst (λ (v : ℕ). IsRefutation (record { variables = v; clauses = clauses; lines = lines; nodes = nodes })) (sym one)
     (subst (λ (ls : List ProofLine). IsRefutation (record { variables = state.variables; clauses = clauses; lines = ls; nodes = nodes })) (sym two)
     (within_limits state clauses log nodes numbers below.0 grown few_clauses few_lines in_range below.1 below.2 tree_is numbered))
+
+-- the same nodes under another name
+pub tree_as : (nodes : List TreeNode) (numbers : List ℕ) (made claimed : List Node) → claimed ≡ made → IsTreeOf nodes numbers made → IsTreeOf nodes numbers claimed
+tree_as nodes numbers made claimed is tree = subst (IsTreeOf nodes numbers) (sym is) tree
 
 pub accepts_claim : (f : Conjunction) (log : List ProofLine) (state : TreeState) (numbers : List ℕ) (claim : ClaimedRefutation) (nodes : List Node) → claim.lines ≡ log → claim.nodes ≡ nodes → state.variables ≡ f.variables → IsGrown state → AreDerived f log → AreLeavesRefuted state.nodes (clauses_before f log) numbers → (tree : Tree) × (preorder tree ≡ nodes) × IsBelow state.nodes numbers tree 0 → Accepts f claim.lines claim.nodes
 accepts_claim f log state numbers claim nodes one two same grown derived refuted below =

@@ -44,6 +44,20 @@ pub not_zero : (clauses : List (List Literal)) (path : List Literal) (number : �
 not_zero clauses path zero r e = absurd (let told : ◌≡◌ {A = Option (List Literal)} None (Some r.clause) = r.named in cc)
 not_zero clauses path (suc n) r e = absurd (omega arith)
 
+-- the reasons are all the same to it
+pub sound_with : (h : Held) (reasons : List Why) → IsSound h → IsSound (record h { reasons = reasons })
+sound_with h reasons s =
+    record {
+      encoded = s.encoded;
+      few_lines = s.few_lines;
+      grown = s.grown;
+      variables = s.variables;
+      many = s.many;
+      derived = s.derived;
+      closed = s.closed;
+      stuck = s.stuck;
+    }
+
 pub sound_close : (h : Held) (leaf number : ℕ) → IsSound h → IsClosedBy h leaf number → IsSound (record h { closed = set h.closed leaf number })
 sound_close h leaf number s refuted =
     record {

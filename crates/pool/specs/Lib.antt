@@ -2,6 +2,7 @@ pub mod Batches
 pub mod Counts
 pub mod Growth
 pub mod Laws
+pub mod Ledgers
 pub mod Reasons
 pub mod Refusals
 pub mod Replies

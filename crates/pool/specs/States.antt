@@ -6,6 +6,8 @@ use Rattle.clauses.specs.Clauses.{Conjunction}
 use Rattle.semantics.specs.declared.state.Step.{Step}
 use Rattle.semantics.specs.Machine.{IsStuckRun}
 use Rattle.encode.specs.Encodings.{EncodedProgram, IsEncoded}
+use Rattle.refutations.specs.declared.tree.Node.{Node}
+use Rattle.refutations.specs.BinaryTrees.{Tree, preorder}
 use Rattle.refutations.specs.Derivations.{clauses_before}
 use Rattle.refutations.specs.Proofs.{ProofLine}
 use Rattle.refutations.specs.Refutations.{AreDerived, Accepts}
@@ -13,7 +15,7 @@ use Rattle.refutations.specs.Trees.{IsRefuted}
 use Rattle.prooflog.specs.Refutations.{ClaimedRefutation}
 use Rattle.prooflog.specs.declared.evidence.Evidence.{Evidence}
 use Rattle.prooflog.specs.declared.evidence.Evidence.TheVariants.{Schedule, Refutation}
-use Rattle.trees.specs.Trees.{TreeState, IsGrown, IsLeaf, HasNoRoom, path_at, split_at}
+use Rattle.trees.specs.Trees.{TreeNode, TreeState, IsGrown, IsBelow, IsLeaf, HasNoRoom, path_at, split_at}
 use Rattle.batches.specs.declared.BatchLine.{BatchLine}
 use Rattle.pool.specs.declared.entry.Deed.{Deed}
 use Rattle.pool.specs.declared.entry.Deed.TheVariants.{Publish, Fetch, Close, Split, Found, Leave}
@@ -43,9 +45,11 @@ pub record Held : Type 0 where
   pub schedule : Option (List Step)
   pub reasons : List Why
 
+-- all with the history; so many places are kept, each for one leave
 pub record Kept : Type 0 where
   pub held : Held
   pub history : List Entry
+  pub places : ℕ
 
 abbrev pub held_of : EncodedProgram → TreeState → List ℕ → List ProofLine → Option (List Step) → List Why → Held
 held_of encoded tree closed log schedule reasons = record {
@@ -60,7 +64,7 @@ held_of encoded tree closed log schedule reasons = record {
 
 -- all leaves of the tree are open, and there is nothing else
 abbrev pub opening : EncodedProgram → TreeState → Kept
-opening encoded tree = record { held = held_of encoded tree (replicate (length tree.nodes) 0) [] None []; history = [] }
+opening encoded tree = record { held = held_of encoded tree (replicate (length tree.nodes) 0) [] None []; history = []; places = 0 }
 
 -- the number of the next line: the formula's clauses are numbered from 1, and the lines after them
 abbrev pub next_number : Held → ℕ
@@ -119,7 +123,11 @@ abbrev pub after : Held → Item → Held
 after h item = after_deed h item.entry.deed item.lines item.steps
 
 abbrev pub noted : Kept → Item → Kept
-noted k item = record { held = after k.held item; history = k.history ++ item.entry ∷ [] }
+noted k item = record { held = after k.held item; history = k.history ++ item.entry ∷ []; places = k.places }
+
+-- so many places are kept
+abbrev pub with_places : Kept → ℕ → Kept
+with_places k places = record k { places = places }
 
 -- a reply that may be given to a call at this point. What a refused call was given is not told by its entry
 abbrev pub IsReply : Held → Deed → List ProofLine → List Step → Type 0
@@ -270,6 +278,10 @@ after_found k worker steps (Err found.NotStuck) = noted k (found_item worker ste
 
 -- ---- evidence
 
+-- the nodes are those of this tree in preorder, each leaf with the number of the clause that closes it
+abbrev pub IsTreeOf : List TreeNode → List ℕ → List Node → Type 0
+IsTreeOf nodes numbers claimed = (tree : Tree) × (preorder tree ≡ claimed) × IsBelow nodes numbers tree 0
+
 -- all leaves are closed and nothing was found, and the claim is the log with the tree, which refute the formula
 pub record IsRefutationOf (h : Held) (claim : ClaimedRefutation) : Type 0 where
   pub none_found : IsNone h.schedule
@@ -277,6 +289,7 @@ pub record IsRefutationOf (h : Held) (claim : ClaimedRefutation) : Type 0 where
   pub variables : claim.variables ≡ h.formula.variables
   pub clauses : claim.clauses ≡ length h.formula.clauses
   pub lines : claim.lines ≡ h.log
+  pub tree : IsTreeOf h.tree.nodes h.closed claim.nodes
   pub accepted : Accepts h.formula claim.lines claim.nodes
 
 -- the evidence is the schedule that was found, or else the refutation

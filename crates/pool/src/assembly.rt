@@ -7,6 +7,7 @@ ghost use Rattle.refutations.specs.Derivations.{clauses_before};
 ghost use Rattle.refutations.specs.Refutations.{AreDerived, Accepts};
 ghost use Rattle.prooflog.specs.Refutations.{is_line_in_range};
 ghost use Rattle.trees.specs.Laws.{AreLeavesRefuted};
+ghost use Rattle.pool.specs.States.{IsTreeOf};
 
 use callorder::Program;
 use clauses::Formula;
@@ -82,6 +83,7 @@ pub(crate) fn refutation_of(
     ensures variables { IfOk result (λ claim. claim.variables ≡ formula.now.variables) }
     ensures clauses { IfOk result (λ claim. claim.clauses ≡ length formula.now.clauses) }
     ensures lines { IfOk result (λ claim. claim.lines ≡ log.now) }
+    ensures tree { IfOk result (λ claim. IsTreeOf tree.now.nodes closed.now claim.nodes) }
     ensures accepted { IfOk result (λ claim. Accepts formula.now claim.lines claim.nodes) }
 {
     let _limits = tree.variables();

@@ -1,11 +1,11 @@
 //! The pool, and its calls.
 
-ghost use Rattle.std.specs.Prelude.{◌≡◌, ◌↔◌, ◌≤◌, ◌<◌, ◌+◌, ◌++◌, ◌∷◌, [], vec_len, vec_capacity, None, Some, ℕ, length, map, replicate, IfOk, IfErr, OnOk, OnErr, IsTrue, IsSome, Err};
+ghost use Rattle.std.specs.Prelude.{◌≡◌, ◌↔◌, ◌≤◌, ◌<◌, ◌+◌, ◌-◌, ◌++◌, ◌∷◌, [], None, Some, ℕ, length, map, replicate, IfOk, IfErr, OnOk, OnErr, IsTrue, IsSome, IsOk, Err};
 ghost use Rattle.std.specs.Option.{option_map};
 ghost use Rattle.trees.specs.Trees.{HasNoRoom, IsLeaf, path_at, split_at};
 ghost use Rattle.pool.specs.Counts.{open_count};
 ghost use Rattle.pool.specs.Reasons.{IsSmallest};
-ghost use Rattle.pool.specs.States.{opening, noted, next_number, first_of, with_reason, leave_item, IsOpen, IsClosedBy, IsVariable, IsPublished, published, IsFetched, fetched, IsClosed, closed, IsSplit, after_split, IsFound, after_found, IsAssembled, IsUndecided, IsSound};
+ghost use Rattle.pool.specs.States.{opening, noted, with_places, next_number, first_of, leave_item, IsOpen, IsClosedBy, IsVariable, IsPublished, published, IsFetched, fetched, IsClosed, closed, IsSplit, after_split, IsFound, after_found, IsTreeOf, IsAssembled, IsUndecided, IsSound};
 ghost use Rattle.pool.specs.Refusals.{IsSplitFault};
 ghost use Rattle.refutations.specs.Refutations.{Accepts};
 ghost use Rattle.semantics.specs.Machine.{IsStuckRun};
@@ -15,7 +15,8 @@ use crate::entry::{
     CloseFault, Deed, Entry, FetchFault, FoundFault, PathFault, PublishFault, SplitFault,
 };
 use crate::extend::extend;
-use crate::why::{Why, smallest};
+use crate::ledger::Ledger;
+use crate::why::Why;
 use batches::Batch;
 use callorder::Program;
 use clauses::{Formula, Lit};
@@ -52,10 +53,7 @@ pub struct Pool {
     log: Log,
     known: PartialAssignment,
     schedule: Option<Vec<Step>>,
-    reasons: Vec<Why>,
-    history: Vec<Entry>,
-    /// How many places are kept in the history and among the reasons, each for one call of `leave_kept`.
-    kept: usize,
+    ledger: Ledger,
 }
 
 impl Model for Pool {
@@ -66,25 +64,9 @@ impl Model for Pool {
 
     ghost Value = { Kept };
 
-    ghost view = { λ a. record { held = held_of a.encoded a.tree a.closed.items a.log (option_map (λ s. s.items) a.schedule) a.reasons.items; history = a.history.items } };
+    ghost view = { λ a. record { held = held_of a.encoded a.tree a.closed.items a.log (option_map (λ s. s.items) a.schedule) a.ledger.reasons; history = a.ledger.history; places = a.ledger.places } };
 
-    ghost invariant = { λ a. IsSound (held_of a.encoded a.tree a.closed.items a.log (option_map (λ s. s.items) a.schedule) a.reasons.items) × (a.open_leaves ≡ open_count a.tree.nodes a.closed.items) × (length a.known ≡ a.encoded.formula.variables + 1) };
-}
-
-/// Makes room for one more, so that the places that are kept stay free.
-fn reserve_beyond<T>(list: &mut Vec<T>, kept: usize) -> Result<(), AllocError>
-    ensures room { OnOk result (vec_len list.new + 1 ≤ vec_capacity list.new) }
-    ensures same { list.new.items ≡ list.old.items }
-{
-    list.reserve(kept.saturating_add(1))
-}
-
-/// Notes a call, for which there is room.
-fn note(history: &mut Vec<Entry>, worker: u32, deed: Deed)
-    requires { vec_len history.old + 1 ≤ vec_capacity history.old }
-    ensures { history.new.items ≡ history.old.items ++ (record { worker = worker; deed = deed }) ∷ [] }
-{
-    history.push_reserved(Entry { worker, deed });
+    ghost invariant = { λ a. IsSound (held_of a.encoded a.tree a.closed.items a.log (option_map (λ s. s.items) a.schedule) a.ledger.reasons) × (a.open_leaves ≡ open_count a.tree.nodes a.closed.items) × (length a.known ≡ a.encoded.formula.variables + 1) };
 }
 
 /// How many leaves the tree has.
@@ -127,21 +109,6 @@ fn split_open(
         }
         Err(trees::SplitFault::Memory) => Err(AllocError),
         Err(trees::SplitFault::TooMany) => unreachable!(),
-    }
-}
-
-/// Adds a reason beyond the places that are kept.
-fn add_reason(reasons: &mut Vec<Why>, kept: usize, why: Option<Why>) -> Result<(), AllocError>
-    ensures ok { OnOk result (reasons.new.items ≡ with_reason reasons.old.items why) }
-    ensures err { OnErr result (reasons.new.items ≡ reasons.old.items) }
-{
-    match why {
-        None => Ok(()),
-        Some(why) => {
-            reserve_beyond(reasons, kept)?;
-            reasons.push_reserved(why);
-            Ok(())
-        }
     }
 }
 
@@ -219,9 +186,7 @@ impl Pool {
             log: Log::new(alloc),
             known,
             schedule: None,
-            reasons: Vec::new(alloc),
-            history: Vec::new(alloc),
-            kept: 0,
+            ledger: Ledger::new(alloc),
         }
     }
 
@@ -252,7 +217,7 @@ impl Pool {
         ensures calls { result.now ≡ self.now.history }
         ensures sound { IsSound self.now.held }
     {
-        self.history.as_slice()
+        self.ledger.history()
     }
 
     fn is_open(&self, leaf: u32) -> bool
@@ -304,7 +269,7 @@ impl Pool {
         Status {
             is_found: self.schedule.is_some(),
             open_leaves: self.open_leaves,
-            why: smallest(&self.reasons),
+            why: self.ledger.why(),
         }
     }
 
@@ -324,7 +289,7 @@ impl Pool {
     }
 
     /// The schedule that was found, or else the refutation of the formula by all lines of the log and the
-    /// tree, which there is where all leaves are closed.
+    /// tree with the clauses that close its leaves, which there is where all leaves are closed.
     pub fn assemble(&self, alloc: Global) -> Result<Evidence, AssembleFault>
         ensures evidence { IfOk result (λ evidence. IsAssembled self.now.held evidence) }
         ensures open { result ≡ Err AssembleFault.Open ↔ IsUndecided self.now.held }
@@ -349,6 +314,7 @@ impl Pool {
         ensures variables { IfOk result (λ claim. claim.variables ≡ self.now.held.formula.variables) }
         ensures clauses { IfOk result (λ claim. claim.clauses ≡ length self.now.held.formula.clauses) }
         ensures lines { IfOk result (λ claim. claim.lines ≡ self.now.held.log) }
+        ensures tree { IfOk result (λ claim. IsTreeOf self.now.held.tree.nodes self.now.held.closed claim.nodes) }
         ensures accepted { IfOk result (λ claim. Accepts self.now.held.formula claim.lines claim.nodes) }
     {
         let formula = self.encoded.formula();
@@ -376,7 +342,7 @@ impl Pool {
         ensures reply { IsPublished self.old.held batch.now.lines.items result }
         ensures pool { self.new ≡ published self.old worker batch.now.lines.items result }
     {
-        if reserve_beyond(&mut self.history, self.kept).is_err() {
+        if self.ledger.reserve().is_err() {
             return Err(PublishFault::Memory);
         }
         let base = self.next_number();
@@ -385,18 +351,18 @@ impl Pool {
         let lines = batch.lines.as_slice();
         match extend(alloc, &mut self.known, formula, &mut self.log, base, lines) {
             Ok(()) => {
-                note(&mut self.history, worker, Deed::Publish(count, Ok(base)));
+                self.ledger.note(worker, Deed::Publish(count, Ok(base)));
                 Ok(base)
             }
             Err(PublishFault::Memory) => Err(PublishFault::Memory),
             Err(PublishFault::NotDerived(place)) => {
                 let reply = Err(PublishFault::NotDerived(place));
-                note(&mut self.history, worker, Deed::Publish(count, reply));
+                self.ledger.note(worker, Deed::Publish(count, reply));
                 Err(PublishFault::NotDerived(place))
             }
             Err(PublishFault::Full) => {
                 let reply = Err(PublishFault::Full);
-                note(&mut self.history, worker, Deed::Publish(count, reply));
+                self.ledger.note(worker, Deed::Publish(count, reply));
                 Err(PublishFault::Full)
             }
         }
@@ -407,22 +373,18 @@ impl Pool {
         ensures reply { IsFetched self.old.held from result }
         ensures pool { self.new ≡ fetched self.old worker from result }
     {
-        if reserve_beyond(&mut self.history, self.kept).is_err() {
+        if self.ledger.reserve().is_err() {
             return Err(FetchFault::Memory);
         }
         if self.log.len() < from {
             let reply = Err(FetchFault::PastEnd);
-            note(&mut self.history, worker, Deed::Fetch(from, reply));
+            self.ledger.note(worker, Deed::Fetch(from, reply));
             return Err(FetchFault::PastEnd);
         }
         let Ok(lines) = self.log.after(alloc, from) else {
             return Err(FetchFault::Memory);
         };
-        note(
-            &mut self.history,
-            worker,
-            Deed::Fetch(from, Ok(lines.len())),
-        );
+        self.ledger.note(worker, Deed::Fetch(from, Ok(lines.len())));
         Ok(lines)
     }
 
@@ -433,22 +395,22 @@ impl Pool {
         ensures reply { IsClosed self.old.held leaf number result }
         ensures pool { self.new ≡ closed self.old worker leaf number result }
     {
-        if reserve_beyond(&mut self.history, self.kept).is_err() {
+        if self.ledger.reserve().is_err() {
             return Err(CloseFault::Memory);
         }
         if !self.is_open(leaf) {
             let reply = Err(CloseFault::NotOpen);
-            note(&mut self.history, worker, Deed::Close(leaf, number, reply));
+            self.ledger.note(worker, Deed::Close(leaf, number, reply));
             return Err(CloseFault::NotOpen);
         }
         if !self.is_closed_by(leaf, number) {
             let reply = Err(CloseFault::NotRefuted);
-            note(&mut self.history, worker, Deed::Close(leaf, number, reply));
+            self.ledger.note(worker, Deed::Close(leaf, number, reply));
             return Err(CloseFault::NotRefuted);
         }
         self.closed[leaf as usize] = number;
         self.open_leaves -= 1;
-        note(&mut self.history, worker, Deed::Close(leaf, number, Ok(())));
+        self.ledger.note(worker, Deed::Close(leaf, number, Ok(())));
         Ok(())
     }
 
@@ -481,14 +443,14 @@ impl Pool {
         ensures reply { IsSplit self.old.held leaf variable result }
         ensures pool { self.new ≡ after_split self.old worker leaf variable result }
     {
-        if reserve_beyond(&mut self.history, self.kept).is_err() {
+        if self.ledger.reserve().is_err() {
             return Err(SplitFault::Memory);
         }
         match self.split_fault(leaf, variable) {
             None => {}
             Some(fault) => {
                 let deed = Deed::Split(leaf, variable, Err(fault));
-                note(&mut self.history, worker, deed);
+                self.ledger.note(worker, deed);
                 return Err(fault);
             }
         }
@@ -497,7 +459,7 @@ impl Pool {
         };
         self.open_leaves += 1;
         let deed = Deed::Split(leaf, variable, Ok(below));
-        note(&mut self.history, worker, deed);
+        self.ledger.note(worker, deed);
         Ok(below)
     }
 
@@ -507,32 +469,26 @@ impl Pool {
         ensures ok { OnOk result (self.new ≡ noted self.old (leave_item worker why)) }
         ensures err { OnErr result (self.new ≡ self.old) }
     {
-        reserve_beyond(&mut self.history, self.kept)?;
-        add_reason(&mut self.reasons, self.kept, why)?;
-        note(&mut self.history, worker, Deed::Leave(why));
-        Ok(())
+        self.ledger.leave(worker, why)
     }
 
     /// Keeps so many more places, each for one [`leave_kept`](Pool::leave_kept): the other calls leave them
     /// free. Where memory is wanting, none more is kept.
     pub fn keep_places(&mut self, places: usize) -> Result<(), AllocError>
-        ensures { self.new ≡ self.old }
+        ensures ok { OnOk result (self.new ≡ with_places self.old (self.old.places + places)) }
+        ensures err { OnErr result (self.new ≡ self.old) }
     {
-        let kept = self.kept.saturating_add(places);
-        self.history.reserve(kept)?;
-        self.reasons.reserve(kept)?;
-        self.kept = kept;
-        Ok(())
+        self.ledger.keep_places(places)
     }
 
     /// As [`leave`](Pool::leave), by a place that is kept: then no memory is asked for, and none is wanting.
-    /// Where no place is kept, it is `leave`. That no memory is asked for isn't proved.
+    /// Where no place is kept, it is `leave`.
     pub fn leave_kept(&mut self, worker: u32, why: Option<Why>) -> Result<(), AllocError>
-        ensures ok { OnOk result (self.new ≡ noted self.old (leave_item worker why)) }
+        ensures ok { OnOk result (self.new ≡ noted (with_places self.old (self.old.places - 1)) (leave_item worker why)) }
         ensures err { OnErr result (self.new ≡ self.old) }
+        ensures kept { 1 ≤ self.old.places → IsOk result }
     {
-        self.kept = self.kept.saturating_sub(1);
-        self.leave(worker, why)
+        self.ledger.leave_kept(worker, why)
     }
 
     /// Keeps the first schedule that is a run of the program that ends stuck; later ones change the
@@ -541,19 +497,19 @@ impl Pool {
         ensures reply { IsFound self.old.held steps.items result }
         ensures pool { self.new ≡ after_found self.old worker steps.items result }
     {
-        if reserve_beyond(&mut self.history, self.kept).is_err() {
+        if self.ledger.reserve().is_err() {
             return Err(FoundFault::Memory);
         }
         let count = steps.len();
         match ends_stuck(alloc, self.encoded.program(), &steps) {
             Ok(true) => {
                 keep_first(&mut self.schedule, steps);
-                note(&mut self.history, worker, Deed::Found(count, Ok(())));
+                self.ledger.note(worker, Deed::Found(count, Ok(())));
                 Ok(())
             }
             Ok(false) => {
                 let reply = Err(FoundFault::NotStuck);
-                note(&mut self.history, worker, Deed::Found(count, reply));
+                self.ledger.note(worker, Deed::Found(count, reply));
                 Err(FoundFault::NotStuck)
             }
             Err(AllocError) => Err(FoundFault::Memory),

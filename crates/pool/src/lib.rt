@@ -13,6 +13,7 @@ mod events;
 mod extend;
 mod keep;
 mod laws;
+mod ledger;
 mod share;
 mod why;
 

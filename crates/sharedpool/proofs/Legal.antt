@@ -1,5 +1,5 @@
 -- A legal history that goes on.
-use Rattle.std.proofs.Common.{◌≡◌, ℕ, Bool, true, false, ◌==◌, if◌then◌else◌, cond, ◌+◌, List, [], ◌∷◌, ◌++◌, length, map, refl, sym, ap, ◌∙◌, subst, arith}
+use Rattle.std.proofs.Common.{◌≡◌, ℕ, Bool, true, false, ◌==◌, if◌then◌else◌, cond, ◌+◌, ◌<◌, ◌≤◌, List, [], ◌∷◌, ◌++◌, length, map, refl, sym, ap, ◌∙◌, subst, arith}
 use Rattle.std.proofs.lemmas.List.{map-append}
 use Rattle.std.proofs.lemmas.List.Sums.{sum_by-cons}
 use Rattle.std.specs.List.{count_by}
@@ -7,10 +7,12 @@ use Rattle.atomic_table.specs.Seated.{TableId}
 use Rattle.crossbeam_utils.specs.Seq.{cell_view}
 use Rattle.pool.specs.declared.entry.Entry.{Entry}
 use Rattle.pool.specs.declared.entry.Item.{Item}
-use Rattle.pool.specs.States.{Held, Kept, after, after_all, noted, IsStep, IsRun, IsLegal}
+use Rattle.pool.specs.States.{Held, Kept, after, after_all, noted, with_places, IsStep, IsRun, IsLegal}
 use Rattle.sharedpool.specs.declared.room.View.{View}
-use Rattle.sharedpool.specs.Views.{knower, items_of}
-use Rattle.sharedpool.specs.Seats.{Token, Chair, IsSeat, IsLocked, AreReady, AreNoted, HoldsOver, told}
+use Rattle.sharedpool.specs.Leaves.{leavers}
+use Rattle.sharedpool.specs.Views.{knower, taker, sitting, items_of}
+use Rattle.sharedpool.specs.Seats.{Token, Chair, Shared, IsSeat, IsLocked, AreReady, AreMatched, AreNoted, HoldsOver, told}
+use Rattle.sharedpool.proofs.Places.{leavers_more}
 
 -- ---- runs
 
@@ -29,6 +31,10 @@ legal_more opening items item k legal step =
       run = run_more opening items item legal.run (subst (λ h. IsStep h item) legal.ends step);
       ends = ap (λ h. after h item) legal.ends ∙ sym (after_all_more opening items item);
     }
+
+-- how many places are kept is all the same to it
+legal_with : (opening : Held) (items : List Item) (k : Kept) (places : ℕ) → IsLegal opening items k → IsLegal opening items (with_places k places)
+legal_with opening items k places legal = record { entries = legal.entries; run = legal.run; ends = legal.ends }
 
 -- ---- the lock and a seat after one call
 
@@ -51,22 +57,72 @@ chair worker mine = record { worker = worker; mine = mine }
 pub sits_as : (table : TableId) (worker : ℕ) (seat : Token) → IsSeat table worker seat → (cell_view seat).worker ≡ worker
 sits_as table worker seat sits = ap (λ (v : View). v.worker) sits.knows
 
--- the lock's value after one call that is in the history
-pub locked_more : (table : TableId) (opening : Held) (old new : Kept) (workers : ℕ) (keeper later seat after : Token) (item : Item)
-    → IsLocked table opening old workers keeper → AreNoted keeper later seat after item → new ≡ noted old item → IsStep old.held item → IsLocked table opening new workers later
-locked_more table opening old new workers keeper later seat after item was noted_as grew step =
+-- the lock's value after one call that is in the history, and after which so many places are kept
+pub locked_with : (table : TableId) (opening : Held) (old new : Kept) (workers : ℕ) (keeper later seat after : Token) (item : Item) (places : ℕ)
+    → IsLocked table opening old workers keeper → AreNoted keeper later seat after item → new ≡ noted (with_places old places) item → IsStep old.held item
+    → workers ≤ places + leavers workers ((cell_view keeper).all ++ item ∷ []) → IsLocked table opening new workers later
+locked_with table opening old new workers keeper later seat after item places was noted_as grew step kept =
     let items : List Item = (cell_view keeper).all in
     let all : (cell_view later).all ≡ items ++ item ∷ [] = ap (λ (v : View). v.all) noted_as.all in
-    let legal : IsLegal opening (items ++ item ∷ []) (noted old item) = legal_more opening items item old was.legal step in
+    let before : Kept = with_places old places in
+    let legal : IsLegal opening (items ++ item ∷ []) (noted before item) = legal_more opening items item before (legal_with opening items old places was.legal) step in
     record {
       of = noted_as.keeper_of ∙ was.of;
       knows =
-          noted_as.all ∙ ap (λ n. knower n (items ++ item ∷ [])) (ap (λ (v : View). v.workers) was.knows)
+          noted_as.all ∙ ap (λ n. taker n (items ++ item ∷ []) (cell_view keeper).taken) (ap (λ (v : View). v.workers) was.knows)
+          ∙ ap (taker workers (items ++ item ∷ [])) (ap (λ (v : View). v.taken) was.knows)
           ∙ ap (knower workers) (sym all);
       some_worker = was.some_worker;
       sound = was.sound;
-      legal = subst (λ (k : Kept). IsLegal opening (cell_view later).all k) (sym grew) (subst (λ (l : List Item). IsLegal opening l (noted old item)) (sym all) legal);
+      legal = subst (λ (k : Kept). IsLegal opening (cell_view later).all k) (sym grew) (subst (λ (l : List Item). IsLegal opening l (noted before item)) (sym all) legal);
+      places = subst (λ (k : Kept). workers ≤ k.places + leavers workers (cell_view later).all) (sym grew) (subst (λ (l : List Item). workers ≤ places + leavers workers l) (sym all) kept);
     }
+
+-- the same where no place is taken
+pub locked_more : (table : TableId) (opening : Held) (old new : Kept) (workers : ℕ) (keeper later seat after : Token) (item : Item)
+    → IsLocked table opening old workers keeper → AreNoted keeper later seat after item → new ≡ noted old item → IsStep old.held item → IsLocked table opening new workers later
+locked_more table opening old new workers keeper later seat after item was noted_as grew step =
+    locked_with table opening old new workers keeper later seat after item old.places was noted_as grew step
+    (omega (arith, was.places, leavers_more workers (cell_view keeper).all item))
+
+-- the lock's value and a seat after their lists were compared
+pub locked_same : (table : TableId) (opening : Held) (pool : Kept) (workers : ℕ) (keeper later seat after : Token)
+    → IsLocked table opening pool workers keeper → AreMatched keeper later seat after → IsLocked table opening pool workers later
+locked_same table opening pool workers keeper later seat after was matched =
+    let items : List Item = (cell_view keeper).all in
+    let all : (cell_view later).all ≡ items = ap (λ (v : View). v.all) matched.all in
+    record {
+      of = matched.keeper_of ∙ was.of;
+      knows =
+          matched.all ∙ ap (λ n. taker n items (cell_view keeper).taken) (ap (λ (v : View). v.workers) was.knows)
+          ∙ ap (taker workers items) (ap (λ (v : View). v.taken) was.knows)
+          ∙ ap (knower workers) (sym all);
+      some_worker = was.some_worker;
+      sound = was.sound;
+      legal = subst (λ (l : List Item). IsLegal opening l pool) (sym all) was.legal;
+      places = subst (λ (l : List Item). workers ≤ pool.places + leavers workers l) (sym all) was.places;
+    }
+
+pub seat_same : (table : TableId) (worker : ℕ) (keeper later seat after : Token) → IsSeat table worker seat → AreMatched keeper later seat after → IsSeat table worker after
+seat_same table worker keeper later seat after sits matched =
+    record {
+      of = matched.seat_of ∙ sits.of;
+      free = matched.free;
+      knows =
+          matched.told ∙ ap (λ n. sitting n (cell_view seat).mine) (sits_as table worker seat sits)
+          ∙ ap (sitting worker) (sym (ap (λ (v : View). v.mine) matched.told));
+    }
+
+-- what is told of a seat and of what is locked, by other names
+pub mine_as : (seat told_seat : Chair) (shared told_shared : Shared) → seat ≡ told_seat → shared ≡ told_shared
+    → told_seat.mine ≡ items_of told_seat.worker told_shared.items → seat.mine ≡ items_of seat.worker shared.items
+mine_as seat told_seat shared told_shared one two mine =
+    subst (λ (s : Chair). s.mine ≡ items_of s.worker shared.items) (sym one) (subst (λ (l : Shared). told_seat.mine ≡ items_of told_seat.worker l.items) (sym two) mine)
+
+pub below_as : (seat told_seat : Chair) (shared told_shared : Shared) → seat ≡ told_seat → shared ≡ told_shared
+    → told_seat.worker < told_shared.workers → seat.worker < shared.workers
+below_as seat told_seat shared told_shared one two below =
+    subst (λ (s : Chair). s.worker < shared.workers) (sym one) (subst (λ (l : Shared). told_seat.worker < l.workers) (sym two) below)
 
 -- the seat after it
 pub seat_told : (worker : ℕ) (keeper later seat after : Token) (item : Item) → AreNoted keeper later seat after item

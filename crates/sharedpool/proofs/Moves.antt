@@ -7,7 +7,7 @@ use Rattle.crossbeam_utils.specs.Register.{Turns, Forks, Merges}
 use Rattle.atomic_table.proofs.Lists.{at_set, set_again}
 use Rattle.pool.specs.declared.entry.Item.{Item}
 use Rattle.sharedpool.specs.declared.room.View.{View}
-use Rattle.sharedpool.specs.Views.{items_of, AllBelow, nobody, knower, one_more, next_seat, with_seat, keeper_of, seat_of, with_item, Fits, Kept, Added, Compared}
+use Rattle.sharedpool.specs.Views.{items_of, AllBelow, IsNoneOf, AreDifferent, nobody, knower, taker, one_more, next_seat, with_seat, keeper_of, seat_of, with_item, Fits, Kept, Added, Looked, TakenBack}
 
 off : {A : Type 0} → false ≡ true → A
 off e = absurd (true≢false (sym e))
@@ -70,8 +70,8 @@ all_snoc F views w old new j u e =
 
 -- moves
 
-fits_nobody : (keeper workers : ℕ) (all : List Item) (place : ℕ → ℕ) (by : ℕ) → Fits keeper workers all place by nobody
-fits_nobody keeper workers all place by = record { keeps = λ e. off e; sits = λ e. off e }
+fits_nobody : (keeper workers : ℕ) (all : List Item) (taken : List ℕ) (place : ℕ → ℕ) (by : ℕ) → Fits keeper workers all taken place by nobody
+fits_nobody keeper workers all taken place by = record { keeps = λ e. off e; sits = λ e. off e }
 
 pub begins : (words : List ℕ) → Kept words (knower 0 [] ∷ [])
 begins words =
@@ -79,13 +79,15 @@ begins words =
       keeper = 0;
       workers = 0;
       all = [];
+      taken = [];
       place = λ _. 0;
       below = tt;
+      different = tt;
       each = one;
     }
   where
-    one : (by : ℕ) (v : View) → get_elem? (knower 0 [] ∷ []) by ≡ some v → Fits 0 0 [] (λ _. 0) by v
-    one zero v e = subst (Fits 0 0 [] (λ _. 0) 0) (some-injective _ _ e) (record { keeps = λ _. (refl, refl, refl); sits = λ s. off s })
+    one : (by : ℕ) (v : View) → get_elem? (knower 0 [] ∷ []) by ≡ some v → Fits 0 0 [] [] (λ _. 0) by v
+    one zero v e = subst (Fits 0 0 [] [] (λ _. 0) 0) (some-injective _ _ e) (record { keeps = λ _. (refl, refl, refl, refl); sits = λ s. off s })
     one (suc by) v e = absurd (some-ne-none v (sym e))
 
 -- who sits where, once one worker sits in another pass
@@ -104,11 +106,13 @@ blanks by v words views h at =
       keeper = h.keeper;
       workers = h.workers;
       all = h.all;
+      taken = h.taken;
       place = h.place;
       below = h.below;
-      each = all_snoc (Fits h.keeper h.workers h.all h.place) (set views by v) nobody
+      different = h.different;
+      each = all_snoc (Fits h.keeper h.workers h.all h.taken h.place) (set views by v) nobody
           (λ j u e. h.each j u (subst (λ l. get_elem? l j ≡ some u) (set_again views by v at) e))
-          (fits_nobody h.keeper h.workers h.all h.place (length (set views by v)));
+          (fits_nobody h.keeper h.workers h.all h.taken h.place (length (set views by v)));
     }
 
 pub joins : (by : ℕ) (v : View) (other : ℕ) (u : View) → v.keeps ≡ true → u.sits ≡ true → Merges Kept by v other u (with_seat v u) nobody
@@ -117,21 +121,23 @@ joins by v other u keeps sits words views h at apart there =
     let was : get_elem? views other ≡ some u = ⊎_elim (λ (x : (other ≡ by) × (with_seat v u ≡ u)). absurd (apart x.0)) (λ (x : (other ≢ by) × (get_elem? views other ≡ some u)). x.1) (at_set views by other (with_seat v u) u there) in
     let theirs = (h.each other u was).sits sits in
     let place : ℕ → ℕ = moved u.worker by h.place in
-    let Now : ℕ → View → Type 0 = λ j x. j ≢ other → Fits h.keeper h.workers h.all place j x in
+    let Now : ℕ → View → Type 0 = λ j x. j ≢ other → Fits h.keeper h.workers h.all h.taken place j x in
     record {
       keeper = h.keeper;
       workers = h.workers;
       all = h.all;
+      taken = h.taken;
       place = place;
       below = h.below;
-      each = all_set (Fits h.keeper h.workers h.all place) (set views by (with_seat v u)) other nobody
-          (fits_nobody h.keeper h.workers h.all place other)
+      different = h.different;
+      each = all_set (Fits h.keeper h.workers h.all h.taken place) (set views by (with_seat v u)) other nobody
+          (fits_nobody h.keeper h.workers h.all h.taken place other)
           (λ j x away e. all_set Now views by (with_seat v u)
-          (λ _. record { keeps = λ _. mine; sits = λ _. (sym (moved-here u.worker by h.place), theirs.1, theirs.2) })
+          (λ _. record { keeps = λ _. mine; sits = λ _. (sym (moved-here u.worker by h.place), theirs.1, theirs.2, theirs.3) })
           (λ i y off_by e' off_other. record {
             keeps = λ k. absurd (off_by (((h.each i y e').keeps k).0 ∙ sym mine.0));
             sits = λ q. let t = (h.each i y e').sits q in
-                (t.0 ∙ sym (moved-there u.worker by h.place y.worker (λ same. off_other (t.0 ∙ ap h.place same ∙ sym theirs.0))), t.1, t.2);
+                (t.0 ∙ sym (moved-there u.worker by h.place y.worker (λ same. off_other (t.0 ∙ ap h.place same ∙ sym theirs.0))), t.1, t.2, t.3);
           })
           j x e away);
     }
@@ -145,17 +151,19 @@ adds by v item keeps sits is words views h at =
         keeper = h.keeper;
         workers = h.workers;
         all = h.all ++ item ∷ [];
+        taken = h.taken;
         place = h.place;
         below = below-push h.workers h.all item h.below (subst (λ n. n < h.workers) is s.1);
-        each = all_set (Fits h.keeper h.workers (h.all ++ item ∷ []) h.place) views by (with_item v item)
+        different = h.different;
+        each = all_set (Fits h.keeper h.workers (h.all ++ item ∷ []) h.taken h.place) views by (with_item v item)
             (record {
-              keeps = λ _. (k.0, k.1, ap (λ l. l ++ item ∷ []) k.2);
-              sits = λ _. (s.0, s.1, ap (λ l. l ++ item ∷ []) s.2 ∙ sym (items_of-mine v.worker h.all item (sym is)));
+              keeps = λ _. (k.0, k.1, ap (λ l. l ++ item ∷ []) k.2, k.3);
+              sits = λ _. (s.0, s.1, ap (λ l. l ++ item ∷ []) s.2 ∙ sym (items_of-mine v.worker h.all item (sym is)), s.3);
             })
             (λ j u apart e. record {
               keeps = λ q. absurd (apart (((h.each j u e).keeps q).0 ∙ sym k.0));
               sits = λ q. let t = (h.each j u e).sits q in
-                  (t.0, t.1, t.2 ∙ sym (items_of-other u.worker h.all item (λ same. apart (t.0 ∙ ap h.place (sym same ∙ sym is) ∙ sym s.0))));
+                  (t.0, t.1, t.2 ∙ sym (items_of-other u.worker h.all item (λ same. apart (t.0 ∙ ap h.place (sym same ∙ sym is) ∙ sym s.0))), t.3);
             });
       },
       (refl, s.2 ∙ ap (items_of v.worker) (sym k.2)),
@@ -171,21 +179,23 @@ parts by v keeps sits words views h at =
       keeper = h.keeper;
       workers = h.workers;
       all = h.all;
+      taken = h.taken;
       place = place;
       below = h.below;
-      each = all_snoc (Fits h.keeper h.workers h.all place) after (seat_of v)
-          (all_set (Fits h.keeper h.workers h.all place) views by (keeper_of v)
+      different = h.different;
+      each = all_snoc (Fits h.keeper h.workers h.all h.taken place) after (seat_of v)
+          (all_set (Fits h.keeper h.workers h.all h.taken place) views by (keeper_of v)
           (record { keeps = λ _. k; sits = λ e. off e })
           (λ j u apart e. record {
             keeps = λ q. absurd (apart (((h.each j u e).keeps q).0 ∙ sym k.0));
             sits = λ q. let t = (h.each j u e).sits q in
-                (t.0 ∙ sym (moved-there v.worker (length after) h.place u.worker (λ same. apart (t.0 ∙ ap h.place same ∙ sym s.0))), t.1, t.2);
+                (t.0 ∙ sym (moved-there v.worker (length after) h.place u.worker (λ same. apart (t.0 ∙ ap h.place same ∙ sym s.0))), t.1, t.2, t.3);
           }))
-          (record { keeps = λ e. off e; sits = λ _. (sym (moved-here v.worker (length after) h.place), s.1, s.2) });
+          (record { keeps = λ e. off e; sits = λ _. (sym (moved-here v.worker (length after) h.place), s.1, s.2, s.3) });
     }
 
-pub seats : (by : ℕ) (v : View) → v.keeps ≡ true → Forks Kept by v (one_more v) (next_seat v)
-seats by v keeps words views h at =
+pub seats : (by : ℕ) (v : View) → v.keeps ≡ true → v.taken ≡ [] → Forks Kept by v (one_more v) (next_seat v)
+seats by v keeps none words views h at =
     let k = (h.each by v at).keeps keeps in
     let after = set views by (one_more v) in
     let place : ℕ → ℕ = moved v.workers (length after) h.place in
@@ -193,36 +203,70 @@ seats by v keeps words views h at =
       keeper = h.keeper;
       workers = h.workers + 1;
       all = h.all;
+      taken = h.taken;
       place = place;
       below = below-more h.workers h.all h.below;
-      each = all_snoc (Fits h.keeper (h.workers + 1) h.all place) after (next_seat v)
-          (all_set (Fits h.keeper (h.workers + 1) h.all place) views by (one_more v)
-          (record { keeps = λ _. (k.0, ap (λ n. n + 1) k.1, k.2); sits = λ e. off e })
+      different = h.different;
+      each = all_snoc (Fits h.keeper (h.workers + 1) h.all h.taken place) after (next_seat v)
+          (all_set (Fits h.keeper (h.workers + 1) h.all h.taken place) views by (one_more v)
+          (record { keeps = λ _. (k.0, ap (λ n. n + 1) k.1, k.2, sym none ∙ k.3); sits = λ e. off e })
           (λ j u apart e. record {
             keeps = λ q. absurd (apart (((h.each j u e).keeps q).0 ∙ sym k.0));
             sits = λ q. let t = (h.each j u e).sits q in
-                (t.0 ∙ sym (moved-there v.workers (length after) h.place u.worker (λ same. omega (arith, t.1, same, k.1))), omega (arith, t.1), t.2);
+                (t.0 ∙ sym (moved-there v.workers (length after) h.place u.worker (λ same. omega (arith, t.1, same, k.1))), omega (arith, t.1), t.2, t.3);
           }))
           (record {
             keeps = λ e. off e;
-            sits = λ _. (sym (moved-here v.workers (length after) h.place), omega (arith, k.1), sym (items_of-below v.workers h.all (subst (λ n. AllBelow n h.all) (sym k.1) h.below)));
+            sits = λ _. (sym (moved-here v.workers (length after) h.place), omega (arith, k.1), sym (items_of-below v.workers h.all (subst (λ n. AllBelow n h.all) (sym k.1) h.below)), subst (λ l. IsNoneOf l v.workers) (sym none ∙ k.3) tt);
           });
     }
 
-pub compares : (by : ℕ) (v : View) → v.keeps ≡ true → v.sits ≡ true → Turns Kept by v (λ x. x) Compared
-compares by v keeps sits words views h at =
+pub looks : (by : ℕ) (v : View) → v.keeps ≡ true → v.sits ≡ true → Turns Kept by v (λ x. x) Looked
+looks by v keeps sits words views h at =
     let k = (h.each by v at).keeps keeps in
     let s = (h.each by v at).sits sits in (
-      keeper_of v,
+      v,
       record {
         keeper = h.keeper;
         workers = h.workers;
         all = h.all;
+        taken = h.taken;
         place = h.place;
         below = h.below;
-        each = all_set (Fits h.keeper h.workers h.all h.place) views by (keeper_of v)
-            (record { keeps = λ _. k; sits = λ e. off e })
-            (λ j u apart e. h.each j u e);
+        different = h.different;
+        each = all_set (Fits h.keeper h.workers h.all h.taken h.place) views by v (h.each by v at) (λ j u apart e. h.each j u e);
       },
-      (refl, s.2 ∙ ap (items_of v.worker) (sym k.2), omega (arith, s.1, k.1), subst (λ n. AllBelow n v.all) (sym k.1) (subst (AllBelow h.workers) (sym k.2) h.below)),
+      (refl, s.2 ∙ ap (items_of v.worker) (sym k.2), omega (arith, s.1, k.1)),
+    )
+
+pub takes_back : (by : ℕ) (v : View) → v.keeps ≡ true → v.sits ≡ true → Turns Kept by v (λ x. x) TakenBack
+takes_back by v keeps sits words views h at =
+    let k = (h.each by v at).keeps keeps in
+    let s = (h.each by v at).sits sits in
+    let after : View = taker v.workers v.all (v.worker ∷ v.taken) in
+    let different : AreDifferent (v.worker ∷ h.taken) = (s.3, h.different) in (
+      after,
+      record {
+        keeper = h.keeper;
+        workers = h.workers;
+        all = h.all;
+        taken = v.worker ∷ h.taken;
+        place = h.place;
+        below = h.below;
+        different = different;
+        each = all_set (Fits h.keeper h.workers h.all (v.worker ∷ h.taken) h.place) views by after
+            (record { keeps = λ _. (k.0, k.1, k.2, ap (λ l. v.worker ∷ l) k.3); sits = λ e. off e })
+            (λ j u apart e. record {
+              keeps = λ q. absurd (apart (((h.each j u e).keeps q).0 ∙ sym k.0));
+              sits = λ q. let t = (h.each j u e).sits q in
+                  (t.0, t.1, t.2, (λ same. apart (t.0 ∙ ap h.place (sym same) ∙ sym s.0), t.3));
+            });
+      },
+      (
+        refl,
+        s.2 ∙ ap (items_of v.worker) (sym k.2),
+        omega (arith, s.1, k.1),
+        subst (λ n. AllBelow n v.all) (sym k.1) (subst (AllBelow h.workers) (sym k.2) h.below),
+        subst (λ l. AreDifferent (v.worker ∷ l)) (sym k.3) different,
+      ),
     )

@@ -1,4 +1,5 @@
 pub mod Laws
+pub mod Leaves
 pub mod Nothing
 pub mod Seats
 pub mod Views

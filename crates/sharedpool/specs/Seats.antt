@@ -27,7 +27,8 @@ use Rattle.pool.specs.declared.why.Why.{Why}
 use Rattle.pool.specs.Replies.{resolved_lines, FailsAt}
 use Rattle.pool.specs.States.{Held, Kept, IsSound, IsLegal, IsRun, after_all, publish_item, fetch_item, close_item, split_item, found_item, leave_item}
 use Rattle.sharedpool.specs.declared.room.View.{View}
-use Rattle.sharedpool.specs.Views.{knower, sitting, items_of, AllBelow}
+use Rattle.sharedpool.specs.Leaves.{leavers}
+use Rattle.sharedpool.specs.Views.{knower, taker, sitting, items_of, AllBelow, AreDifferent}
 
 abbrev pub Token : Type 0
 Token = Seat (List ℕ) (Doing (List ℕ) View)
@@ -49,13 +50,15 @@ pub record IsSeat (table : TableId) (worker : ℕ) (pass : Token) : Type 0 where
   pub free : pass.me.1 ≡ []
   pub knows : cell_view pass ≡ sitting worker (cell_view pass).mine
 
--- the keeper's items are the history of the pool, which goes from the opening pool to this one
+-- The keeper's items are the history of the pool, which goes from the opening pool to this one. A place is kept for each worker
+-- that has not left
 pub record IsLocked (table : TableId) (opening : Held) (pool : Kept) (workers : ℕ) (keeper : Token) : Type 0 where
   pub of : keeper.table_id ≡ table
   pub knows : cell_view keeper ≡ knower workers (cell_view keeper).all
   pub some_worker : 1 ≤ workers
   pub sound : IsSound opening
   pub legal : IsLegal opening (cell_view keeper).all pool
+  pub places : workers ≤ pool.places + leavers workers (cell_view keeper).all
 
 -- a keeper and the seat of the item's worker, both of this cell
 pub record AreReady (table : TableId) (keeper seat : Token) (item : Item) : Type 0 where
@@ -66,12 +69,22 @@ pub record AreReady (table : TableId) (keeper seat : Token) (item : Item) : Type
   pub sits : (cell_view seat).sits ≡ true
   pub worker : (cell_view seat).worker ≡ item.entry.worker
 
+-- a keeper and a seat are as they were, and the seat's list is its worker's items
+pub record AreMatched (keeper keeper_after seat seat_after : Token) : Type 0 where
+  pub keeper_of : keeper_after.table_id ≡ keeper.table_id
+  pub seat_of : seat_after.table_id ≡ seat.table_id
+  pub free : seat_after.me.1 ≡ []
+  pub all : cell_view keeper_after ≡ taker (cell_view keeper).workers (cell_view keeper).all (cell_view keeper).taken
+  pub told : cell_view seat_after ≡ sitting (cell_view seat).worker (cell_view seat).mine
+  pub mine : (cell_view seat).mine ≡ items_of (cell_view seat).worker (cell_view keeper).all
+  pub below : (cell_view seat).worker < (cell_view keeper).workers
+
 -- the item is added to the lists of a keeper and of a seat, which was its worker's items so far
 pub record AreNoted (keeper keeper_after seat seat_after : Token) (item : Item) : Type 0 where
   pub keeper_of : keeper_after.table_id ≡ keeper.table_id
   pub seat_of : seat_after.table_id ≡ seat.table_id
   pub free : seat_after.me.1 ≡ []
-  pub all : cell_view keeper_after ≡ knower (cell_view keeper).workers ((cell_view keeper).all ++ item ∷ [])
+  pub all : cell_view keeper_after ≡ taker (cell_view keeper).workers ((cell_view keeper).all ++ item ∷ []) (cell_view keeper).taken
   pub told : cell_view seat_after ≡ sitting (cell_view seat).worker ((cell_view seat).mine ++ item ∷ [])
   pub mine : (cell_view seat).mine ≡ items_of (cell_view seat).worker (cell_view keeper).all
 
@@ -151,16 +164,17 @@ IsRefusedOver formula mine batch place =
 abbrev pub AreNumbered : List Chair → Type 0
 AreNumbered seats = (k : ℕ) (seat : Chair) → k < length seats → slice_get seats k ≡ Some seat → seat.worker ≡ k
 
--- they are so many, in order of their workers
-abbrev pub AreAllSeats : ℕ → List Chair → Type 0
-AreAllSeats workers seats = (length seats ≡ workers) × AreNumbered seats
+-- the workers of the seats, in order of the seats
+abbrev pub workers_of : List Chair → List ℕ
+workers_of seats = map (λ (seat : Chair). seat.worker) seats
 
--- There is one legal history. Its items of each worker, in order, are that worker's seat's list, and there are no others. The
--- counts are how many entries each worker has
+-- There is one legal history. Its items of each worker, in order, are that worker's seat's list, and there are no others. Each
+-- worker has one of the seats, whichever order they stand in. The counts are how many entries each worker has
 pub record IsFinished (opening : Held) (seats : List Chair) (pool : Kept) (counts : List ℕ) : Type 0 where
   pub items : List Item
   pub legal : IsLegal opening items pool
-  pub numbered : AreNumbered seats
+  pub different : AreDifferent (workers_of seats)
+  pub below : All (λ (seat : Chair). seat.worker < length seats) seats
   pub lists : All (λ (seat : Chair). seat.mine ≡ items_of seat.worker items) seats
   pub others : AllBelow (length seats) items
   pub counts_are : counts ≡ map (λ worker. length (items_of worker items)) (range_with_len 0 (length seats))

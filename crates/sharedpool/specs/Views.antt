@@ -1,5 +1,6 @@
 -- The rule of the cell beside the lock. One pass at most knows all items. Each seat's list is, in order, that worker's items among them, and there are no others.
-use Rattle.std.specs.Prelude.{◌≡◌, ℕ, ◌+◌, ◌<◌, ◌==◌, true, false, if◌then◌else◌, List, [], ◌∷◌, ◌++◌}
+-- No worker has two seats, and none whose seat was taken back has one
+use Rattle.std.specs.Prelude.{◌≡◌, ◌≢◌, ℕ, ◌+◌, ◌<◌, ◌==◌, true, false, if◌then◌else◌, List, [], ◌∷◌, ◌++◌}
 use mathlib.Core.Option.{some}
 use lib.ListN.{get_elem?}
 use Rattle.pool.specs.declared.entry.Item.{Item}
@@ -15,8 +16,18 @@ abbrev pub AllBelow : ℕ → List Item → Type 0
 AllBelow workers [] = Unit {0}
 AllBelow workers (item ∷ items) = (item.entry.worker < workers) × AllBelow workers items
 
+-- none of these workers is this one
+abbrev pub IsNoneOf : List ℕ → ℕ → Type 0
+IsNoneOf [] worker = Unit {0}
+IsNoneOf (other ∷ others) worker = (other ≢ worker) × IsNoneOf others worker
+
+-- no two of these workers are the same
+abbrev pub AreDifferent : List ℕ → Type 0
+AreDifferent [] = Unit {0}
+AreDifferent (worker ∷ workers) = IsNoneOf workers worker × AreDifferent workers
+
 abbrev pub nobody : View
-nobody = record { keeps = false; workers = 0; all = []; sits = false; worker = 0; mine = [] }
+nobody = record { keeps = false; workers = 0; all = []; taken = []; sits = false; worker = 0; mine = [] }
 
 -- the keeper, after so many seats were made
 abbrev pub knower : ℕ → List Item → View
@@ -31,11 +42,15 @@ one_more v = knower (v.workers + 1) v.all
 abbrev pub next_seat : View → View
 next_seat v = sitting v.workers []
 
+-- the keeper, after the seats of these workers were taken back, the last one first
+abbrev pub taker : ℕ → List Item → List ℕ → View
+taker workers all taken = record (knower workers all) { taken = taken }
+
 abbrev pub with_seat : View → View → View
 with_seat v u = record v { sits = u.sits; worker = u.worker; mine = u.mine }
 
 abbrev pub keeper_of : View → View
-keeper_of v = knower v.workers v.all
+keeper_of v = taker v.workers v.all v.taken
 
 abbrev pub seat_of : View → View
 seat_of v = sitting v.worker v.mine
@@ -44,21 +59,29 @@ abbrev pub with_item : View → Item → View
 with_item v item = record v { all = v.all ++ item ∷ []; mine = v.mine ++ item ∷ [] }
 
 -- what the rule says of one pass
-pub record Fits (keeper workers : ℕ) (all : List Item) (place : ℕ → ℕ) (by : ℕ) (v : View) : Type 0 where
-  pub keeps : v.keeps ≡ true → (by ≡ keeper) × (v.workers ≡ workers) × (v.all ≡ all)
-  pub sits : v.sits ≡ true → (by ≡ place v.worker) × (v.worker < workers) × (v.mine ≡ items_of v.worker all)
+pub record Fits (keeper workers : ℕ) (all : List Item) (taken : List ℕ) (place : ℕ → ℕ) (by : ℕ) (v : View) : Type 0 where
+  pub keeps : v.keeps ≡ true → (by ≡ keeper) × (v.workers ≡ workers) × (v.all ≡ all) × (v.taken ≡ taken)
+  pub sits : v.sits ≡ true → (by ≡ place v.worker) × (v.worker < workers) × (v.mine ≡ items_of v.worker all) × IsNoneOf taken v.worker
 
 pub record Kept (words : List ℕ) (views : List View) : Type 0 where
   pub keeper : ℕ
   pub workers : ℕ
   pub all : List Item
+  pub taken : List ℕ
   pub place : ℕ → ℕ
   pub below : AllBelow workers all
-  pub each : (by : ℕ) (v : View) → get_elem? views by ≡ some v → Fits keeper workers all place by v
+  pub different : AreDifferent taken
+  pub each : (by : ℕ) (v : View) → get_elem? views by ≡ some v → Fits keeper workers all taken place by v
 
 -- the item was added, and the seat's list had been its worker's items
 abbrev pub Added : Item → View → List ℕ → List ℕ → View → Type 0
 Added item v before after w = (w ≡ with_item v item) × (v.mine ≡ items_of v.worker v.all)
 
-abbrev pub Compared : View → List ℕ → List ℕ → View → Type 0
-Compared v before after w = (w ≡ keeper_of v) × (v.mine ≡ items_of v.worker v.all) × (v.worker < v.workers) × AllBelow v.workers v.all
+-- the seat's list is its worker's items
+abbrev pub Looked : View → List ℕ → List ℕ → View → Type 0
+Looked v before after w = (w ≡ v) × (v.mine ≡ items_of v.worker v.all) × (v.worker < v.workers)
+
+-- the seat is taken back, whose list is its worker's items
+abbrev pub TakenBack : View → List ℕ → List ℕ → View → Type 0
+TakenBack v before after w =
+    (w ≡ taker v.workers v.all (v.worker ∷ v.taken)) × (v.mine ≡ items_of v.worker v.all) × (v.worker < v.workers) × AllBelow v.workers v.all × AreDifferent (v.worker ∷ v.taken)

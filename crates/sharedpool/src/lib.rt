@@ -7,7 +7,9 @@
 //! out, and of which each seat's list is its worker's part.
 //!
 //! A pass of a cell beside the lock keeps each list. The cell's rule is that one pass at most knows all
-//! items, and that the list of each worker's pass is that worker's part of them.
+//! items, that the list of each worker's pass is that worker's part of them, and that no worker has two.
+//!
+//! A place in the history is kept for the first leave of each seat, so that this one is never refused.
 //!
 //! Workers count from 0.
 #![tactic(auto)]

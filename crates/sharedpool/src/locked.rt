@@ -1,21 +1,21 @@
 //! What the lock holds: the pool, and the pass that knows all items.
 
-ghost use Rattle.std.specs.Prelude.{◌≡◌, ◌==◌, ◌≤◌, ℕ, [], Err, OnOk, OnErr, length};
+ghost use Rattle.std.specs.Prelude.{◌≡◌, ◌==◌, ◌≤◌, ◌<◌, ℕ, [], false, Err, IsOk, OnOk, OnErr, length};
 ghost use Rattle.std.specs.List.{count_by};
-ghost use Rattle.pool.specs.States.{noted, leave_item, IsLegal, IsSound, IsPublished, IsFetched, IsClosed, IsSplit, IsFound};
+ghost use Rattle.pool.specs.States.{noted, with_places, leave_item, IsLegal, IsSound, IsPublished, IsFetched, IsClosed, IsSplit, IsFound};
 ghost use Rattle.crossbeam_utils.specs.Seq.{cell_view};
-ghost use Rattle.sharedpool.specs.Views.{knower, items_of, AllBelow};
+ghost use Rattle.sharedpool.specs.Leaves.{has_left, has_entry, places_after};
+ghost use Rattle.sharedpool.specs.Views.{knower, items_of};
 ghost use Rattle.sharedpool.specs.Seats.{HoldsOver, IsRefusedOver, told_publish, told_fetch, told_close, told_split, told_found, told_leave};
 
-use crate::note::note;
-use crate::passes::{compare, join};
+use crate::note::{match_lists, note};
 use crate::room::{Cell, Given, Room, Token};
 use crate::seat::Seat;
 use batches::Batch;
 use clauses::Lit;
 use pages::Lines;
 use pool::{
-    AssembleFault, CloseFault, Entry, FetchFault, FoundFault, PathFault, Pool, PublishFault,
+    AssembleFault, CloseFault, Deed, Entry, FetchFault, FoundFault, PathFault, Pool, PublishFault,
     SplitFault, Status, Why,
 };
 use prooflog::Evidence;
@@ -45,17 +45,25 @@ impl<B: Room> Model for Locked<B> {
     ghost invariant = { λ s. IsLocked B.table B.opening s.pool s.workers s.keeper };
 }
 
-/// A leave; the first of a worker by a place that is kept.
-fn leave_pool(
-    pool: &mut Pool,
-    worker: u32,
-    why: Option<Why>,
-    has_left: bool,
-) -> Result<(), AllocError>
-    ensures ok { OnOk result (pool.new ≡ noted pool.old (leave_item worker why)) }
-    ensures err { OnErr result (pool.new ≡ pool.old) }
+/// Whether one of these entries is a leave of this worker.
+fn left_before(history: &[Entry], worker: u32) -> bool
+    ensures { result ≡ has_entry worker history.now }
 {
-    if has_left {
+    for entry in history {
+        if entry.worker == worker && matches!(entry.deed, Deed::Leave(_)) {
+            return true;
+        }
+    }
+    false
+}
+
+/// A leave; the first of a worker by a place that is kept.
+fn leave_pool(pool: &mut Pool, worker: u32, why: Option<Why>) -> Result<(), AllocError>
+    ensures ok { OnOk result (pool.new ≡ noted (with_places pool.old (places_after (has_entry worker pool.old.history) pool.old.places)) (leave_item worker why)) }
+    ensures err { OnErr result (pool.new ≡ pool.old) }
+    ensures first { has_entry worker pool.old.history ≡ false → 1 ≤ pool.old.places → IsOk result }
+{
+    if left_before(pool.history(), worker) {
         pool.leave(worker, why)
     } else {
         pool.leave_kept(worker, why)
@@ -77,6 +85,7 @@ impl<B: Room> Locked<B> {
     pub(crate) fn new(pool: Pool, workers: u32, keeper: Token) -> Self
         requires keeper { (keeper.table_id ≡ B.table) × (cell_view keeper ≡ knower workers []) }
         requires fresh { (pool.history ≡ []) × (pool.held ≡ B.opening) }
+        requires places { workers ≤ pool.places }
         requires some_worker { 1 ≤ workers }
         requires workers { workers ≡ B.workers }
     {
@@ -98,23 +107,6 @@ impl<B: Room> Locked<B> {
         self.workers
     }
 
-    /// Takes a seat in, whose list is its worker's items.
-    pub(crate) fn take_in<R: Wait>(&mut self, rt: &R, cell: &Cell, seat: Seat<B>)
-        requires { cell.now.table.shared.table_id ≡ B.table }
-        ensures same { self.new ≡ self.old }
-        ensures mine { seat.mine ≡ items_of seat.worker self.old.items }
-        ensures others { AllBelow self.old.workers self.old.items }
-    {
-        let Seat {
-            worker: _,
-            pass,
-            has_left: _,
-            room: _,
-        } = seat;
-        join(cell, &mut self.keeper, pass);
-        compare(rt, cell, &mut self.keeper);
-    }
-
     /// How many entries of the history are of this worker.
     pub(crate) fn count_of(&self, worker: u32) -> usize
         ensures { result ≡ length (items_of worker self.now.items) }
@@ -122,18 +114,20 @@ impl<B: Room> Locked<B> {
         entries_of(self.pool.history(), worker)
     }
 
-    /// The pool, whose history is legal.
-    pub(crate) fn into_pool(self) -> Pool
-        ensures same { result ≡ self.pool }
-        ensures legal { IsLegal B.opening self.items result }
+    /// The pool, whose history is legal, with the keeper.
+    pub(crate) fn into_parts(self) -> (Pool, Token)
+        ensures same { result.0 ≡ self.pool }
+        ensures legal { IsLegal B.opening self.items result.0 }
+        ensures keeper_of { result.1.table_id ≡ B.table }
+        ensures knows { cell_view result.1 ≡ knower self.workers self.items }
     {
         let Locked {
             pool,
             workers: _,
-            keeper: _,
+            keeper,
             room: _,
         } = self;
-        pool
+        (pool, keeper)
     }
 
     pub(crate) fn status(&self) -> Status {
@@ -289,6 +283,17 @@ impl<B: Room> Locked<B> {
         reply
     }
 
+    /// Compares the seat's list with all items.
+    fn match_seat<R: Wait>(&mut self, rt: &R, cell: &Cell, seat: &mut Seat<B>)
+        requires { cell.now.table.shared.table_id ≡ B.table }
+        ensures same { self.new ≡ self.old }
+        ensures seat { seat.new ≡ seat.old }
+        ensures mine { seat.old.mine ≡ items_of seat.old.worker self.old.items }
+        ensures below { seat.old.worker < self.old.workers }
+    {
+        match_lists(rt, cell, &mut self.keeper, &mut seat.pass);
+    }
+
     /// A leave by the worker of this seat. Its first one asks for no memory.
     pub(crate) fn leave<R: Wait>(
         &mut self,
@@ -300,10 +305,11 @@ impl<B: Room> Locked<B> {
         requires { cell.now.table.shared.table_id ≡ B.table }
         ensures ok { OnOk result (seat.new ≡ told_leave seat.old why) }
         ensures err { OnErr result (seat.new ≡ seat.old) }
+        ensures first { has_left seat.old.mine ≡ false → IsOk result }
     {
+        self.match_seat(rt, cell, seat);
         let worker = seat.worker;
-        leave_pool(&mut self.pool, worker, why, seat.has_left)?;
-        seat.has_left = true;
+        leave_pool(&mut self.pool, worker, why)?;
         let keeper = &mut self.keeper;
         let pass = &mut seat.pass;
         note::<Brand, _, _, R>(rt, cell, keeper, pass, worker, &why, &());

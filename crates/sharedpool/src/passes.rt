@@ -1,16 +1,17 @@
 //! The steps of the passes of the cell beside the lock, each for itself.
 
-ghost use Rattle.std.specs.Prelude.{◌≡◌, true, []};
+ghost use Rattle.std.specs.Prelude.{◌≡◌, ◌<◌, ◌∷◌, true, []};
 ghost use Rattle.crossbeam_utils.specs.Seq.{cell_view};
-ghost use Rattle.sharedpool.specs.Views.{one_more, next_seat, with_seat, with_item, keeper_of, seat_of, items_of, AllBelow};
+ghost use Rattle.sharedpool.specs.Views.{one_more, next_seat, taker, with_seat, with_item, keeper_of, seat_of, items_of, AllBelow, AreDifferent};
 
-use crate::room::{Adds, Blank, Cell, Compares, Named, NextSeat, Token, WithSeat};
+use crate::room::{Adds, Blank, Cell, Looks, Named, NextSeat, TakesBack, Token, WithSeat};
 use std::sync::Wait;
 
 /// A seat for the next worker.
 pub(crate) fn take_seat(cell: &Cell, keeper: &mut Token) -> Token
     requires keeper_of { keeper.old.table_id ≡ cell.now.table.shared.table_id }
     requires keeps { (cell_view keeper.old).keeps ≡ true }
+    requires none_taken { (cell_view keeper.old).taken ≡ [] }
     ensures of { keeper.new.table_id ≡ keeper.old.table_id }
     ensures kept { cell_view keeper.new ≡ one_more (cell_view keeper.old) }
     ensures seat_of { result.table_id ≡ keeper.old.table_id }
@@ -55,17 +56,32 @@ pub(crate) fn add<J: Named, R: Wait>(rt: &R, cell: &Cell, keeper: &mut Token)
     cell.load_as::<Adds<J>, R>(rt, keeper);
 }
 
-/// Compares the list of the seat that is joined with all items, and the keeper is without it again.
-pub(crate) fn compare<R: Wait>(rt: &R, cell: &Cell, keeper: &mut Token)
+/// Looks at the list of the seat that is joined, which is its worker's items so far.
+pub(crate) fn look<R: Wait>(rt: &R, cell: &Cell, keeper: &mut Token)
     requires keeper_of { keeper.old.table_id ≡ cell.now.table.shared.table_id }
     requires keeps { (cell_view keeper.old).keeps ≡ true }
     requires sits { (cell_view keeper.old).sits ≡ true }
     ensures of { keeper.new.table_id ≡ keeper.old.table_id }
-    ensures apart { cell_view keeper.new ≡ keeper_of (cell_view keeper.old) }
+    ensures same { cell_view keeper.new ≡ cell_view keeper.old }
     ensures mine { (cell_view keeper.old).mine ≡ items_of (cell_view keeper.old).worker (cell_view keeper.old).all }
-    ensures others { AllBelow (cell_view keeper.old).workers (cell_view keeper.old).all }
+    ensures below { (cell_view keeper.old).worker < (cell_view keeper.old).workers }
 {
-    cell.load_as::<Compares, R>(rt, keeper);
+    cell.load_as::<Looks, R>(rt, keeper);
+}
+
+/// Takes the seat that is joined back. Its list is its worker's items, and it is another worker's than those that were taken before.
+pub(crate) fn take_back<R: Wait>(rt: &R, cell: &Cell, keeper: &mut Token)
+    requires keeper_of { keeper.old.table_id ≡ cell.now.table.shared.table_id }
+    requires keeps { (cell_view keeper.old).keeps ≡ true }
+    requires sits { (cell_view keeper.old).sits ≡ true }
+    ensures of { keeper.new.table_id ≡ keeper.old.table_id }
+    ensures taken { cell_view keeper.new ≡ taker (cell_view keeper.old).workers (cell_view keeper.old).all ((cell_view keeper.old).worker ∷ (cell_view keeper.old).taken) }
+    ensures mine { (cell_view keeper.old).mine ≡ items_of (cell_view keeper.old).worker (cell_view keeper.old).all }
+    ensures below { (cell_view keeper.old).worker < (cell_view keeper.old).workers }
+    ensures others { AllBelow (cell_view keeper.old).workers (cell_view keeper.old).all }
+    ensures different { AreDifferent ((cell_view keeper.old).worker ∷ (cell_view keeper.old).taken) }
+{
+    cell.load_as::<TakesBack, R>(rt, keeper);
 }
 
 /// The seat that is joined, apart from the keeper again.

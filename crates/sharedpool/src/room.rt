@@ -58,12 +58,13 @@ impl Given for Brand {
     ghost steps = { [] };
 }
 
-/// What a pass knows: the keeper's how many seats were made and all items, a seat's its worker and that
-/// worker's items. No value of it is made.
+/// What a pass knows: the keeper's how many seats were made, all items, and whose seats were taken back; a seat's its
+/// worker and that worker's items. No value of it is made.
 pub struct View {
     pub keeps: bool,
     pub workers: u64,
     pub all: LinkedList<Item>,
+    pub taken: LinkedList<u64>,
     pub sits: bool,
     pub worker: u64,
     pub mine: LinkedList<Item>,
@@ -92,13 +93,22 @@ impl<J: Named> Outcome<[u64; 1], View> for Adds<J> {
     ghost then = { Added J.item };
 }
 
-/// The keeper compares a seat's list with all items, and the seat is spent.
-pub struct Compares;
+/// The list of a seat that is joined to a keeper is its worker's items.
+pub struct Looks;
 
-impl Outcome<[u64; 1], View> for Compares {
-    ghost use Rattle.sharedpool.specs.Views.{Compared};
+impl Outcome<[u64; 1], View> for Looks {
+    ghost use Rattle.sharedpool.specs.Views.{Looked};
 
-    ghost then = { Compared };
+    ghost then = { Looked };
+}
+
+/// The seat that is joined to the keeper is taken back, and its list is its worker's items.
+pub struct TakesBack;
+
+impl Outcome<[u64; 1], View> for TakesBack {
+    ghost use Rattle.sharedpool.specs.Views.{TakenBack};
+
+    ghost then = { TakenBack };
 }
 
 /// A new seat, for the next worker.

@@ -1,17 +1,19 @@
 //! The seat of one worker.
 
-ghost use Rattle.std.specs.Prelude.{◌≡◌};
+ghost use Rattle.std.specs.Prelude.{◌≡◌, ◌<◌, ◌∷◌, true};
+ghost use Rattle.crossbeam_utils.specs.Seq.{cell_view};
+ghost use Rattle.sharedpool.specs.Views.{taker, items_of, AllBelow, AreDifferent};
 
-use crate::room::{Room, Token};
+use crate::passes::{join, take_back};
+use crate::room::{Cell, Room, Token};
 use std::marker::{Model, PhantomData};
+use std::sync::Wait;
 
 /// What a worker makes its calls with: its number, and, for contracts, the items of its calls in order.
 #[derive(Drop)]
 pub struct Seat<B: Room> {
     pub(crate) worker: u32,
     pub(crate) pass: Token,
-    /// Whether the worker left with it: its first leave has a place that is kept.
-    pub(crate) has_left: bool,
     pub(crate) room: PhantomData<B>,
 }
 
@@ -32,5 +34,26 @@ impl<B: Room> Seat<B> {
         ensures { result ≡ self.now.worker }
     {
         self.worker
+    }
+
+    /// Gives the seat back to the keeper.
+    pub(crate) fn hand_back<R: Wait>(self, rt: &R, cell: &Cell, keeper: &mut Token)
+        requires room { cell.now.table.shared.table_id ≡ B.table }
+        requires keeper_of { keeper.old.table_id ≡ B.table }
+        requires keeps { (cell_view keeper.old).keeps ≡ true }
+        ensures of { keeper.new.table_id ≡ B.table }
+        ensures taken { cell_view keeper.new ≡ taker (cell_view keeper.old).workers (cell_view keeper.old).all (self.worker ∷ (cell_view keeper.old).taken) }
+        ensures mine { self.mine ≡ items_of self.worker (cell_view keeper.old).all }
+        ensures below { self.worker < (cell_view keeper.old).workers }
+        ensures others { AllBelow (cell_view keeper.old).workers (cell_view keeper.old).all }
+        ensures different { AreDifferent (self.worker ∷ (cell_view keeper.old).taken) }
+    {
+        let Seat {
+            worker: _,
+            pass,
+            room: _,
+        } = self;
+        join(cell, keeper, pass);
+        take_back(rt, cell, keeper);
     }
 }

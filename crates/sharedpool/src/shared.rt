@@ -1,12 +1,13 @@
 //! The pool that workers share.
 
-ghost use Rattle.std.specs.Prelude.{◌≡◌, ◌↔◌, ◌≤◌, ◌<◌, ℕ, All, Err, IfErr, IfOk, OnOk, OnErr, IsTrue, [], length, map};
+ghost use Rattle.std.specs.Prelude.{◌≡◌, ◌≢◌, ◌↔◌, ◌≤◌, ◌<◌, ◌+◌, ℕ, All, Err, IfErr, IfOk, IsOk, OnOk, OnErr, IsTrue, false, [], length, map};
 ghost use Rattle.std.specs.List.{range_with_len};
 ghost use Rattle.crossbeam_utils.specs.Seq.{cell_view};
 ghost use Rattle.semantics.specs.Machine.{IsStuckRun};
-ghost use Rattle.pool.specs.States.{IsPublished, IsFetched, IsClosed, IsSplit, IsFound};
-ghost use Rattle.sharedpool.specs.Views.{knower, items_of, AllBelow};
-ghost use Rattle.sharedpool.specs.Seats.{AreAllSeats, AreNumbered, HoldsOver, IsFinished, IsRefusedOver, told_publish, told_fetch, told_close, told_split, told_found, told_leave};
+ghost use Rattle.pool.specs.States.{with_places, IsPublished, IsFetched, IsClosed, IsSplit, IsFound};
+ghost use Rattle.sharedpool.specs.Leaves.{has_left};
+ghost use Rattle.sharedpool.specs.Views.{knower, items_of, AllBelow, AreDifferent};
+ghost use Rattle.sharedpool.specs.Seats.{AreNumbered, workers_of, HoldsOver, IsFinished, IsRefusedOver, told_publish, told_fetch, told_close, told_split, told_found, told_leave};
 
 use crate::locked::Locked;
 use crate::passes::take_seat;
@@ -40,7 +41,7 @@ pub enum FinishFault {
     /// Memory ran out.
     #[error("memory")]
     Memory,
-    /// The seats aren't all that were made, in the order of their workers.
+    /// A seat is missing: there are not as many as were made.
     #[error("seat missing")]
     Missing,
 }
@@ -72,7 +73,6 @@ fn make_seats<B: Room>(
         seats.push_reserved(Seat {
             worker,
             pass,
-            has_left: false,
             room: PhantomData,
         });
     }
@@ -88,7 +88,7 @@ fn seats_with_places<B: Room>(
     workers: u32,
 ) -> Result<(Token, Vec<Seat<B>>), AllocError>
     requires { (cell.now.table.shared.table_id ≡ B.table) × (keeper.table_id ≡ B.table) × (cell_view keeper ≡ knower 0 []) }
-    ensures same { pool.new ≡ pool.old }
+    ensures places { OnOk result (pool.new ≡ with_places pool.old (pool.old.places + workers)) }
     ensures keeper { IfOk result (λ r. (r.0.table_id ≡ B.table) × (cell_view r.0 ≡ knower workers [])) }
     ensures many { IfOk result (λ r. length r.1.items ≡ workers) }
     ensures numbered { IfOk result (λ r. AreNumbered r.1.items) }
@@ -96,18 +96,6 @@ fn seats_with_places<B: Room>(
 {
     pool.keep_places(workers as usize)?;
     make_seats(alloc, cell, keeper, workers)
-}
-
-/// Whether the seats are all that were made, in order.
-fn are_all<B: Room>(seats: &[Seat<B>], workers: u32) -> bool
-    ensures { IsTrue result ↔ AreAllSeats workers seats.now }
-{
-    for (place, seat) in seats.iter().enumerate() {
-        if seat.worker() as usize != place {
-            return false;
-        }
-    }
-    seats.len() == workers as usize
 }
 
 /// How many entries each worker has.
@@ -123,28 +111,25 @@ fn counts<B: Room>(
         .collect(alloc)
 }
 
-/// Takes all seats in. Each seat's list is its worker's items.
-fn take_all_in<R: Wait, B: Room>(
-    rt: &R,
-    cell: &Cell,
-    mut locked: Locked<B>,
-    seats: Vec<Seat<B>>,
-) -> Locked<B>
-    requires { cell.now.table.shared.table_id ≡ B.table }
-    ensures same { result ≡ locked }
-    ensures mine { All (λ seat. seat.mine ≡ items_of seat.worker locked.items) seats.items }
-    ensures others { 0 < length seats.items → AllBelow locked.workers locked.items }
+/// Takes all seats back. Each is another worker's, and its list is its worker's items.
+fn take_all_back<R: Wait, B: Room>(rt: &R, cell: &Cell, mut keeper: Token, seats: Vec<Seat<B>>)
+    requires room { cell.now.table.shared.table_id ≡ B.table }
+    requires keeper_of { keeper.table_id ≡ B.table }
+    requires knows { cell_view keeper ≡ knower (cell_view keeper).workers (cell_view keeper).all }
+    ensures mine { All (λ seat. seat.mine ≡ items_of seat.worker (cell_view keeper).all) seats.items }
+    ensures below { All (λ seat. seat.worker < (cell_view keeper).workers) seats.items }
+    ensures different { AreDifferent (workers_of seats.items) }
+    ensures others { 0 < length seats.items → AllBelow (cell_view keeper).workers (cell_view keeper).all }
 {
     for seat in seats {
-        locked.take_in(rt, cell, seat);
+        seat.hand_back(rt, cell, &mut keeper);
     }
-    locked
 }
 
 impl<B: Room> SharedPool<B> {
     /// A pool without a history under a lock, and a seat for each worker, in order of their numbers. The
     /// room is named after the cell, the pool and the number of workers. One to 64 workers. Each seat has a
-    /// place in the history for its first leave, so that this one never wants memory; this isn't proved.
+    /// place in the history for its first leave, so that this one never wants memory.
     pub fn new(
         alloc: Global,
         cell: Cell,
@@ -170,25 +155,25 @@ impl<B: Room> SharedPool<B> {
         }
     }
 
-    /// The pool, and how many entries each worker has in its history. The seats are all that were made, in
-    /// order of their workers, or they are handed back with the shared pool: `Missing` is told just then.
+    /// The pool, and how many entries each worker has in its history. Takes all seats, in any order, or hands them back
+    /// with the shared pool: `Missing` is told exactly where there are not as many as were made.
     pub fn finish<R: Wait>(
         self,
         rt: &R,
         alloc: Global,
         seats: Vec<Seat<B>>,
     ) -> Result<(Pool, Vec<usize>), (FinishFault, SharedPool<B>, Vec<Seat<B>>)>
-        ensures all { IfOk result (λ r. AreAllSeats B.workers seats.items) }
+        ensures all { IfOk result (λ r. length seats.items ≡ B.workers) }
         ensures finished { IfOk result (λ r. IsFinished B.opening seats.items r.0 r.1.items) }
         ensures program { IfOk result (λ r. r.0.held.program ≡ B.opening.program) }
         ensures formula { IfOk result (λ r. r.0.held.formula ≡ B.opening.formula) }
-        ensures missing { IfErr result (λ r. (r.0 ≡ FinishFault.Missing) ↔ (AreAllSeats B.workers seats.items → ⊥)) }
+        ensures missing { IfErr result (λ r. (r.0 ≡ FinishFault.Missing) ↔ (length seats.items ≢ B.workers)) }
         ensures back { IfErr result (λ r. r.2 ≡ seats) }
     {
         let SharedPool { cell, lock } = self;
         let locked = lock.into_inner();
         let workers = locked.workers();
-        if !are_all(&seats, workers) {
+        if seats.len() != workers as usize {
             let lock = Mutex::new(locked);
             return Err((FinishFault::Missing, SharedPool { cell, lock }, seats));
         }
@@ -196,8 +181,9 @@ impl<B: Room> SharedPool<B> {
             let lock = Mutex::new(locked);
             return Err((FinishFault::Memory, SharedPool { cell, lock }, seats));
         };
-        let locked = take_all_in(rt, &cell, locked, seats);
-        Ok((locked.into_pool(), counts))
+        let (pool, keeper) = locked.into_parts();
+        take_all_back(rt, &cell, keeper, seats);
+        Ok((pool, counts))
     }
 }
 
@@ -277,10 +263,11 @@ impl<B: Room> Share for SharedPool<B> {
         self.lock.lock(rt).found(rt, alloc, &self.cell, seat, steps)
     }
 
-    /// As [`Pool::leave`]; the first leave with a seat asks for no memory.
+    /// As [`Pool::leave`]; the first leave with a seat asks for no memory, and is answered.
     fn leave<R: Wait>(&self, rt: &R, seat: &mut Seat<B>, why: Option<Why>) -> Result<(), AllocError>
         ensures ok { OnOk result (seat.new ≡ told_leave seat.old why) }
         ensures err { OnErr result (seat.new ≡ seat.old) }
+        ensures first { has_left seat.old.mine ≡ false → IsOk result }
     {
         self.lock.lock(rt).leave(rt, &self.cell, seat, why)
     }

@@ -229,7 +229,7 @@ fn replies_are_right<S: Share, R: Wait>(
 }
 
 /// The pool after the example's calls, made by two workers in a room that has a name, and how many calls
-/// each of them made.
+/// each of them made. The seats are handed back last one first.
 fn finished_in<B: Room, R: Wait>(
     rt: &R,
     alloc: Global,
@@ -247,6 +247,7 @@ fn finished_in<B: Room, R: Wait>(
     if !replies_are_right(rt, alloc, &shared, seats.as_mut_slice(), batch, example) {
         return Err(Fail::from("another reply"));
     }
+    seats.reverse();
     match shared.finish(rt, alloc, seats) {
         Ok(finished) => Ok(finished),
         Err(_back) => Err(Fail::from("not finished")),

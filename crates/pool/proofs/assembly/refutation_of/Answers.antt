@@ -1,6 +1,6 @@
 use Rattle.std.proofs.Common.{Err, length, arith, ap, sym, ◌∙◌}
 use Rattle.prooflog.specs.Refutations.{ClaimedRefutation}
-use Rattle.pool.proofs.Assembling.{within_limits_of, accepts_claim, leaves_numbered}
+use Rattle.pool.proofs.Assembling.{within_limits_of, accepts_claim, leaves_numbered, tree_as}
 use Rattle.pool.proofs.assembly.refutation_of.Goals as goal
 
 pub proof_tree-requires-clause-numbered : goal.proof_tree-requires-clause-numbered
@@ -20,3 +20,7 @@ returns-in-Ok-clause-accepted c =
     accepts_claim c.args.formula.now c.args.log.now c.args.tree.now c.args.closed.now c.in-Ok.refutation c.in_ok-nodes.nodes
     (ap (λ (r : ClaimedRefutation). r.lines) c.in-Ok.ensures.made ∙ c.in_ok-lines.ensures.lines) (ap (λ (r : ClaimedRefutation). r.nodes) c.in-Ok.ensures.made)
     c.requires.variables c.variables-limits.ensures.grown c.requires.derived c.requires.refuted c.in_ok-nodes.ensures
+
+pub returns-in-Ok-clause-tree : goal.returns-in-Ok-clause-tree
+returns-in-Ok-clause-tree c =
+    tree_as c.args.tree.now.nodes c.args.closed.now c.in_ok-nodes.nodes _ (ap (λ (r : ClaimedRefutation). r.nodes) c.in-Ok.ensures.made) c.in_ok-nodes.ensures

@@ -29,6 +29,7 @@ returns-in-Ok-refutation-clause-evidence c =
       variables = c.in-Ok-refutation.ensures.variables;
       clauses = c.in-Ok-refutation.ensures.clauses;
       lines = c.in-Ok-refutation.ensures.lines;
+      tree = c.in-Ok-refutation.ensures.tree;
       accepted = c.in-Ok-refutation.ensures.accepted;
     }
 

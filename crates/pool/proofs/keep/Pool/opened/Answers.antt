@@ -8,7 +8,7 @@ invariant_of-result c =
     let e = c.args.encoded in
     let tree = c.args.tree in
     let zeros : c.args.closed.items ≡ replicate (length tree.nodes) 0 = c.requires.closed in (
-      sound_opened e tree c.args.closed.items c.new.result c.new-2.result.items zeros c.new.ensures c.new-2.ensures.items
+      sound_opened e tree c.args.closed.items c.new.result c.new-2.result.reasons zeros c.new.ensures c.new-2.ensures.reasons
           (sound_opening e tree c.formula-formula.ensures.is c.program-program.ensures.few c.formula-formula.ensures.few c.variables-variables.ensures.grown c.requires.variables),
       c.leaves_of-open_leaves.ensures ∙ ap (open_count tree.nodes) (sym zeros),
       omega (arith, c.requires.known, ap (λ f. f.variables) c.formula-formula.ensures.same),

@@ -4,7 +4,7 @@ use Rattle.pool.specs.declared.entry.PublishFault.{PublishFault}
 use Rattle.pool.specs.Batches.{IsExtended}
 use Rattle.pool.specs.Replies.{resolved_lines, DeriveAfter}
 use Rattle.pool.specs.States.{Kept, next_number}
-use Rattle.pool.proofs.Soundness.{sound_publish, published_ok, lines_count}
+use Rattle.pool.proofs.Soundness.{sound_with, sound_publish, published_ok, lines_count}
 use Rattle.pool.proofs.keep.Pool.publish.Goals as goal
 
 pub invariant_of-self-in-Ok : goal.invariant_of-self-in-Ok
@@ -13,7 +13,7 @@ invariant_of-self-in-Ok c =
     let log = c.self.inside.log in
     let lines = resolved_lines c.next_number-base.result c.as_slice-lines.result.now in
     let derive = subst (λ (f : Conjunction). DeriveAfter f log lines) c.formula-formula.ensures.same e.reply.0 in (
-      sound_publish _ lines c.extend.new.log e.ok c.self.invariant.0 derive e.reply.1,
+      sound_with _ c.note.new.self.reasons (sound_publish _ lines c.extend.new.log e.ok c.self.invariant.0 derive e.reply.1),
       c.self.invariant.1,
       e.size ∙ c.self.invariant.2,
     )

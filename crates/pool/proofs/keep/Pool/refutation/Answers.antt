@@ -1,7 +1,8 @@
-use Rattle.std.proofs.Common.{sym, subst}
+use Rattle.std.proofs.Common.{ℕ, List, IfOk, sym, subst}
 use Rattle.clauses.specs.Clauses.{Conjunction}
 use Rattle.refutations.specs.Refutations.{AreDerived}
-use Rattle.pool.specs.States.{Kept, IsOpen}
+use Rattle.prooflog.specs.Refutations.{ClaimedRefutation}
+use Rattle.pool.specs.States.{Kept, IsOpen, IsTreeOf}
 use Rattle.pool.proofs.Assembling.{all_refuted, refuted_as}
 use Rattle.pool.proofs.keep.Pool.refutation.Goals as goal
 
@@ -13,3 +14,10 @@ pub refutation_of-requires-clause-refuted : goal.refutation_of-requires-clause-r
 refutation_of-requires-clause-refuted c =
     refuted_as c.self.inside.encoded.formula c.formula-formula.result.now c.self.inside.log c.self.inside.tree.nodes c.self.inside.closed.items c.as_slice.result.now c.formula-formula.ensures.same c.as_slice.ensures.value
     (all_refuted _ c.self.invariant.0 (λ leaf is. c.requires leaf (subst (λ (k : Kept). IsOpen k.held leaf) c.self.view_is is)))
+
+pub returns-clause-tree : goal.returns-clause-tree
+returns-clause-tree c =
+    let nodes = c.self.inside.tree.nodes in
+    let result = c.refutation_of.result in
+    subst (λ (k : Kept). IfOk result (λ (claim : ClaimedRefutation). IsTreeOf k.held.tree.nodes k.held.closed claim.nodes)) c.self.view_is
+    (subst (λ (numbers : List ℕ). IfOk result (λ (claim : ClaimedRefutation). IsTreeOf nodes numbers claim.nodes)) c.as_slice.ensures.value c.refutation_of.ensures.tree)

@@ -2,7 +2,7 @@ use Rattle.std.proofs.Common.{◌≡◌, ◌∷◌, [], ◌++◌, ◌+◌, arith
 use Rattle.trees.specs.Trees.{TreeState, split_at}
 use Rattle.pool.specs.Counts.{open_count}
 use Rattle.pool.proofs.OpenLeaves.{count_few}
-use Rattle.pool.proofs.Soundness.{sound_split, sound_split_to, count_after_split}
+use Rattle.pool.proofs.Soundness.{sound_with, sound_split, sound_split_to, count_after_split}
 use Rattle.pool.proofs.keep.Pool.split_leaf.Goals as goal
 
 pub overflow_add-self : goal.overflow_add-self
@@ -24,7 +24,7 @@ invariant_of-self-3 c =
     ∙ ap (open_count (split_at tree.nodes c.args.leaf c.args.variable)) new_closed
     ∙ counted
     in (
-      sound_split_to _ c.args.leaf c.args.variable c.split_open.new.tree c.split_open.new.closed.items new_tree new_closed sound,
+      sound_with _ c.note-2.new.self.reasons (sound_split_to _ c.args.leaf c.args.variable c.split_open.new.tree c.split_open.new.closed.items new_tree new_closed sound),
       omega (arith, c.self.invariant.1, count),
       c.self.invariant.2,
     )

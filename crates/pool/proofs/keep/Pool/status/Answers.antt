@@ -6,4 +6,4 @@ use Rattle.pool.proofs.keep.Pool.status.Goals as goal
 
 pub returns-clause-why : goal.returns-clause-why
 returns-clause-why c =
-    subst (λ (rs : List Why). IsSmallest rs c.smallest.result) (c.deref.ensures.value ∙ ap (λ (k : Kept). k.held.reasons) c.self.view_is) c.smallest.ensures
+    subst (λ (rs : List Why). IsSmallest rs c.why.result) (ap (λ (k : Kept). k.held.reasons) c.self.view_is) c.why.ensures

@@ -1,0 +1,23 @@
+-- Workers no two of which are the same.
+use Rattle.std.proofs.Common.{◌≡◌, ℕ, List, [], ◌∷◌, ◌++◌, sym, subst}
+use Rattle.std.proofs.lemmas.List.{map-append}
+use Rattle.sharedpool.specs.Views.{IsNoneOf, AreDifferent}
+use Rattle.sharedpool.specs.Seats.{Chair, workers_of}
+
+none_push : (workers : List ℕ) (last worker : ℕ) → IsNoneOf workers worker → (last ≡ worker → ⊥) → IsNoneOf (workers ++ last ∷ []) worker
+none_push [] last worker none apart = (apart, tt)
+none_push (first ∷ workers) last worker none apart = (none.0, none_push workers last worker none.1 apart)
+
+different_push : (workers : List ℕ) (last : ℕ) → AreDifferent workers → IsNoneOf workers last → AreDifferent (workers ++ last ∷ [])
+different_push [] last different none = (tt, tt)
+different_push (first ∷ workers) last different none =
+    (none_push workers last first different.0 (λ same. none.0 (sym same)), different_push workers last different.1 none.1)
+
+-- one more seat, whose worker is none of those before
+pub seats_push : (seats : List Chair) (seat : Chair) → AreDifferent (workers_of seats) → IsNoneOf (workers_of seats) seat.worker → AreDifferent (workers_of (seats ++ seat ∷ []))
+seats_push seats seat different none =
+    subst AreDifferent (sym (map-append (λ (s : Chair). s.worker) seats (seat ∷ []))) (different_push (workers_of seats) seat.worker different none)
+
+pub seats_none : (seats : List Chair) (seat : Chair) (worker : ℕ) → IsNoneOf (workers_of seats) worker → (seat.worker ≡ worker → ⊥) → IsNoneOf (workers_of (seats ++ seat ∷ [])) worker
+seats_none seats seat worker none apart =
+    subst (λ l. IsNoneOf l worker) (sym (map-append (λ (s : Chair). s.worker) seats (seat ∷ []))) (none_push (workers_of seats) seat.worker worker none apart)

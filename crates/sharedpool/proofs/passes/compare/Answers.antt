@@ -1,8 +1,0 @@
-use Rattle.std.proofs.Common.{rules}
-use Rattle.sharedpool.proofs.Moves.{compares}
-use Rattle.sharedpool.proofs.passes.compare.Goals as goal
-
-pub load_as-requires : goal.load_as-requires
-load_as-requires g c =
-    let r = c.requires in
-    (search rules, (search rules, (r.keeper_of, compares _ _ r.keeps r.sits)))
