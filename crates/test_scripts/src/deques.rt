@@ -101,10 +101,32 @@ fn put_left(thieves: Vec<ThiefSeat>, owner: OwnerSeat, out: &mut String) -> Resu
     requires { All (λ thief. IsThiefOf owner thief) thieves.items }
 {
     match settle(owner, thieves) {
-        Ok(tally) => put_numbers(out, tally.left.as_slice())?,
+        Ok(tally) => put_left_cubes(out, tally.left.as_slice())?,
         Err(unsettled) => put_fault(out, unsettled.fault)?,
     }
     Ok(())
+}
+
+/// All cubes, or such as `0 to 4095` where there are many that are numbered on.
+fn put_left_cubes(out: &mut String, cubes: &[u32]) -> Result<(), AllocError> {
+    let first = cubes.first().copied().unwrap_or(0);
+    if cubes.len() < 100 || !are_numbered(cubes, first) {
+        return put_numbers(out, cubes);
+    }
+    let last = cubes.last().copied().unwrap_or(0);
+    write!(out, "{first} to {last}")
+}
+
+/// Whether the cubes are numbered on from this one.
+fn are_numbered(cubes: &[u32], first: u32) -> bool {
+    let mut number = first;
+    for cube in cubes {
+        if *cube != number {
+            return false;
+        }
+        number = number.wrapping_add(1);
+    }
+    true
 }
 
 fn put_fault(out: &mut String, fault: SettleFault) -> Result<(), AllocError> {
