@@ -15,6 +15,3 @@ pub use deque::{CubeDeque, Stolen};
 pub use seats::{OwnerSeat, ThiefSeat};
 pub use supply::{Supply, deal, settle_all, supplies_stay};
 pub use tally::{SettleFault, Tally, Unsettled, settle};
-
-#[cfg(test)]
-mod tests;

@@ -1,7 +1,12 @@
-//! Tests of clauses, of the lines, trees, pieces and pages that refutations are made of, and of the texts of evidences.
+//! Tests of what refutations are made of, where code makes the values, or threads meet: lines that join a large tree, lists read
+//! while a log grows, gates that pieces pass, and texts of bytes that stand in none.
 #![tactic(auto)]
 
 #[cfg(test)]
-mod evidences;
+mod foreign_bytes;
 #[cfg(test)]
-mod tests;
+mod joining_lines;
+#[cfg(test)]
+mod pages_of_lines;
+#[cfg(test)]
+mod pieces_of_lines;

@@ -1,11 +1,7 @@
-//! Tests of pools, of pools under a lock, and of workers over these.
+//! Tests of workers over shares that lie, and of cubes that several workers push and steal.
 #![tactic(auto)]
 
 #[cfg(test)]
-mod pools;
-#[cfg(test)]
-mod programs;
+mod deques;
 #[cfg(test)]
 mod searches;
-#[cfg(test)]
-mod seats;

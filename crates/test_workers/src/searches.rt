@@ -3,11 +3,14 @@ mod fake;
 
 ghost use Rattle.std.specs.Prelude.{◌≡◌, IfOk};
 
-use crate::programs::encoded;
+use callorder::Program;
+use calltext::read;
+use candidates::pairs;
 use checker::{Verdict, verdict};
 use cubes::split;
-use encode::Encoded;
+use encode::{Encoded, encode};
 use fake::{Fake, Lie};
+use nonovertake::earlier;
 use pool::{Pool, Share, Status, Why};
 use prooflog::{Evidence, write_evidence};
 use std::alloc::Global;
@@ -79,6 +82,24 @@ struct Outcome {
     is_refuted: bool,
     /// How many cubes the worker took.
     cubes: u64,
+}
+
+/// The program of this text.
+fn program_of(alloc: Global, text: &str) -> Result<Program, Fail> {
+    let text = text.replace(alloc, '/', "\n")?;
+    let source = read(alloc, text.as_bytes())?;
+    Ok(Program::resolve(alloc, &source)?)
+}
+
+/// The formula of this program.
+fn encoded(rt: &(impl Threads + Sync), alloc: Global, text: &str) -> Result<Encoded, Fail> {
+    let program = program_of(alloc, text)?;
+    let pairs = pairs(alloc, &program)?;
+    let earlier = earlier(rt, alloc, &program, &pairs)?;
+    match encode(alloc, program, pairs, &earlier) {
+        Ok(encoded) => Ok(encoded),
+        Err(refused) => Err(Fail::from(refused.fault)),
+    }
 }
 
 /// A tree of this depth over the formula's variables.

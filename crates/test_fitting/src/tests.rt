@@ -1,4 +1,0 @@
-mod branching;
-mod earlier_calls;
-mod pairs;
-pub mod programs;

@@ -1,0 +1,53 @@
+//! One text with a foreign byte.
+use prooflog::read_evidence;
+use std::alloc::Global;
+use std::test::Fail;
+
+/// A text with each kind of line.
+const WHOLE: &str = "\
+evidence 1
+refutation 2 3
+line : 1
+line -1 2 : 2 3
+tree
+split 1
+leaf 4
+split 2
+leaf 5
+leaf 1
+";
+
+/// The text with another byte at a place, from 0.
+fn with_byte(alloc: Global, place: usize, byte: u8) -> Result<Vec<u8>, Fail> {
+    let mut text = Vec::new(alloc);
+    for (i, old) in WHOLE.as_bytes().iter().enumerate() {
+        text.push(if i == place { byte } else { *old })?;
+    }
+    Ok(text)
+}
+
+/// What is told of a text that isn't read: its fault.
+fn told(alloc: Global, text: &[u8]) -> Result<String, Fail> {
+    match read_evidence(alloc, text) {
+        Ok(_evidence) => Err(Fail::from("read")),
+        Err(fault) => Ok(format!(in alloc; "{fault}")?),
+    }
+}
+
+/// A byte that stands in no text is a fault of its line, wherever it stands.
+#[test]
+fn foreign_bytes(rt: HostRuntime) -> Result<(), Fail> {
+    let alloc = rt.alloc();
+    let mut number = 1u32;
+    for (place, old) in WHOLE.as_bytes().iter().enumerate() {
+        let wanted = format!(in alloc; "evidence line {number} syntax")?;
+        for byte in [0, b'\t', b'\r', b'/', 127, 128, 255] {
+            let text = with_byte(alloc, place, byte)?;
+            assert_eq!(rt; told(alloc, text.as_slice())?, wanted, "{place} {byte}");
+        }
+        if *old == b'\n' {
+            number = number.wrapping_add(1);
+        }
+    }
+    Ok(())
+}

@@ -1,0 +1,71 @@
+//! Judges scripts of calls: each line of the files that the words name is a call with its reply beside it. Prints each row that
+//! doesn't hold, and at the end how many hold.
+#![tactic(auto)]
+
+mod checks;
+mod deques;
+mod encodings;
+mod evidences;
+mod logs;
+mod programs;
+mod reading;
+mod report;
+mod scripts;
+mod searches;
+mod shares;
+mod splits;
+mod telling;
+
+use report::Report;
+use scripts::judge_file;
+use std::process::ExitCode;
+use std::sync::Wait;
+use std::thread::Threads;
+use std::{env, fs, io};
+
+fn main(rt: HostRuntime) -> ExitCode {
+    match judge(&rt, &rt) {
+        Ok(true) => ExitCode::SUCCESS,
+        Ok(false) => ExitCode::FAILURE,
+        Err(error) => {
+            // Where standard error can't be written either, the exit status tells it alone.
+            let _ = rt.eprintln(format_args!("error: {error}"));
+            ExitCode::FAILURE
+        }
+    }
+}
+
+/// Judges each file that the words name, and prints how many rows hold, and how many don't. Answers whether all hold.
+fn judge(rt: &HostRuntime, threads: &(impl Threads + Wait + Sync)) -> io::Result<bool> {
+    let paths: Vec<String> = env::args(rt)?.collect(rt.alloc())?;
+    let mut report = Report::new(rt.alloc());
+    for path in paths.iter().skip(1) {
+        judge_path(rt, threads, path, &mut report)?;
+    }
+    tell(rt, &report)
+}
+
+fn judge_path(
+    rt: &HostRuntime,
+    threads: &(impl Threads + Wait + Sync),
+    path: &str,
+    report: &mut Report,
+) -> io::Result<()> {
+    let text = fs::read_to_string(rt, path)?;
+    judge_file(threads, rt.alloc(), path, &text, report)?;
+    print!(rt; "{}", report.failures())?;
+    report.forget();
+    Ok(())
+}
+
+/// Prints how many rows hold, and how many don't. Answers whether all hold.
+fn tell(rt: &HostRuntime, report: &Report) -> io::Result<bool> {
+    let held = report.held();
+    let missed = report.missed();
+    if missed > 0 {
+        println!(rt; "{missed} rows don't hold")?;
+        return Ok(false);
+    }
+    println!(rt; "{held} rows hold")?;
+    Ok(true)
+}
