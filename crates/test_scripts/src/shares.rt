@@ -244,6 +244,7 @@ fn finished<B: Room, R: Wait>(
 {
     let (shared, mut seats) = SharedPool::<B>::new(alloc, cell, keeper, pool, 2)?;
     judge_shared(rt, alloc, &shared, seats.as_mut_slice(), calls, report)?;
+    seats.reverse();
     match shared.finish(rt, alloc, seats) {
         Ok(finished) => Ok(finished),
         Err(_back) => Err(Trouble::Script("not finished")),
