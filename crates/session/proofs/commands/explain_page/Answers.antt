@@ -9,8 +9,8 @@ returns-clause-page g c =
       c.deref.result.now,
       c.deref-2.result.now,
       c.explain_evidence-explained.result,
-      subst (AreAll (held c.args.program.now)) (sym c.deref.ensures.value) c.in_ok-texts.ensures.program,
-      subst (AreAll (held c.args.evidence.now)) (sym c.deref-2.ensures.value) c.in_ok-texts.ensures.evidence,
+      subst (AreAll (held c.args.program.now)) (sym c.deref.ensures.value) c.in_ok-program.ensures.program,
+      subst (AreAll (held c.args.evidence.now)) (sym c.deref-2.ensures.value) c.in_ok-program.ensures.evidence,
       c.explain_evidence-explained.ensures,
       c.in_ok-explanation_page.ensures,
     )

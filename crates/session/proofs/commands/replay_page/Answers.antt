@@ -10,8 +10,8 @@ returns-in-Stuck-clause-page g c =
       c.deref.result.now,
       c.deref-2.result.now,
       replays.Stuck c.in-Stuck.text,
-      subst (AreAll (held c.args.program.now)) (sym c.deref.ensures.value) c.in_ok-texts.ensures.program,
-      subst (AreAll (held c.args.evidence.now)) (sym c.deref-2.ensures.value) c.in_ok-texts.ensures.evidence,
+      subst (AreAll (held c.args.program.now)) (sym c.deref.ensures.value) c.in_ok-program.ensures.program,
+      subst (AreAll (held c.args.evidence.now)) (sym c.deref-2.ensures.value) c.in_ok-program.ensures.evidence,
       c.in-Stuck.ensures,
       (refl, c.status-status.ensures),
     )
