@@ -46,7 +46,7 @@ returns-in-Ok-clause-page g c =
     let held = g.F.FileSet.held c.args.files.now in
     let program = subst (AreAll (held c.args.program.now)) (sym c.deref.ensures.value) c.in_ok-program.ensures.program in
     let evidence = subst (AreAll (held c.args.evidence.now)) (sym c.deref-2.ensures.value) c.in_ok-program.ensures.evidence in
-    page_written g.F.FileSet.tells_written held (g.F.FileSet.held c.read_both-program.new.files) (g.F.FileSet.held c.decided_page.new.files)
+    page_written g.F.FileSet.tells_written held (g.F.FileSet.held c.read_both.new.files) (g.F.FileSet.held c.decided_page.new.files)
     c.args.program.now c.args.evidence.now c.args.out.now c.deref.result.now c.deref-2.result.now c.deref-in-Ok.result.now c.decided_page.result program evidence
     (subst (Exports c.deref.result.now c.deref-2.result.now) (sym c.deref-in-Ok.ensures.value) c.in-Ok.ensures.proof) c.decided_page.ensures.written c.decided_page.ensures.line
 
@@ -55,7 +55,7 @@ returns-in-Ok-clause-stop g c =
     let held = g.F.FileSet.held c.args.files.now in
     let program = subst (AreAll (held c.args.program.now)) (sym c.deref.ensures.value) c.in_ok-program.ensures.program in
     let evidence = subst (AreAll (held c.args.evidence.now)) (sym c.deref-2.ensures.value) c.in_ok-program.ensures.evidence in
-    stops_written (g.F.FileSet.reads c.args.files.now) held (g.F.FileSet.held c.read_both-program.new.files) (g.F.FileSet.held c.decided_page.new.files)
+    stops_written (g.F.FileSet.reads c.args.files.now) held (g.F.FileSet.held c.read_both.new.files) (g.F.FileSet.held c.decided_page.new.files)
     c.args.program.now c.args.evidence.now c.args.out.now c.deref.result.now c.deref-2.result.now c.deref-in-Ok.result.now c.decided_page.result
     c.in_ok-program.ensures.same program evidence
     (subst (Exports c.deref.result.now c.deref-2.result.now) (sym c.deref-in-Ok.ensures.value) c.in-Ok.ensures.proof) c.decided_page.ensures.stop
