@@ -15,3 +15,8 @@ open_fault _ = opening.Device
 abbrev pub load_fault : ErrorKind → LoadFault
 load_fault OutOfMemory = loading.Memory
 load_fault _ = loading.Device
+
+-- a file that can't be opened is told as one that can't be read
+abbrev pub unopened : OpenFault → LoadFault
+unopened opening.Memory = loading.Memory
+unopened opening.Device = loading.Device

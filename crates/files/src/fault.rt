@@ -1,7 +1,7 @@
 //! Why a file can't be opened, read or written.
 ghost use Rattle.std.specs.IoError.{error_kind};
 ghost use Rattle.std.specs.Prelude.{◌≡◌};
-ghost use Rattle.files.specs.Faults.{load_fault, open_fault};
+ghost use Rattle.files.specs.Faults.{load_fault, open_fault, unopened};
 
 use std::io;
 use thiserror::Error;
@@ -46,6 +46,17 @@ impl From<io::Error> for LoadFault {
         match error.kind() {
             io::ErrorKind::OutOfMemory => LoadFault::Memory,
             _ => LoadFault::Device,
+        }
+    }
+}
+
+impl From<OpenFault> for LoadFault {
+    ghost from_gives = { λ opening loading. loading ≡ unopened opening };
+
+    fn from(fault: OpenFault) -> LoadFault {
+        match fault {
+            OpenFault::Memory => LoadFault::Memory,
+            OpenFault::Device => LoadFault::Device,
         }
     }
 }

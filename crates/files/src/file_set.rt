@@ -1,18 +1,17 @@
 //! Files that are opened by their path.
-ghost use Rattle.std.specs.Prelude.{◌≡◌, ℕ, Bool, false, true, List, [], Option, Some, None, IfOk, IfSome, IsTrue, OnErr, OnOk};
-ghost use Rattle.files.specs.Contents.{KeepsOthers};
+ghost use Rattle.std.specs.Prelude.{◌≡◌, ℕ, Bool, false, true, List, [], Option, Some, None, IfErr, IfOk, IsTrue, OnErr, OnOk};
+ghost use Rattle.files.specs.Contents.{AreAll, KeepsOthers};
+ghost use Rattle.files.specs.declared.fault.LoadFault.{LoadFault};
 
-use crate::OpenFault;
-use std::io::{Read, Write};
+use crate::{LoadFault, OpenFault};
+use std::alloc::Global;
+use std::io::Write;
 
-/// Files that are opened by their path, to be read or to be written.
+/// Files that are read or written by their path.
 ///
-/// A set of files in memory can tell what its files hold, and contracts then speak of those bytes.
-/// The system's files tell nothing.
+/// A set of files in memory can tell what its files hold and which of them it reads, and contracts then speak of
+/// that. The system's files tell nothing.
 pub trait FileSet {
-    /// Reads a file from its beginning.
-    type Reader: Read + Drop;
-
     /// Writes a file from its beginning.
     type Writer: Write + Drop;
 
@@ -22,14 +21,18 @@ pub trait FileSet {
     // Whether the set's writers tell the bytes that they took, and the set what it then holds.
     ghost tells_written: { Bool } = { false };
 
+    // Whether the set tells that it reads the whole file at this path, unless memory runs out.
+    ghost reads: { Self → List ℕ → Bool } = { λ _ _. false };
+
     // Whether a file at this path can be written.
     ghost takes: { Self → List ℕ → Bool } = { λ _ _. true };
 
-    /// Opens the file at a path to be read. No file changes.
-    fn open_read(&mut self, path: &str) -> Result<Self::Reader, OpenFault>
-        ensures bytes { IfOk result (λ reader.
-            IfSome (held self.old path.now) (λ bytes. Self.Reader.remaining reader ≡ Some bytes)) }
-        ensures same { held self.new ≡ held self.old };
+    /// The whole content of the file at a path. No file changes, nor which are read.
+    fn read(&mut self, alloc: Global, path: &str) -> Result<Vec<u8>, LoadFault>
+        ensures bytes { IfOk result (λ bytes. AreAll (held self.old path.now) bytes.items) }
+        ensures fault { IfErr result (λ fault. IsTrue (reads self.old path.now) → fault ≡ LoadFault.Memory) }
+        ensures same { held self.new ≡ held self.old }
+        ensures same_reads { reads self.new ≡ reads self.old };
 
     /// Opens the file at a path to be written. What it held is gone, and what it holds is told once
     /// it is closed. Every other file holds what it held, and where the opening is refused this one

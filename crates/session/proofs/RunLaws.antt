@@ -16,10 +16,10 @@ use Rattle.prover.specs.declared.steps.Replayed.{Replayed}
 use Rattle.prover.specs.declared.steps.Replayed.TheVariants as replays
 use Rattle.command_line.specs.CommandLine.{version_line}
 use Rattle.command_line.specs.Requests.{AskFor, Task, to_check, to_encode, to_explain, to_export, to_prove, to_replay}
-use Rattle.session.specs.Deadlocks.{AskToCheck, AskToProve, AskToReplay, CheckedDeadlockIsPrinted, CheckedDeadlockIsShown, CheckedSafetyIsPrinted, CheckedSafetyIsTrue, EncodedFormulaIsPrinted, ExportedAnswerIsPrinted, ExportedProofIsWritten, ExportedSafetyIsTrue, IsRightlyTold, ProvedDeadlockIsPrinted, ProvedDeadlockIsShown, ProvedSafetyIsPrinted, ProvedSafetyIsTrue, ProvedUnknownFinishes, RefutedIsChecked, ReplayedDeadlockIsShown, ReplayedRunIsPrinted, ShownDeadlockIsChecked, ShownDeadlockIsReplayed, TellsDeadlock, TellsSafety, ToldDeadlockIsShown, WrittenDeadlockIsShown, WrittenSafetyIsRefuted}
+use Rattle.session.specs.Deadlocks.{ReadFilesAreNotBlamed, AskToCheck, AskToProve, AskToReplay, CheckedDeadlockIsPrinted, CheckedDeadlockIsShown, CheckedSafetyIsPrinted, CheckedSafetyIsTrue, EncodedFormulaIsPrinted, ExportedAnswerIsPrinted, ExportedProofIsWritten, ExportedSafetyIsTrue, IsRightlyTold, ProvedDeadlockIsPrinted, ProvedDeadlockIsShown, ProvedSafetyIsPrinted, ProvedSafetyIsTrue, ProvedUnknownFinishes, RefutedIsChecked, ReplayedDeadlockIsShown, ReplayedRunIsPrinted, ShownDeadlockIsChecked, ShownDeadlockIsReplayed, TellsDeadlock, TellsSafety, ToldDeadlockIsShown, WrittenDeadlockIsShown, WrittenSafetyIsRefuted}
 use Rattle.session.specs.Endings.{Complains, Ends, EndsFollowed, EndsUnasked, Explains, FailsEarly, IsFollowed, Prints, PrintsAlone, SessionEnds, TaskEnds}
 use Rattle.session.specs.Lines.{IsLine, deadlock_line, early_line, memory_line, no_deadlock_line, told_of_answer, told_of_verdict, told_status}
-use Rattle.session.specs.Pages.{HasTextOfFormula, IsChecked, IsEither, IsEncoded, IsExplained, IsExported, IsExportedTo, IsExportFile, IsProveFile, IsProved, IsReplayPage, IsReplayed}
+use Rattle.session.specs.Pages.{FilesTold, HasTextOfFormula, IsProgram, IsChecked, IsEither, IsEncoded, IsExplained, IsExported, IsExportedTo, IsExportFile, IsProveFile, IsProved, IsReplayPage, IsReplayed}
 use Rattle.session.specs.declared.page.Want.{Want}
 use Rattle.session.specs.declared.page.Want.TheVariants as want
 use Rattle.session.specs.declared.told.Told.TheVariants as told
@@ -122,32 +122,32 @@ checked_status right some program_file evidence_file json text status program ev
 
 -- ---- check
 
-module _ (as_json : Bool) (words : List Text) (p e : Text) (tells : Bool) (before after : List ℕ → Option (List ℕ)) (old new told_old told_new : Option (List ℕ)) (status : ℕ) where
+module _ (as_json : Bool) (words : List Text) (p e : Text) (tells : FilesTold) (before after : List ℕ → Option (List ℕ)) (old new told_old told_new : Option (List ℕ)) (status : ℕ) where
   check_ends : AskToCheck as_json words p e → SessionEnds words tells before after old new told_old told_new status
-      → Ends (IsChecked (before p) (before e) as_json) (IsEither p e) want.Refused as_json before after old new told_old told_new status ⊎ FailsEarly old new told_old told_new status
+      → Ends (IsChecked (before p) (before e) as_json) (IsEither tells.reads p e) want.Refused as_json before after old new told_old told_new status ⊎ FailsEarly old new told_old told_new status
   check_ends asks ends = ended (task_ends words tells before after old new told_old told_new status (to_check p e asks.0 as_json) asks.1 ends)
 
 pub checked : CheckedDeadlockIsShown
 checked as_json words p e tells before after program evidence old new told_old told_new status asks held_p held_e ends says =
-    let page = page_that_told (IsChecked (before p) (before e) as_json) (IsEither p e) want.Refused as_json before after old new told_old told_new status
+    let page = page_that_told (IsChecked (before p) (before e) as_json) (IsEither tells.reads p e) want.Refused as_json before after old new told_old told_new status
     (check_ends as_json words p e tells before after old new told_old told_new status asks ends) says in
     check_shows (before p) (before e) as_json page.0 page.1 program evidence page.2 page.3 held_p held_e
 
 pub shown_checked : ShownDeadlockIsChecked
 shown_checked as_json words p e tells before after program evidence old new told_old told_new status asks held_p held_e ends shows =
-    own_ended 1 (IsChecked (before p) (before e) as_json) (IsEither p e) want.Refused as_json before after old new told_old told_new status
+    own_ended 1 (IsChecked (before p) (before e) as_json) (IsEither tells.reads p e) want.Refused as_json before after old new told_old told_new status
     (check_ends as_json words p e tells before after old new told_old told_new status asks ends)
     (λ text page_status. checked_status verdicts.Deadlock (λ e. cc) (before p) (before e) as_json text page_status program evidence held_p held_e shows)
 
 pub refuted_checked : RefutedIsChecked
 refuted_checked as_json words p e tells before after program evidence old new told_old told_new status asks held_p held_e ends refutes =
-    own_ended 0 (IsChecked (before p) (before e) as_json) (IsEither p e) want.Refused as_json before after old new told_old told_new status
+    own_ended 0 (IsChecked (before p) (before e) as_json) (IsEither tells.reads p e) want.Refused as_json before after old new told_old told_new status
     (check_ends as_json words p e tells before after old new told_old told_new status asks ends)
     (λ text page_status. checked_status verdicts.NoDeadlock (λ e. cc) (before p) (before e) as_json text page_status program evidence held_p held_e refutes)
 
 pub checked_never : CheckedSafetyIsTrue
 checked_never as_json words p e tells before after program old new told_old told_new status asks held ends says =
-    let page = page_that_reassured (IsChecked (before p) (before e) as_json) (IsEither p e) want.Refused as_json before after old new told_old told_new status
+    let page = page_that_reassured (IsChecked (before p) (before e) as_json) (IsEither tells.reads p e) want.Refused as_json before after old new told_old told_new status
     (check_ends as_json words p e tells before after old new told_old told_new status asks ends) says in
     check_never (before p) (before e) as_json page.0 page.1 program page.2 page.3 held
 
@@ -164,24 +164,37 @@ stuck_page program_file evidence_file json text page =
 
 pub checked_safe : CheckedSafetyIsPrinted
 checked_safe as_json words p e tells before after old new told_old told_new status asks ends zero =
-    text_printed 0 (omega arith) (no_deadlock_line as_json) (IsChecked (before p) (before e) as_json) (IsEither p e) want.Refused as_json before after old new told_old told_new status
+    text_printed 0 (omega arith) (no_deadlock_line as_json) (IsChecked (before p) (before e) as_json) (IsEither tells.reads p e) want.Refused as_json before after old new told_old told_new status
     (safe_page (before p) (before e) as_json) (check_ends as_json words p e tells before after old new told_old told_new status asks ends) zero
 
 pub checked_stuck : CheckedDeadlockIsPrinted
 checked_stuck as_json words p e tells before after old new told_old told_new status asks ends one =
-    text_printed 1 (omega arith) (deadlock_line as_json) (IsChecked (before p) (before e) as_json) (IsEither p e) want.Refused as_json before after old new told_old told_new status
+    text_printed 1 (omega arith) (deadlock_line as_json) (IsChecked (before p) (before e) as_json) (IsEither tells.reads p e) want.Refused as_json before after old new told_old told_new status
     (stuck_page (before p) (before e) as_json) (check_ends as_json words p e tells before after old new told_old told_new status asks ends) one
+
+pub not_blamed : ReadFilesAreNotBlamed
+not_blamed as_json words p e tells before after old new told_old told_new status asks read_p read_e ends five =
+    elim (check_ends as_json words p e tells before after old new told_old told_new status asks ends) [
+      | inl (inl page) ↦ page.3.1
+      | inl (inr (inl memory)) ↦ memory.1.1
+      | inl (inr (inr file)) ↦ absurd (either_unread file.1)
+      | inr fails ↦ absurd (omega (arith, five, fails.0))
+    ]
+  where
+    either_unread : {path : Text} → IsEither tells.reads p e path → ⊥
+    either_unread (inl program) = program.1 read_p
+    either_unread (inr evidence) = evidence.1 read_e
 
 -- ---- replay
 
-module _ (words : List Text) (p e : Text) (tells : Bool) (before after : List ℕ → Option (List ℕ)) (old new told_old told_new : Option (List ℕ)) (status : ℕ) where
+module _ (words : List Text) (p e : Text) (tells : FilesTold) (before after : List ℕ → Option (List ℕ)) (old new told_old told_new : Option (List ℕ)) (status : ℕ) where
   replay_ends : AskToReplay words p e → SessionEnds words tells before after old new told_old told_new status
-      → Ends (IsReplayed (before p) (before e)) (IsEither p e) want.Refused false before after old new told_old told_new status ⊎ FailsEarly old new told_old told_new status
+      → Ends (IsReplayed (before p) (before e)) (IsEither tells.reads p e) want.Refused false before after old new told_old told_new status ⊎ FailsEarly old new told_old told_new status
   replay_ends asks ends = ended (task_ends words tells before after old new told_old told_new status (to_replay p e) asks ends)
 
 pub replayed : ReplayedDeadlockIsShown
 replayed words p e tells before after program evidence old new told_old told_new status asks held_p held_e ends says =
-    let page = page_that_told (IsReplayed (before p) (before e)) (IsEither p e) want.Refused false before after old new told_old told_new status
+    let page = page_that_told (IsReplayed (before p) (before e)) (IsEither tells.reads p e) want.Refused false before after old new told_old told_new status
     (replay_ends words p e tells before after old new told_old told_new status asks ends) says in
     replayed_shows (before p) (before e) page.0 page.1 program evidence page.2 page.3 held_p held_e
 
@@ -210,7 +223,7 @@ replayed_status program_file evidence_file text status program evidence page hel
 
 pub shown_replayed : ShownDeadlockIsReplayed
 shown_replayed words p e tells before after program evidence old new told_old told_new status asks held_p held_e ends shows =
-    own_ended 1 (IsReplayed (before p) (before e)) (IsEither p e) want.Refused false before after old new told_old told_new status
+    own_ended 1 (IsReplayed (before p) (before e)) (IsEither tells.reads p e) want.Refused false before after old new told_old told_new status
     (replay_ends words p e tells before after old new told_old told_new status asks ends)
     (λ text page_status page. replayed_status (before p) (before e) text page_status program evidence page held_p held_e shows)
 
@@ -230,7 +243,7 @@ never_replayed replays.NotASchedule text page = omega (arith, page.3)
 pub replayed_run : ReplayedRunIsPrinted
 replayed_run = record {
   run = λ words p e tells before after program evidence old new told_old told_new status asks held_p held_e ends one.
-      let page = page_printed 1 (omega arith) (IsReplayed (before p) (before e)) (IsEither p e) want.Refused false before after old new told_old told_new status
+      let page = page_printed 1 (omega arith) (IsReplayed (before p) (before e)) (IsEither tells.reads p e) want.Refused false before after old new told_old told_new status
       (replay_ends words p e tells before after old new told_old told_new status asks ends) one in
       let replayed = page.1 in
       let stuck = stuck_replay replayed.0 replayed.1 replayed.2 page.0 replayed.5 replayed.6 in
@@ -238,16 +251,16 @@ replayed_run = record {
       replayed.0 replayed.1 program evidence replayed.3 replayed.4 held_p held_e
       (stuck.0, subst (λ (text : List ℕ). PrintsAlone old new told_old told_new text 1 status) stuck.1 page.2);
   never_safe = λ words p e tells before after old new told_old told_new status asks ends zero.
-      let page = page_printed 0 (omega arith) (IsReplayed (before p) (before e)) (IsEither p e) want.Refused false before after old new told_old told_new status
+      let page = page_printed 0 (omega arith) (IsReplayed (before p) (before e)) (IsEither tells.reads p e) want.Refused false before after old new told_old told_new status
       (replay_ends words p e tells before after old new told_old told_new status asks ends) zero in
       never_replayed page.1.2 page.0 page.1.6;
 }
 
 -- ---- encode
 
-module _ (words : List Text) (p : Text) (dimacs tells : Bool) (before after : List ℕ → Option (List ℕ)) (old new told_old told_new : Option (List ℕ)) (status : ℕ) where
+module _ (words : List Text) (p : Text) (dimacs : Bool) (tells : FilesTold) (before after : List ℕ → Option (List ℕ)) (old new told_old told_new : Option (List ℕ)) (status : ℕ) where
   encode_ends : AskFor words (to_encode p dimacs) → SessionEnds words tells before after old new told_old told_new status
-      → Ends (IsEncoded dimacs (before p)) (λ path. path ≡ p) want.Refused false before after old new told_old told_new status ⊎ FailsEarly old new told_old told_new status
+      → Ends (IsEncoded dimacs (before p)) (IsProgram tells.reads p) want.Refused false before after old new told_old told_new status ⊎ FailsEarly old new told_old told_new status
   encode_ends asks ends = ended (task_ends words tells before after old new told_old told_new status (to_encode p dimacs) asks ends)
 
 -- the page of `encode` with the status 0 is the formula's text
@@ -265,11 +278,11 @@ never_encoded dimacs file text (read, all, inr (reason, why, line)) = omega (ari
 pub encoded : EncodedFormulaIsPrinted
 encoded = record {
   formula = λ words p dimacs tells before after program old new told_old told_new status asks held ends zero.
-      let page = page_printed 0 (omega arith) (IsEncoded dimacs (before p)) (λ path. path ≡ p) want.Refused false before after old new told_old told_new status
+      let page = page_printed 0 (omega arith) (IsEncoded dimacs (before p)) (IsProgram tells.reads p) want.Refused false before after old new told_old told_new status
       (encode_ends words p dimacs tells before after old new told_old told_new status asks ends) zero in
       (page.0, encoded_text dimacs (before p) page.0 program page.1 held, page.2);
   never_stuck = λ words p dimacs tells before after old new told_old told_new status asks ends one.
-      let page = page_printed 1 (omega arith) (IsEncoded dimacs (before p)) (λ path. path ≡ p) want.Refused false before after old new told_old told_new status
+      let page = page_printed 1 (omega arith) (IsEncoded dimacs (before p)) (IsProgram tells.reads p) want.Refused false before after old new told_old told_new status
       (encode_ends words p dimacs tells before after old new told_old told_new status asks ends) one in
       never_encoded dimacs (before p) page.0 page.1;
 }
@@ -277,40 +290,40 @@ encoded = record {
 -- ---- prove
 
 -- a search ends by a page of `prove`, once its progress was told or not, or by want of memory before its command is known
-abbrev SearchEnds : Text → Option Text → ℕ → Bool → Bool → Bool → (List ℕ → Option (List ℕ)) → (List ℕ → Option (List ℕ))
+abbrev SearchEnds : Text → Option Text → ℕ → Bool → Bool → FilesTold → (List ℕ → Option (List ℕ)) → (List ℕ → Option (List ℕ))
     → Option (List ℕ) → Option (List ℕ) → Option (List ℕ) → Option (List ℕ) → ℕ → Type 0
 SearchEnds p out budget progress as_json tells before after old new told_old told_new status =
-    EndsFollowed progress (IsProved tells before after p out budget as_json) (IsProveFile p out before after) want.Unknown as_json before after old new told_old told_new status
+    EndsFollowed progress (IsProved tells.writes before after p out budget as_json) (IsProveFile tells.reads p out before after) want.Unknown as_json before after old new told_old told_new status
     ⊎ FailsEarly old new told_old told_new status
 
-search_ends : (words : List Text) (p : Text) (out : Option Text) (budget : ℕ) (progress as_json tells : Bool) (before after : List ℕ → Option (List ℕ)) (old new told_old told_new : Option (List ℕ)) (status : ℕ)
+search_ends : (words : List Text) (p : Text) (out : Option Text) (budget : ℕ) (progress as_json : Bool) (tells : FilesTold) (before after : List ℕ → Option (List ℕ)) (old new told_old told_new : Option (List ℕ)) (status : ℕ)
     → AskToProve words p out budget progress as_json → SessionEnds words tells before after old new told_old told_new status → SearchEnds p out budget progress as_json tells before after old new told_old told_new status
 search_ends words p out budget progress as_json tells before after old new told_old told_new status asks ends =
     ended (task_ends words tells before after old new told_old told_new status (to_prove p out asks.0 asks.1 budget progress as_json) asks.2 ends)
 
-module _ (p : Text) (out : Option Text) (budget : ℕ) (progress as_json tells : Bool) (before after : List ℕ → Option (List ℕ)) (old new told_old told_new : Option (List ℕ)) (status : ℕ) where
+module _ (p : Text) (out : Option Text) (budget : ℕ) (progress as_json : Bool) (tells : FilesTold) (before after : List ℕ → Option (List ℕ)) (old new told_old told_new : Option (List ℕ)) (status : ℕ) where
   search_that_told : SearchEnds p out budget progress as_json tells before after old new told_old told_new status → TellsDeadlock old new status
-      → (text : List ℕ) × (page_status : ℕ) × IsProved tells before after p out budget as_json text page_status × PageTells text page_status
+      → (text : List ℕ) × (page_status : ℕ) × IsProved tells.writes before after p out budget as_json text page_status × PageTells text page_status
   search_that_told (inl ends) says =
-      deadlock_page (IsProved tells before after p out budget as_json) (IsProveFile p out before after) want.Unknown as_json
+      deadlock_page (IsProved tells.writes before after p out budget as_json) (IsProveFile tells.reads p out before after) want.Unknown as_json
       before after old new ends.0 told_new status ends.2 says
   search_that_told (inr fails) says =
       absurd (complaint_untold old new told_old told_new early_line 4 status (λ one. omega (arith, one)) fails says)
 
   search_that_reassured : SearchEnds p out budget progress as_json tells before after old new told_old told_new status → TellsSafety old new status
-      → (text : List ℕ) × (page_status : ℕ) × IsProved tells before after p out budget as_json text page_status × PageTellsSafety text page_status
+      → (text : List ℕ) × (page_status : ℕ) × IsProved tells.writes before after p out budget as_json text page_status × PageTellsSafety text page_status
   search_that_reassured (inl ends) says =
-      safety_page (IsProved tells before after p out budget as_json) (IsProveFile p out before after) want.Unknown as_json
+      safety_page (IsProved tells.writes before after p out budget as_json) (IsProveFile tells.reads p out before after) want.Unknown as_json
       before after old new ends.0 told_new status ends.2 says
   search_that_reassured (inr fails) says = absurd (safety_untold old new status (λ zero. omega (arith, fails.0, zero)) fails.1 says)
 
   search_printed : (own : ℕ) → own < 4 → (line : List ℕ)
-      → ((text : List ℕ) → IsProved tells before after p out budget as_json text own → text ≡ line) → SearchEnds p out budget progress as_json tells before after old new told_old told_new status → status ≡ own
+      → ((text : List ℕ) → IsProved tells.writes before after p out budget as_json text own → text ≡ line) → SearchEnds p out budget progress as_json tells before after old new told_old told_new status → status ≡ own
       → (told : Option (List ℕ)) × IsFollowed progress told_old told × PrintsAlone old new told told_new line own status
   search_printed own low line known (inl ends) is = (
     ends.0,
     ends.1,
-    text_printed own low line (IsProved tells before after p out budget as_json) (IsProveFile p out before after) want.Unknown as_json
+    text_printed own low line (IsProved tells.writes before after p out budget as_json) (IsProveFile tells.reads p out before after) want.Unknown as_json
         before after old new ends.0 told_new status known (inl ends.2) is,
   )
   search_printed own low line known (inr fails) is = absurd (omega (arith, low, is, fails.0))
@@ -318,23 +331,23 @@ module _ (p : Text) (out : Option Text) (budget : ℕ) (progress as_json tells :
 pub proved : ProvedDeadlockIsShown
 proved words p out budget progress as_json tells before after program old new told_old told_new status asks held ends says =
     let page = search_that_told p out budget progress as_json tells before after old new told_old told_new status (search_ends words p out budget progress as_json tells before after old new told_old told_new status asks ends) says in
-    prove_shows tells before after p out budget as_json page.0 page.1 program page.2 page.3 held
+    prove_shows tells.writes before after p out budget as_json page.0 page.1 program page.2 page.3 held
 
 pub written : WrittenDeadlockIsShown
-written words p file budget progress as_json before after program old new told_old told_new status asks held ends says =
-    let page = search_that_told p (Some file) budget progress as_json true before after old new told_old told_new status
-    (search_ends words p (Some file) budget progress as_json true before after old new told_old told_new status asks ends) says in
+written words p file budget progress as_json reads before after program old new told_old told_new status asks held ends says =
+    let page = search_that_told p (Some file) budget progress as_json (record { writes = true; reads = reads }) before after old new told_old told_new status
+    (search_ends words p (Some file) budget progress as_json (record { writes = true; reads = reads }) before after old new told_old told_new status asks ends) says in
     file_shows before after p file budget as_json page.0 page.1 program page.2 page.3 held
 
 pub proved_never : ProvedSafetyIsTrue
 proved_never words p out budget progress as_json tells before after program old new told_old told_new status asks held ends says =
     let page = search_that_reassured p out budget progress as_json tells before after old new told_old told_new status (search_ends words p out budget progress as_json tells before after old new told_old told_new status asks ends) says in
-    prove_never tells before after p out budget as_json page.0 page.1 program page.2 page.3 held
+    prove_never tells.writes before after p out budget as_json page.0 page.1 program page.2 page.3 held
 
 pub written_never : WrittenSafetyIsRefuted
-written_never words p file budget progress as_json before after program old new told_old told_new status asks held ends says =
-    let page = search_that_reassured p (Some file) budget progress as_json true before after old new told_old told_new status
-    (search_ends words p (Some file) budget progress as_json true before after old new told_old told_new status asks ends) says in
+written_never words p file budget progress as_json reads before after program old new told_old told_new status asks held ends says =
+    let page = search_that_reassured p (Some file) budget progress as_json (record { writes = true; reads = reads }) before after old new told_old told_new status
+    (search_ends words p (Some file) budget progress as_json (record { writes = true; reads = reads }) before after old new told_old told_new status asks ends) says in
     file_refutes before after p file budget as_json page.0 page.1 program page.2 page.3 held
 
 safe_search : (tells : Bool) (before after : List ℕ → Option (List ℕ)) (path : List ℕ) (out : Option (List ℕ)) (budget : ℕ) (json : Bool) (text : List ℕ)
@@ -350,40 +363,40 @@ stuck_search tells before after path out budget json text page =
 pub proved_safe : ProvedSafetyIsPrinted
 proved_safe words p out budget progress as_json tells before after old new told_old told_new status asks ends zero =
     search_printed p out budget progress as_json tells before after old new told_old told_new status 0 (omega arith) (no_deadlock_line as_json)
-    (safe_search tells before after p out budget as_json) (search_ends words p out budget progress as_json tells before after old new told_old told_new status asks ends) zero
+    (safe_search tells.writes before after p out budget as_json) (search_ends words p out budget progress as_json tells before after old new told_old told_new status asks ends) zero
 
 pub proved_stuck : ProvedDeadlockIsPrinted
 proved_stuck words p out budget progress as_json tells before after old new told_old told_new status asks ends one =
     search_printed p out budget progress as_json tells before after old new told_old told_new status 1 (omega arith) (deadlock_line as_json)
-    (stuck_search tells before after p out budget as_json) (search_ends words p out budget progress as_json tells before after old new told_old told_new status asks ends) one
+    (stuck_search tells.writes before after p out budget as_json) (search_ends words p out budget progress as_json tells before after old new told_old told_new status asks ends) one
 
 pub unknown_finishes : ProvedUnknownFinishes
 unknown_finishes words p out budget progress as_json tells before after program old new told_old told_new status asks some held ends says =
     elim (search_ends words p out budget progress as_json tells before after old new told_old told_new status asks ends) [
       | inl ended ↦
-          let page = unknown_page says.0 says.1 (IsProved tells before after p out budget as_json) (IsProveFile p out before after) as_json before after
+          let page = unknown_page says.0 says.1 (IsProved tells.writes before after p out budget as_json) (IsProveFile tells.reads p out before after) as_json before after
           old new ended.0 told_new status ended.2 says.2 in
-          prove_finishes tells before after p out budget as_json page.0 page.1 program says.0 says.1 page.2 page.3 some held
+          prove_finishes tells.writes before after p out budget as_json page.0 page.1 program says.0 says.1 page.2 page.3 some held
       | inr fails ↦ absurd (unknown_untold says.0 old new status (λ two. omega (arith, fails.0, two)) fails.1 says.2)
     ]
 
 -- ---- export
 
-module _ (words : List Text) (p e out : Text) (tells : Bool) (before after : List ℕ → Option (List ℕ)) (old new told_old told_new : Option (List ℕ)) (status : ℕ) where
+module _ (words : List Text) (p e out : Text) (tells : FilesTold) (before after : List ℕ → Option (List ℕ)) (old new told_old told_new : Option (List ℕ)) (status : ℕ) where
   export_ends : AskFor words (to_export p e out) → SessionEnds words tells before after old new told_old told_new status
-      → Ends (IsExported tells before after p e out) (IsExportFile p e out before after) want.Refused false before after old new told_old told_new status ⊎ FailsEarly old new told_old told_new status
+      → Ends (IsExported tells.writes before after p e out) (IsExportFile tells.reads p e out before after) want.Refused false before after old new told_old told_new status ⊎ FailsEarly old new told_old told_new status
   export_ends asks ends = ended (task_ends words tells before after old new told_old told_new status (to_export p e out) asks ends)
 
 pub exported_never : ExportedSafetyIsTrue
 exported_never words p e out tells before after program old new told_old told_new status asks held ends says =
-    let page = page_that_reassured (IsExported tells before after p e out) (IsExportFile p e out before after) want.Refused false before after old new told_old told_new status
+    let page = page_that_reassured (IsExported tells.writes before after p e out) (IsExportFile tells.reads p e out before after) want.Refused false before after old new told_old told_new status
     (export_ends words p e out tells before after old new told_old told_new status asks ends) says in
-    check_never (before p) (before e) false page.0 page.1 program (exported_checked tells before after p e out page.0 page.1 page.2) page.3 held
+    check_never (before p) (before e) false page.0 page.1 program (exported_checked tells.writes before after p e out page.0 page.1 page.2) page.3 held
 
 pub exported_written : ExportedProofIsWritten
-exported_written words p e out before after program evidence old new told_old told_new status asks held_p held_e ends says =
-    let page = page_that_reassured (IsExported true before after p e out) (IsExportFile p e out before after) want.Refused false before after old new told_old told_new status
-    (export_ends words p e out true before after old new told_old told_new status asks ends) says in
+exported_written words p e out reads before after program evidence old new told_old told_new status asks held_p held_e ends says =
+    let page = page_that_reassured (IsExported true before after p e out) (IsExportFile reads p e out before after) want.Refused false before after old new told_old told_new status
+    (export_ends words p e out (record { writes = true; reads = reads }) before after old new told_old told_new status asks ends) says in
     exported_proof before after p e out page.0 page.1 program evidence page.2 page.3 held_p held_e
 
 -- an export that tells a deadlock changes no file
@@ -396,16 +409,16 @@ stuck_export tells before after file program evidence (verdicts.Refused reason) 
 pub exported : ExportedAnswerIsPrinted
 exported = record {
   safety = λ words p e out tells before after old new told_old told_new status asks ends zero.
-      text_printed 0 (omega arith) (no_deadlock_line false) (IsExported tells before after p e out) (IsExportFile p e out before after) want.Refused false before after old new told_old told_new status
-      (λ text page. safe_page (before p) (before e) false text (exported_checked tells before after p e out text 0 page))
+      text_printed 0 (omega arith) (no_deadlock_line false) (IsExported tells.writes before after p e out) (IsExportFile tells.reads p e out before after) want.Refused false before after old new told_old told_new status
+      (λ text page. safe_page (before p) (before e) false text (exported_checked tells.writes before after p e out text 0 page))
       (export_ends words p e out tells before after old new told_old told_new status asks ends) zero;
   deadlock = λ words p e out tells before after old new told_old told_new status asks ends one.
-      let page = page_printed 1 (omega arith) (IsExported tells before after p e out) (IsExportFile p e out before after) want.Refused false before after old new told_old told_new status
+      let page = page_printed 1 (omega arith) (IsExported tells.writes before after p e out) (IsExportFile tells.reads p e out before after) want.Refused false before after old new told_old told_new status
       (export_ends words p e out tells before after old new told_old told_new status asks ends) one in
       let is = page.1 in (
-        stuck_export tells before after out is.0 is.1 is.2 (one_told (told_of_verdict is.2) (sym is.7.3)) is.6,
+        stuck_export tells.writes before after out is.0 is.1 is.2 (one_told (told_of_verdict is.2) (sym is.7.3)) is.6,
         subst (λ (text : List ℕ). PrintsAlone old new told_old told_new text 1 status)
-            (stuck_page (before p) (before e) false page.0 (exported_checked tells before after p e out page.0 1 is)) page.2,
+            (stuck_page (before p) (before e) false page.0 (exported_checked tells.writes before after p e out page.0 1 is)) page.2,
       );
 }
 
@@ -419,7 +432,7 @@ encoded_untold true file text status (program, all, inl formula) tells = dimacs_
 encoded_untold dimacs file text status (program, all, inr (reason, why, line)) tells =
     let other : told.Refused reason ≡ told.Deadlock = line_tells (told.Refused reason) false text status line tells in cc
 
-asked_told : (words : List Text) (tells : Bool) (before after : List ℕ → Option (List ℕ)) (old new told_old told_new : Option (List ℕ)) (status : ℕ) (task : Task)
+asked_told : (words : List Text) (tells : FilesTold) (before after : List ℕ → Option (List ℕ)) (old new told_old told_new : Option (List ℕ)) (status : ℕ) (task : Task)
     → AskFor words task → TaskEnds tells before after task old new told_old told_new status → TellsDeadlock old new status → IsRightlyTold words before
 asked_told words tells before after old new told_old told_new status (to_prove p out workers depth budget progress json) asks ends says =
     inl (
@@ -431,7 +444,7 @@ asked_told words tells before after old new told_old told_new status (to_prove p
       (workers, depth, asks),
       λ program held.
           let page = search_that_told p out budget progress json tells before after old new told_old told_new status (inl ends.1) says in
-          prove_shows tells before after p out budget json page.0 page.1 program page.2 page.3 held,
+          prove_shows tells.writes before after p out budget json page.0 page.1 program page.2 page.3 held,
     )
 asked_told words tells before after old new told_old told_new status (to_check p e pieces json) asks ends says =
     inr (
@@ -439,7 +452,7 @@ asked_told words tells before after old new told_old told_new status (to_check p
       e,
       inl (json, (pieces, asks)),
       λ program evidence held_p held_e.
-          let page = deadlock_page (IsChecked (before p) (before e) json) (IsEither p e) want.Refused json before after old new told_old told_new status ends.1 says in
+          let page = deadlock_page (IsChecked (before p) (before e) json) (IsEither tells.reads p e) want.Refused json before after old new told_old told_new status ends.1 says in
           check_shows (before p) (before e) json page.0 page.1 program evidence page.2 page.3 held_p held_e,
     )
 asked_told words tells before after old new told_old told_new status (to_replay p e) asks ends says =
@@ -448,7 +461,7 @@ asked_told words tells before after old new told_old told_new status (to_replay 
       e,
       inr (inl asks),
       λ program evidence held_p held_e.
-          let page = deadlock_page (IsReplayed (before p) (before e)) (IsEither p e) want.Refused false before after old new told_old told_new status ends.1 says in
+          let page = deadlock_page (IsReplayed (before p) (before e)) (IsEither tells.reads p e) want.Refused false before after old new told_old told_new status ends.1 says in
           replayed_shows (before p) (before e) page.0 page.1 program evidence page.2 page.3 held_p held_e,
     )
 asked_told words tells before after old new told_old told_new status (to_explain p e graph) asks ends says =
@@ -457,7 +470,7 @@ asked_told words tells before after old new told_old told_new status (to_explain
       e,
       inr (inr (inl (graph, asks))),
       λ program evidence held_p held_e.
-          let page = deadlock_page (IsExplained (before p) (before e) graph) (IsEither p e) want.Refused false before after old new told_old told_new status ends.1 says in
+          let page = deadlock_page (IsExplained (before p) (before e) graph) (IsEither tells.reads p e) want.Refused false before after old new told_old told_new status ends.1 says in
           explained_shows (before p) (before e) graph page.0 page.1 program evidence page.2 page.3 held_p held_e,
     )
 asked_told words tells before after old new told_old told_new status (to_export p e out) asks ends says =
@@ -466,12 +479,12 @@ asked_told words tells before after old new told_old told_new status (to_export 
       e,
       inr (inr (inr (out, asks))),
       λ program evidence held_p held_e.
-          let page = deadlock_page (IsExported tells before after p e out) (IsExportFile p e out before after) want.Refused false before after old new told_old told_new status ends.1 says in
+          let page = deadlock_page (IsExported tells.writes before after p e out) (IsExportFile tells.reads p e out before after) want.Refused false before after old new told_old told_new status ends.1 says in
           check_shows (before p) (before e) false page.0 page.1 program evidence
-          (exported_checked tells before after p e out page.0 page.1 page.2) page.3 held_p held_e,
+          (exported_checked tells.writes before after p e out page.0 page.1 page.2) page.3 held_p held_e,
     )
 asked_told words tells before after old new told_old told_new status (to_encode p dimacs) asks ends says =
-    let page = deadlock_page (IsEncoded dimacs (before p)) (λ path. path ≡ p) want.Refused false before after old new told_old told_new status ends.1 says in
+    let page = deadlock_page (IsEncoded dimacs (before p)) (IsProgram tells.reads p) want.Refused false before after old new told_old told_new status ends.1 says in
     absurd (encoded_untold dimacs (before p) page.0 page.1 page.2 page.3)
 
 explained_untold : (kind : ErrorKind) (old new told_old told_new : Option (List ℕ)) (status : ℕ) → Explains kind old new told_old told_new status

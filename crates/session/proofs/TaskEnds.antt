@@ -1,12 +1,13 @@
 -- A run whose words ask for a task ends as the task does, or by want of memory before it is known.
-use Rattle.std.proofs.Common.{◌≡◌, ◌⊎◌, inl, inr, subst, ℕ, List, [], Bool, Option}
+use Rattle.std.proofs.Common.{◌≡◌, ◌⊎◌, inl, inr, subst, ℕ, List, [], Option}
 use Rattle.clap.specs.Words.{IsAmong, Kinds, Text, fault_of}
 use Rattle.command_line.specs.CommandLine.{command_line}
 use Rattle.command_line.specs.Requests.{AskFor, Task}
 use Rattle.command_line.proofs.ReadTasks.{one_task_is_asked}
+use Rattle.session.specs.Pages.{FilesTold}
 use Rattle.session.specs.Endings.{EndsUnasked, FailsEarly, SessionEnds, TaskEnds}
 
-module _ (words : List Text) (tells : Bool) (before after : List ℕ → Option (List ℕ)) (old new told_old told_new : Option (List ℕ)) (status : ℕ) where
+module _ (words : List Text) (tells : FilesTold) (before after : List ℕ → Option (List ℕ)) (old new told_old told_new : Option (List ℕ)) (status : ℕ) where
   pub faulted : fault_of command_line words ≡ [] → EndsUnasked words before after old new told_old told_new status
       → FailsEarly old new told_old told_new status
   faulted none ends = elim ends.1 [

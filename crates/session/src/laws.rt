@@ -14,6 +14,7 @@ ghost use Rattle.session.specs.Deadlocks.{
   ProvedSafetyIsPrinted,
   ProvedSafetyIsTrue,
   ProvedUnknownFinishes,
+  ReadFilesAreNotBlamed,
   RefutedIsChecked,
   ReplayedDeadlockIsShown,
   ReplayedRunIsPrinted,
@@ -56,6 +57,12 @@ pub fn checked_safety_is_printed()
 /// And one that ended with the status 1 printed the line that tells a deadlock.
 pub fn checked_deadlock_is_printed()
     ensures { CheckedDeadlockIsPrinted }
+{}
+
+/// Where the files tell that they read both the program and the evidence, a check with the status 5 tells none of them as failed: its
+/// output did.
+pub fn read_files_are_not_blamed()
+    ensures { ReadFilesAreNotBlamed }
 {}
 
 /// Where words ask for a replay, and the run ended with the status 1, the evidence of the one file

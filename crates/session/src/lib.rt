@@ -14,8 +14,9 @@ pub use laws::{
     checked_safety_is_true, encoded_formula_is_printed, exported_answer_is_printed,
     exported_proof_is_written, exported_safety_is_true, plain_words_are_answered,
     proved_deadlock_is_printed, proved_deadlock_is_shown, proved_safety_is_printed,
-    proved_safety_is_true, proved_unknown_finishes, refuted_is_checked, replayed_deadlock_is_shown,
-    replayed_run_is_printed, shown_deadlock_is_checked, shown_deadlock_is_replayed,
-    told_deadlock_is_shown, written_deadlock_is_shown, written_safety_is_refuted,
+    proved_safety_is_true, proved_unknown_finishes, read_files_are_not_blamed, refuted_is_checked,
+    replayed_deadlock_is_shown, replayed_run_is_printed, shown_deadlock_is_checked,
+    shown_deadlock_is_replayed, told_deadlock_is_shown, written_deadlock_is_shown,
+    written_safety_is_refuted,
 };
 pub use run::session;

@@ -1,7 +1,8 @@
 //! A disk in memory.
 ghost use Rattle.std.specs.Prelude.{◌≤◌, IfOk};
 
-use files::{FileSet, OpenFault};
+use files::{FileSet, LoadFault, OpenFault, load};
+use std::alloc::Global;
 use std::cell::{Cell, RefCell};
 use std::io;
 use std::io::{Read, Write};
@@ -63,6 +64,18 @@ impl Disk<'_> {
         }
     }
 
+    /// Opens a file to be read.
+    fn reader(&self, path: &str) -> Result<DiskReader<'_>, OpenFault> {
+        self.open()?;
+        let rest = match path {
+            "program" => self.program,
+            "evidence" => self.evidence,
+            "memory" => return Err(OpenFault::Memory),
+            _ => return Err(OpenFault::Device),
+        };
+        Ok(DiskReader { rest, disk: self })
+    }
+
     /// Counts a read or a write that is to move so many bytes, and answers how many it may move.
     pub(crate) fn transfer(&self, wanted: usize) -> io::Result<usize>
         ensures { IfOk result (λ count. count ≤ wanted) }
@@ -85,20 +98,11 @@ pub struct DiskFiles<'a> {
 }
 
 impl<'a> FileSet for DiskFiles<'a> {
-    type Reader = DiskReader<'a>;
-
     type Writer = DiskWriter<'a>;
 
-    fn open_read(&mut self, path: &str) -> Result<DiskReader<'a>, OpenFault> {
-        let disk = self.disk;
-        disk.open()?;
-        let rest = match path {
-            "program" => disk.program,
-            "evidence" => disk.evidence,
-            "memory" => return Err(OpenFault::Memory),
-            _ => return Err(OpenFault::Device),
-        };
-        Ok(DiskReader { rest, disk })
+    fn read(&mut self, alloc: Global, path: &str) -> Result<Vec<u8>, LoadFault> {
+        let mut reader = self.disk.reader(path)?;
+        load(alloc, &mut reader)
     }
 
     fn open_write(&mut self, path: &str) -> Result<DiskWriter<'a>, OpenFault> {

@@ -1,8 +1,9 @@
 //! Files in memory that tell what they hold.
-ghost use Rattle.std.specs.Prelude.{bytes_eq, codes, option_map, true};
+ghost use Rattle.std.specs.Prelude.{◌≡◌, ◌||◌, IfErr, IfOk, bytes_eq, codes, option_map, true};
+ghost use Rattle.files.specs.declared.fault.LoadFault.{LoadFault};
 ghost use Rattle.test_disk.specs.Shelves.{shelf_file};
 
-use files::{FileSet, OpenFault};
+use files::{FileSet, LoadFault, OpenFault};
 use std::alloc::Global;
 
 /// Two files that can be read, `program` and `evidence`, and one that can be written, `out`.
@@ -19,26 +20,26 @@ pub struct Shelf<'a> {
     pub out: Option<Vec<u8>>,
 }
 
-impl<'a> FileSet for Shelf<'a> {
+impl FileSet for Shelf<'_> {
     ghost held = { λ shelf. shelf_file shelf.program.now shelf.evidence.now
         (option_map (λ bytes. bytes.items) shelf.out) };
 
     ghost tells_written = { true };
 
-    ghost takes = { λ _ path. bytes_eq path (codes "out") };
+    ghost reads = { λ _ path. bytes_eq path (codes "program") || bytes_eq path (codes "evidence") };
 
-    type Reader = &'a [u8];
+    ghost takes = { λ _ path. bytes_eq path (codes "out") };
 
     type Writer = Vec<u8>;
 
-    fn open_read(&mut self, path: &str) -> Result<&'a [u8], OpenFault> {
+    fn read(&mut self, alloc: Global, path: &str) -> Result<Vec<u8>, LoadFault> {
         if path == "program" {
-            return Ok(self.program);
+            return copied(alloc, self.program);
         }
         if path == "evidence" {
-            return Ok(self.evidence);
+            return copied(alloc, self.evidence);
         }
-        Err(OpenFault::Device)
+        Err(LoadFault::Device)
     }
 
     fn open_write(&mut self, path: &str) -> Result<Vec<u8>, OpenFault> {
@@ -53,5 +54,16 @@ impl<'a> FileSet for Shelf<'a> {
         if path == "out" {
             self.out = Some(writer);
         }
+    }
+}
+
+/// These bytes once more.
+fn copied(alloc: Global, bytes: &[u8]) -> Result<Vec<u8>, LoadFault>
+    ensures same { IfOk result (λ copy. copy.items ≡ bytes.now) }
+    ensures fault { IfErr result (λ fault. fault ≡ LoadFault.Memory) }
+{
+    match Vec::from_slice(alloc, bytes) {
+        Ok(copy) => Ok(copy),
+        Err(_) => Err(LoadFault::Memory),
     }
 }

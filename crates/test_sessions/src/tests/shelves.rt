@@ -1,5 +1,5 @@
 //! Long contents, in pieces, and files that tell what they hold.
-use files::{FileSet, OpenFault, load, store};
+use files::{FileSet, LoadFault, OpenFault, store};
 use std::alloc::{AllocError, Global};
 use std::cell::{Cell, RefCell};
 use std::test::Fail;
@@ -31,8 +31,7 @@ fn moves_long_contents(rt: HostRuntime) -> Result<(), Fail> {
         trouble: Trouble::Device,
     };
     let mut files = DiskFiles { disk: &disk };
-    let mut reader = files.open_read("program")?;
-    let loaded = load(alloc, &mut reader)?;
+    let loaded = files.read(alloc, "program")?;
     assert!(rt; loaded == bytes);
     let mut writer = files.open_write("out")?;
     store(&mut writer, &loaded)?;
@@ -50,13 +49,11 @@ fn a_shelf_holds_what_was_written(rt: HostRuntime) -> Result<(), Fail> {
         evidence: b"evidence 1",
         out: None,
     };
-    let mut program = shelf.open_read("program")?;
-    let bytes = load(alloc, &mut program)?;
+    let bytes = shelf.read(alloc, "program")?;
     assert!(rt; bytes.as_slice() == b"ranks 1".as_slice());
-    let mut evidence = shelf.open_read("evidence")?;
-    let bytes = load(alloc, &mut evidence)?;
+    let bytes = shelf.read(alloc, "evidence")?;
     assert!(rt; bytes.as_slice() == b"evidence 1".as_slice());
-    assert_eq!(rt; shelf.open_read("out").err(), Some(OpenFault::Device));
+    assert_eq!(rt; shelf.read(alloc, "out").err(), Some(LoadFault::Device));
     assert_eq!(rt; shelf.open_write("program").err(), Some(OpenFault::Device));
     let mut writer = shelf.open_write("out")?;
     store(&mut writer, b"schedule")?;

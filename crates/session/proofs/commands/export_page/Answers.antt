@@ -12,7 +12,6 @@ use Rattle.session.specs.declared.commands.Stop.{Stop}
 use Rattle.session.specs.declared.commands.Stop.TheVariants as stop
 use Rattle.session.specs.declared.page.Page.{Page}
 use Rattle.session.specs.declared.told.Told.TheVariants as told
-use Rattle.session.proofs.HeldFiles.{as_before}
 use Rattle.session.proofs.commands.export_page.Goals as goal
 
 -- the page of a proof that was written
@@ -33,32 +32,30 @@ page_written tells old between new program_path evidence_path file program evide
 page_written tells old between new program_path evidence_path file program evidence proof (Err s) all_p all_e exports written line = line
 
 -- a file that failed after the proof was made
-stops_written : (old between new : List ℕ → Option (List ℕ)) (program_path evidence_path file program evidence proof : List ℕ) (page : Result Page Stop)
+stops_written : (reads : List ℕ → Bool) (old between new : List ℕ → Option (List ℕ)) (program_path evidence_path file program evidence proof : List ℕ) (page : Result Page Stop)
     → between ≡ old → AreAll (old program_path) program → AreAll (old evidence_path) evidence → Exports program evidence proof
     → IfErr page (StopsBy (λ path. Some file ≡ Some path) between new)
-    → IfErr page (StopsBy (IsExportFile program_path evidence_path file old new) old new)
-stops_written old between new program_path evidence_path file program evidence proof (Ok p) same all_p all_e exports stops = stops
-stops_written old between new program_path evidence_path file program evidence proof (Err stop.Memory) same all_p all_e exports stops = stops ∙ same
-stops_written old between new program_path evidence_path file program evidence proof (Err (stop.File path)) same all_p all_e exports stops =
+    → IfErr page (StopsBy (IsExportFile reads program_path evidence_path file old new) old new)
+stops_written reads old between new program_path evidence_path file program evidence proof (Ok p) same all_p all_e exports stops = stops
+stops_written reads old between new program_path evidence_path file program evidence proof (Err stop.Memory) same all_p all_e exports stops = stops ∙ same
+stops_written reads old between new program_path evidence_path file program evidence proof (Err (stop.File path)) same all_p all_e exports stops =
     inr (same_Some file path.now stops, (program, evidence, all_p, all_e, refuted_refute program evidence exports.f exports.claim exports.refuted))
 
 pub returns-in-Ok-clause-page : goal.returns-in-Ok-clause-page
 returns-in-Ok-clause-page g c =
     let held = g.F.FileSet.held c.args.files.now in
-    let program = subst (AreAll (held c.args.program.now)) (sym c.deref.ensures.value) c.in_ok-program.ensures.bytes in
-    let read = subst (AreAll _) (sym c.deref-2.ensures.value) c.in_ok-evidence.ensures.bytes in
-    let evidence = as_before held _ c.args.evidence.now c.deref-2.result.now c.in_ok-program.ensures.same read in
-    page_written g.F.FileSet.tells_written held (g.F.FileSet.held c.read-2.new.files) (g.F.FileSet.held c.decided_page.new.files)
+    let program = subst (AreAll (held c.args.program.now)) (sym c.deref.ensures.value) c.in_ok-program.ensures.program in
+    let evidence = subst (AreAll (held c.args.evidence.now)) (sym c.deref-2.ensures.value) c.in_ok-program.ensures.evidence in
+    page_written g.F.FileSet.tells_written held (g.F.FileSet.held c.read_both.new.files) (g.F.FileSet.held c.decided_page.new.files)
     c.args.program.now c.args.evidence.now c.args.out.now c.deref.result.now c.deref-2.result.now c.deref-in-Ok.result.now c.decided_page.result program evidence
     (subst (Exports c.deref.result.now c.deref-2.result.now) (sym c.deref-in-Ok.ensures.value) c.in-Ok.ensures.proof) c.decided_page.ensures.written c.decided_page.ensures.line
 
 pub returns-in-Ok-clause-stop : goal.returns-in-Ok-clause-stop
 returns-in-Ok-clause-stop g c =
     let held = g.F.FileSet.held c.args.files.now in
-    let program = subst (AreAll (held c.args.program.now)) (sym c.deref.ensures.value) c.in_ok-program.ensures.bytes in
-    let read = subst (AreAll _) (sym c.deref-2.ensures.value) c.in_ok-evidence.ensures.bytes in
-    let evidence = as_before held _ c.args.evidence.now c.deref-2.result.now c.in_ok-program.ensures.same read in
-    stops_written held (g.F.FileSet.held c.read-2.new.files) (g.F.FileSet.held c.decided_page.new.files)
+    let program = subst (AreAll (held c.args.program.now)) (sym c.deref.ensures.value) c.in_ok-program.ensures.program in
+    let evidence = subst (AreAll (held c.args.evidence.now)) (sym c.deref-2.ensures.value) c.in_ok-program.ensures.evidence in
+    stops_written (g.F.FileSet.reads c.args.files.now) held (g.F.FileSet.held c.read_both.new.files) (g.F.FileSet.held c.decided_page.new.files)
     c.args.program.now c.args.evidence.now c.args.out.now c.deref.result.now c.deref-2.result.now c.deref-in-Ok.result.now c.decided_page.result
-    (c.in_ok-evidence.ensures.same ∙ c.in_ok-program.ensures.same) program evidence
+    c.in_ok-program.ensures.same program evidence
     (subst (Exports c.deref.result.now c.deref-2.result.now) (sym c.deref-in-Ok.ensures.value) c.in-Ok.ensures.proof) c.decided_page.ensures.stop

@@ -2,7 +2,7 @@
 use Rattle.std.proofs.Common.{◌≡◌, IfErr, IfOk, ℕ, List, Bool, Result, Ok, Err, inl, inr, option_map}
 use Rattle.std.specs.Prelude.{Option}
 use Rattle.session.specs.Endings.{Ends, Finishes}
-use Rattle.session.specs.Pages.{IsChecked, IsEither, IsEncoded, IsExplained, IsExported, IsExportFile, IsProveFile, IsProved, IsReplayed, StopsBy}
+use Rattle.session.specs.Pages.{IsChecked, IsEither, IsEncoded, IsExplained, IsExported, IsExportFile, IsProveFile, IsProgram, IsProved, IsReplayed, StopsBy}
 use Rattle.session.specs.declared.commands.Stop.{Stop}
 use Rattle.session.specs.declared.commands.Stop.TheVariants as stop
 use Rattle.session.specs.declared.page.Page.{Page}
@@ -28,7 +28,7 @@ returns-in-Prove g c =
         g.E.Write.contents c.prove_page-page.new.err,
         c.prove_page-page.ensures.followed,
         ended (IsProved g.F.FileSet.tells_written before after c.in-Prove.program.now out c.in-Prove.options.budget c.in-Prove.json)
-            (IsProveFile c.in-Prove.program.now out before after) _ _ _ before after _ _ _ _ _
+            (IsProveFile (g.F.FileSet.reads c.args.files.now) c.in-Prove.program.now out before after) _ _ _ before after _ _ _ _ _
             c.prove_page-page.ensures.page c.prove_page-page.ensures.stop c.finish.ensures,
       ),
     )
@@ -40,7 +40,7 @@ returns-in-Check g c =
     let evidence = c.in-Check.evidence.now in
     rw c.in-Check.is (
       c.check_page-page.ensures.same,
-      ended (IsChecked (before program) (before evidence) c.in-Check.json) (IsEither program evidence) _ _ _
+      ended (IsChecked (before program) (before evidence) c.in-Check.json) (IsEither (g.F.FileSet.reads c.args.files.now) program evidence) _ _ _
           before (g.F.FileSet.held c.check_page-page.new.files) _ _ _ _ _
           c.check_page-page.ensures.page c.check_page-page.ensures.stop c.finish-in-Check.ensures,
     )
@@ -51,7 +51,7 @@ returns-in-Encode g c =
     let program = c.in-Encode.program.now in
     rw c.in-Encode.is (
       c.encode_page-page.ensures.same,
-      ended (IsEncoded c.in-Encode.dimacs (before program)) (λ path. path ≡ program) _ _ _
+      ended (IsEncoded c.in-Encode.dimacs (before program)) (IsProgram (g.F.FileSet.reads c.args.files.now) program) _ _ _
           before (g.F.FileSet.held c.encode_page-page.new.files) _ _ _ _ _
           c.encode_page-page.ensures.page c.encode_page-page.ensures.stop c.finish-in-Encode.ensures,
     )
@@ -63,7 +63,7 @@ returns-in-Replay g c =
     let evidence = c.in-Replay.evidence.now in
     rw c.in-Replay.is (
       c.replay_page-page.ensures.same,
-      ended (IsReplayed (before program) (before evidence)) (IsEither program evidence) _ _ _
+      ended (IsReplayed (before program) (before evidence)) (IsEither (g.F.FileSet.reads c.args.files.now) program evidence) _ _ _
           before (g.F.FileSet.held c.replay_page-page.new.files) _ _ _ _ _
           c.replay_page-page.ensures.page c.replay_page-page.ensures.stop c.finish-in-Replay.ensures,
     )
@@ -75,7 +75,7 @@ returns-in-Explain g c =
     let evidence = c.in-Explain.evidence.now in
     rw c.in-Explain.is (
       c.explain_page-page.ensures.same,
-      ended (IsExplained (before program) (before evidence) c.in-Explain.graph) (IsEither program evidence) _ _ _
+      ended (IsExplained (before program) (before evidence) c.in-Explain.graph) (IsEither (g.F.FileSet.reads c.args.files.now) program evidence) _ _ _
           before (g.F.FileSet.held c.explain_page-page.new.files) _ _ _ _ _
           c.explain_page-page.ensures.page c.explain_page-page.ensures.stop c.finish-in-Explain.ensures,
     )
@@ -89,7 +89,7 @@ returns-in-Export g c =
     let file = c.in-Export.file.now in
     rw c.in-Export.is (
       c.export_page-page.ensures.others,
-      ended (IsExported g.F.FileSet.tells_written before after program evidence file) (IsExportFile program evidence file before after) _ _ _
+      ended (IsExported g.F.FileSet.tells_written before after program evidence file) (IsExportFile (g.F.FileSet.reads c.args.files.now) program evidence file before after) _ _ _
           before after _ _ _ _ _
           c.export_page-page.ensures.page c.export_page-page.ensures.stop c.finish-in-Export.ensures,
     )
