@@ -1,5 +1,7 @@
 //! In the programs' texts `/` stands for the end of a line.
 
+mod pieces_at_once;
+mod recorded;
 mod telling;
 
 use prover::{Answer, Gate, Options, Verdict, Why, prove, verdict};
