@@ -120,7 +120,7 @@ struct Seen {
 }
 
 /// Runs a search, each of whose workers waits with its first cube until `wanted` workers have one and worker 1 has `of_worker_one`.
-fn seen<R: Threads + Wait + Sync>(
+fn observed<R: Threads + Wait + Sync>(
     rt: &R,
     alloc: Global,
     text: &str,
@@ -154,7 +154,7 @@ fn assert_leaves<R: Abort + Threads + Wait + Sync>(
     depth: u32,
     cubes: u64,
 ) -> Result<(), Fail> {
-    let seen = seen(rt, alloc, RELAY, options(1, depth, 1_000_000)?, 1, 0)?;
+    let seen = observed(rt, alloc, RELAY, options(1, depth, 1_000_000)?, 1, 0)?;
     assert_eq!(rt; seen.answer, "no deadlock");
     assert_eq!(rt; seen.cubes, cubes, "depth {depth}");
     Ok(())
@@ -174,7 +174,7 @@ fn assert_workers<R: Abort + Threads + Wait + Sync>(
     workers: u32,
     depth: u32,
 ) -> Result<(), Fail> {
-    let seen = seen(
+    let seen = observed(
         rt,
         alloc,
         GATHER,
@@ -202,7 +202,7 @@ fn assert_budgets<R: Abort + Threads + Wait + Sync>(
     alloc: Global,
     budget: u32,
 ) -> Result<(), Fail> {
-    let seen = seen(rt, alloc, SENDERS, options(2, 1, budget)?, 2, 0)?;
+    let seen = observed(rt, alloc, SENDERS, options(2, 1, budget)?, 2, 0)?;
     assert_eq!(rt; seen.answer, "unknown budget");
     assert!(rt; !seen.ran_out);
     assert_eq!(rt; seen.most, u64::from(budget));
@@ -223,7 +223,7 @@ fn each_worker_has_its_own_budget(rt: HostRuntime) -> Result<(), Fail> {
 /// Worker 0 waits with its first cube of two until worker 1 has searched below its own two and taken another one.
 #[test]
 fn a_worker_steals(rt: HostRuntime) -> Result<(), Fail> {
-    let seen = seen(&rt, rt.alloc(), RELAY, options(2, 2, 1_000_000)?, 2, 3)?;
+    let seen = observed(&rt, rt.alloc(), RELAY, options(2, 2, 1_000_000)?, 2, 3)?;
     assert_eq!(rt; seen.answer, "no deadlock");
     assert!(rt; !seen.ran_out);
     Ok(())
