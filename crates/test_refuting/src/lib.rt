@@ -1,5 +1,5 @@
 //! Tests of what refutations are made of, where code makes the values, or threads meet: lines that join a large tree, lists read
-//! while a log grows, gates that pieces pass, and texts of bytes that stand in none.
+//! while a log grows, and texts of bytes that stand in none.
 #![tactic(auto)]
 
 #[cfg(test)]
@@ -8,5 +8,3 @@ mod foreign_bytes;
 mod joining_lines;
 #[cfg(test)]
 mod pages_of_lines;
-#[cfg(test)]
-mod pieces_of_lines;
