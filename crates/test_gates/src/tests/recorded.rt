@@ -61,11 +61,27 @@ impl Recorder {
         }
     }
 
-    fn conflicts_of(&self, worker: usize) -> u64 {
-        match self.records.get(worker) {
-            Some(record) => record.conflicts.load(Ordering::SeqCst),
-            None => 0,
+    /// How many workers were asked.
+    fn workers(&self) -> usize {
+        let mut count: usize = 0;
+        for record in &self.records {
+            if record.asked.load(Ordering::SeqCst) > 0 {
+                count = count.saturating_add(1);
+            }
         }
+        count
+    }
+
+    /// The most conflicts that a worker counted, and those of all.
+    fn conflicts(&self) -> (u64, u64) {
+        let mut most: u64 = 0;
+        let mut sum: u64 = 0;
+        for record in &self.records {
+            let count = record.conflicts.load(Ordering::SeqCst);
+            most = most.max(count);
+            sum = sum.saturating_add(count);
+        }
+        (most, sum)
     }
 
     fn may_go_on(&self) -> bool {
@@ -130,19 +146,13 @@ fn observed<R: Threads + Wait + Sync>(
 ) -> Result<Seen, Fail> {
     let gate = Recorder::new(alloc, wanted, of_worker_one)?;
     let answer = shown(rt, alloc, text, options, &gate)?;
+    let (most, sum) = gate.conflicts();
     Ok(Seen {
         answer,
         cubes: gate.cubes.load(Ordering::SeqCst),
-        workers: (0..64_usize)
-            .filter(|worker| gate.asked_of(*worker) > 0)
-            .count(),
-        most: (0..64_usize)
-            .map(|worker| gate.conflicts_of(worker))
-            .max()
-            .unwrap_or(0),
-        sum: (0..64_usize)
-            .map(|worker| gate.conflicts_of(worker))
-            .fold(0, |sum, one| sum + one),
+        workers: gate.workers(),
+        most,
+        sum,
         ran_out: gate.ran_out.load(Ordering::SeqCst),
     })
 }
