@@ -5,9 +5,9 @@ use Rattle.std.proofs.lemmas.List.Elements.{All-from_get_or, All-map, All-take}
 use Rattle.std.proofs.lemmas.List.FromFn.{length-range_with_len, get_or-range_with_len}
 use Rattle.std.proofs.lemmas.List.Sorted.{All-permutation}
 use Rattle.callorder.specs.Programs.{MpiProgram}
-use Rattle.candidates.specs.Pairs.{pairs_of}
+use Rattle.candidates.specs.Pairs.{matching_pairs, seeing_pairs, pairs_of}
 use Rattle.formulas.specs.Numbering.{formula_of}
-use Rattle.std.proofs.lemmas.List.{take_min, map_more}
+use Rattle.std.proofs.lemmas.List.{length-append, take_min, map_more}
 use Rattle.encode.specs.Encodings.{EncodedProgram}
 use Rattle.trees.specs.Trees.{TreeState}
 use Rattle.cubes.specs.Cubes.{IsCubeTree}
@@ -23,15 +23,19 @@ one_variable_more p numbers old new index variable low so_far is variable_is =
     ∙ ap (λ (v : ℕ). map (match_variable p) (take index numbers) ++ v ∷ []) variable_is
     ∙ sym (map_more (match_variable p) numbers index 0 low)
 
+-- the pairs that may be matched are some of all
+pub few_matching : (p : MpiProgram) → length (matching_pairs p) ≤ length (pairs_of p)
+few_matching p = omega (arith, length-append (matching_pairs p) (seeing_pairs p))
+
 -- all numbers of an order are those of pairs
-pub order_within : (pairs : List (ℕ × ℕ)) (order : List ℕ) → IsBranchingOrder pairs order → All (λ k. k < length pairs) order
-order_within pairs order is =
-    let numbers : List ℕ = range_with_len 0 (length pairs) in
+pub order_within : (pairs : List (ℕ × ℕ)) (count : ℕ) (order : List ℕ) → count ≤ length pairs → IsBranchingOrder pairs count order → All (λ k. k < length pairs) order
+order_within pairs count order few is =
+    let numbers : List ℕ = range_with_len 0 count in
     let is_number : ℕ → Type 0 = λ k. k < length pairs in
     All-permutation is_number numbers order is.each_once
     (All-from_get_or is_number numbers 0 (λ i low.
-    let below : i < length pairs = omega (arith, length-range_with_len 0 (length pairs)) in
-    omega (arith, get_or-range_with_len 0 (length pairs) i 0 below)))
+    let below : i < count = omega (arith, length-range_with_len 0 count) in
+    omega (arith, few, get_or-range_with_len 0 count i 0 below)))
 
 -- the match variables of pairs are the formula's
 pub variables_within : (p : MpiProgram) (pairs : List (ℕ × ℕ)) (numbers : List ℕ) → pairs ≡ pairs_of p → All (λ k. k < length pairs) numbers → All (λ v. (1 ≤ v) × (v ≤ (formula_of p).variables)) (map (match_variable p) numbers)
@@ -40,25 +44,25 @@ variables_within p pairs numbers are within =
     match_variables_within p (get_or numbers k d) (omega (arith, within k d low, ap length are)))
 
 -- where these are what was read of the pairs and the order
-pub levels_there : (pairs slice : List (ℕ × ℕ)) (order lent : List ℕ) (levels : ℕ) → IsBranchingOrder pairs order → lent ≡ order → slice ≡ pairs → All (λ k. k < length slice) (take levels lent)
-levels_there pairs slice order lent levels is lent_is slice_is =
+pub levels_there : (pairs slice : List (ℕ × ℕ)) (count : ℕ) (order lent : List ℕ) (levels : ℕ) → count ≤ length pairs → IsBranchingOrder pairs count order → lent ≡ order → slice ≡ pairs → All (λ k. k < length slice) (take levels lent)
+levels_there pairs slice count order lent levels few is lent_is slice_is =
     subst (λ (ps : List (ℕ × ℕ)). All (λ k. k < length ps) (take levels lent)) (sym slice_is)
-    (subst (λ (ns : List ℕ). All (λ k. k < length pairs) (take levels ns)) (sym lent_is) (All-take (λ k. k < length pairs) levels order (order_within pairs order is)))
+    (subst (λ (ns : List ℕ). All (λ k. k < length pairs) (take levels ns)) (sym lent_is) (All-take (λ k. k < length pairs) levels order (order_within pairs count order few is)))
 
 pub variables_fit : (p : MpiProgram) (pairs slice : List (ℕ × ℕ)) (numbers variables lent : List ℕ) (most : ℕ) → pairs ≡ pairs_of p → slice ≡ pairs → All (λ k. k < length slice) numbers → variables ≡ map (match_variable p) numbers → lent ≡ variables → most ≡ (formula_of p).variables → All (λ v. (1 ≤ v) × (v ≤ most)) lent
 variables_fit p pairs slice numbers variables lent most are slice_is there made lent_is most_is =
     subst (λ (n : ℕ). All (λ v. (1 ≤ v) × (v ≤ n)) lent) (sym most_is)
     (subst (λ (vs : List ℕ). All (λ v. (1 ≤ v) × (v ≤ (formula_of p).variables)) vs) (sym (lent_is ∙ made)) (variables_within p slice numbers (slice_is ∙ are) there))
 
-pub cube_tree_made : (encoded : EncodedProgram) (depth : ℕ) (tree : TreeState) (p : MpiProgram) (pairs : List (ℕ × ℕ)) (order lent variables lent_variables : List ℕ) (levels most : ℕ) → IsBranchingOrder pairs order → pairs ≡ encoded.pairs → p ≡ encoded.program → lent ≡ order → levels ≡ min (length order) depth → variables ≡ map (match_variable p) (take levels lent) → lent_variables ≡ variables → most ≡ encoded.formula.variables → tree ≡ record { variables = most; nodes = full_tree lent_variables } → IsCubeTree encoded depth tree
-cube_tree_made encoded depth tree p pairs order lent variables lent_variables levels most is pairs_are p_is lent_is levels_are made lent_variables_are most_is tree_is =
+pub cube_tree_made : (encoded : EncodedProgram) (depth : ℕ) (tree : TreeState) (p : MpiProgram) (order lent variables lent_variables : List ℕ) (levels most : ℕ) → IsBranchingOrder encoded.pairs (length (matching_pairs encoded.program)) order → p ≡ encoded.program → lent ≡ order → levels ≡ min (length order) depth → variables ≡ map (match_variable p) (take levels lent) → lent_variables ≡ variables → most ≡ encoded.formula.variables → tree ≡ record { variables = most; nodes = full_tree lent_variables } → IsCubeTree encoded depth tree
+cube_tree_made encoded depth tree p order lent variables lent_variables levels most is p_is lent_is levels_are made lent_variables_are most_is tree_is =
     let fewer : levels ≡ min depth (length order) = omega arith in
     let numbers : take levels lent ≡ take depth order =
     ap (take levels) lent_is ∙ ap (λ (n : ℕ). take n order) fewer ∙ take_min depth order
     in
     record {
       order = order;
-      is_order = subst (λ (ps : List (ℕ × ℕ)). IsBranchingOrder ps order) pairs_are is;
+      is_order = is;
       variables_are = ap (λ (t : TreeState). t.variables) tree_is ∙ most_is;
       nodes_are =
           ap (λ (t : TreeState). t.nodes) tree_is
@@ -67,15 +71,15 @@ cube_tree_made encoded depth tree p pairs order lent variables lent_variables le
     }
 
 -- all numbers of an order are those of pairs, where these are what was read of the pairs and the order
-pub order_there : (pairs slice : List (ℕ × ℕ)) (order lent : List ℕ) → IsBranchingOrder pairs order → lent ≡ order → slice ≡ pairs → All (λ k. k < length slice) lent
-order_there pairs slice order lent is lent_is slice_is =
+pub order_there : (pairs slice : List (ℕ × ℕ)) (count : ℕ) (order lent : List ℕ) → count ≤ length pairs → IsBranchingOrder pairs count order → lent ≡ order → slice ≡ pairs → All (λ k. k < length slice) lent
+order_there pairs slice count order lent few is lent_is slice_is =
     subst (λ (ps : List (ℕ × ℕ)). All (λ k. k < length ps) lent) (sym slice_is)
-    (subst (λ (ns : List ℕ). All (λ k. k < length pairs) ns) (sym lent_is) (order_within pairs order is))
+    (subst (λ (ns : List ℕ). All (λ k. k < length pairs) ns) (sym lent_is) (order_within pairs count order few is))
 
-pub branching_variables_are : (q p : MpiProgram) (pairs : List (ℕ × ℕ)) (order lent variables : List ℕ) → IsBranchingOrder pairs order → pairs ≡ pairs_of q → p ≡ q → lent ≡ order → variables ≡ map (match_variable p) lent → AreBranchingVariables q variables
+pub branching_variables_are : (q p : MpiProgram) (pairs : List (ℕ × ℕ)) (order lent variables : List ℕ) → IsBranchingOrder pairs (length (matching_pairs q)) order → pairs ≡ pairs_of q → p ≡ q → lent ≡ order → variables ≡ map (match_variable p) lent → AreBranchingVariables q variables
 branching_variables_are q p pairs order lent variables is pairs_are p_is lent_is made =
     record {
       order = order;
-      is_order = subst (λ (ps : List (ℕ × ℕ)). IsBranchingOrder ps order) pairs_are is;
+      is_order = subst (λ (ps : List (ℕ × ℕ)). IsBranchingOrder ps (length (matching_pairs q)) order) pairs_are is;
       variables_are = made ∙ ap (λ (r : MpiProgram). map (match_variable r) lent) p_is ∙ ap (map (match_variable q)) lent_is;
     }

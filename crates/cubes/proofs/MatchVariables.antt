@@ -3,9 +3,10 @@ use Rattle.std.proofs.Common.{◌≡◌, ℕ, ◌<◌, Bool, true, eqb, List, �
 use Rattle.std.specs.List.{Contains, position_or_len}
 use Rattle.std.proofs.lemmas.Bool.{cases_lt, and_from, eq-eqb, both_ways}
 use Rattle.std.proofs.lemmas.List.{length-map, get_or-map}
-use Rattle.std.proofs.lemmas.List.Elements.{Contains-append_left, Contains-append_right}
+use Rattle.std.proofs.lemmas.Option.{slice_get-get_or, get_or_from_slice_get}
+use Rattle.std.proofs.lemmas.List.Elements.{Contains-append_left, Contains-append_right, Contains-append_cases}
 use Rattle.std.proofs.lemmas.List.Sums.{fails_before_first}
-use Rattle.candidates.specs.Pairs.{places, pairs_of, pair_at}
+use Rattle.candidates.specs.Pairs.{places, matching_pairs, seeing_pairs, pairs_of, pair_at}
 use Rattle.formulas.specs.declared.facts.Fact.{Fact}
 use Rattle.formulas.specs.declared.facts.Fact.TheVariants.{Issued as issued, Buffered as buffered, Matched as matched, Unfinished as unfinished}
 use Rattle.formulas.specs.declared.facts.Meaning.TheVariants.{OfFact as fact}
@@ -31,17 +32,21 @@ pub match_variables_within : MatchVariablesAreWithin
 match_variables_within p k low =
     let pair : ℕ × ℕ = pair_at (pairs_of p) k in
     let told : Fact = matched pair.0 pair.1 in
-    let matches : List Fact = map (λ (q : ℕ × ℕ). matched q.0 q.1) (pairs_of p) in
+    let of_pair : ℕ × ℕ → Fact = λ q. matched q.0 q.1 in
+    let matches : List Fact = map of_pair (matching_pairs p) in
+    let sights : List Fact = map of_pair (seeing_pairs p) in
     let before : List Fact = map issued (places p) ++ map buffered (standard_sends p) in
     let after : List Fact = map (λ c. unfinished (rank_of p c)) (last_calls p) in
-    let among_matches : Contains matches told = (
-      k,
-      omega (arith, length-map (pairs_of p) (λ (q : ℕ × ℕ). matched q.0 q.1)),
-      get_or-map (λ (q : ℕ × ℕ). matched q.0 q.1) (pairs_of p) k (0, 0) told low,
-    )
-    in
+    let among_pairs : Contains (matching_pairs p ++ seeing_pairs p) pair = (k, low, get_or_from_slice_get (pairs_of p) k pair pair (slice_get-get_or (pairs_of p) k (0, 0) low)) in
     let among_facts : Contains (facts p) told =
-    Contains-append_left (before ++ matches) after told (Contains-append_right before matches told among_matches)
+    elim (Contains-append_cases (matching_pairs p) (seeing_pairs p) pair among_pairs) [
+      | inl may_match ↦
+          Contains-append_left (before ++ matches ++ after) sights told
+          (Contains-append_left (before ++ matches) after told
+          (Contains-append_right before matches told (Contains-map of_pair (matching_pairs p) pair may_match)))
+      | inr may_see ↦
+          Contains-append_right (before ++ matches ++ after) sights told (Contains-map of_pair (seeing_pairs p) pair may_see)
+    ]
     in
     let among : Contains (meanings p) (fact told) =
     Contains-append_left (map fact (facts p)) (order_meanings p) (fact told) (Contains-map fact (facts p) told among_facts)

@@ -123,9 +123,9 @@ rank_more pairs slice old new row number count so_far is slice_is row_is count_i
     ∙ sym (map-range_with_len_more (rank_of pairs) 0 number number (omega arith))
 
 -- the numbers of sorted ranks
-pub order_made : (pairs ranks sorted : List (ℕ × ℕ)) → ranks ≡ map (rank_of pairs) (range_with_len 0 (length pairs)) → IsPermutation ranks sorted → IsSorted (λ (x y : ℕ × ℕ). ordering_then (nat_cmp x.0 y.0) (nat_cmp x.1 y.1)) sorted → IsBranchingOrder pairs (map (λ (r : ℕ × ℕ). r.1) sorted)
-order_made pairs ranks sorted made moved in_order =
-    let numbers : List ℕ = range_with_len 0 (length pairs) in
+pub order_made : (pairs : List (ℕ × ℕ)) (count : ℕ) (ranks sorted : List (ℕ × ℕ)) → ranks ≡ map (rank_of pairs) (range_with_len 0 count) → IsPermutation ranks sorted → IsSorted (λ (x y : ℕ × ℕ). ordering_then (nat_cmp x.0 y.0) (nat_cmp x.1 y.1)) sorted → IsBranchingOrder pairs count (map (λ (r : ℕ × ℕ). r.1) sorted)
+order_made pairs count ranks sorted made moved in_order =
+    let numbers : List ℕ = range_with_len 0 count in
     let all_ranks : All (IsRank pairs) ranks = subst (λ (rs : List (ℕ × ℕ)). All (IsRank pairs) rs) (sym made) (All-map (IsRank pairs) (rank_of pairs) numbers (λ k d low. refl)) in
     let ranks_sorted : All (IsRank pairs) sorted = All-permutation (IsRank pairs) ranks sorted moved all_ranks in
     let many = length-map sorted (λ (r : ℕ × ℕ). r.1) in
@@ -198,6 +198,6 @@ module _ (pairs : List (ℕ × ℕ)) where
       λ t. first t ∷ rest t
 
 pub one_order : OneBranchingOrder
-one_order pairs one other first second =
+one_order pairs count one other first second =
     same_order pairs one other first.in_order second.in_order
-    (occurs_same one other (IsPermutation-trans one (range_with_len 0 (length pairs)) other (IsPermutation-sym (range_with_len 0 (length pairs)) one first.each_once) second.each_once))
+    (occurs_same one other (IsPermutation-trans one (range_with_len 0 count) other (IsPermutation-sym (range_with_len 0 count) one first.each_once) second.each_once))

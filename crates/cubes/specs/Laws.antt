@@ -6,10 +6,10 @@ use Rattle.formulas.specs.Numbering.{formula_of}
 use Rattle.cubes.specs.Order.{IsBranchingOrder, match_variable}
 use Rattle.cubes.specs.Levels.{full_tree}
 
--- no two branching orders are of one list of pairs
+-- no two branching orders are of as many pairs of one list
 abbrev pub OneBranchingOrder : Type 0
 OneBranchingOrder =
-    (pairs : List (ℕ × ℕ)) (one other : List ℕ) → IsBranchingOrder pairs one → IsBranchingOrder pairs other → one ≡ other
+    (pairs : List (ℕ × ℕ)) (count : ℕ) (one other : List ℕ) → IsBranchingOrder pairs count one → IsBranchingOrder pairs count other → one ≡ other
 
 -- the match variable of each pair is one of the formula's
 abbrev pub MatchVariablesAreWithin : Type 0

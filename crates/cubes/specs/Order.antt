@@ -3,12 +3,12 @@ use Rattle.std.specs.Prelude.{◌≡◌, ℕ, ◌-◌, Bool, ◌&&◌, ◌||◌,
 use Rattle.std.specs.List.{range_with_len}
 use Rattle.std.specs.List.Sorted.{IsPermutation, IsSortedBy}
 use Rattle.callorder.specs.Programs.{MpiProgram}
-use Rattle.candidates.specs.Pairs.{pairs_of, pair_at, with_taker}
+use Rattle.candidates.specs.Pairs.{matching_pairs, pairs_of, pair_at, with_taker}
 use Rattle.formulas.specs.declared.facts.Fact.TheVariants.{Matched as matched}
 use Rattle.formulas.specs.declared.facts.Meaning.TheVariants.{OfFact as fact}
 use Rattle.formulas.specs.Numbering.{variable_of}
 
--- how many pairs have the taker of this one
+-- how many pairs have the finder of this one
 abbrev pub choices : List (ℕ × ℕ) → ℕ → ℕ
 choices pairs k = length (with_taker pairs (pair_at pairs k).1)
 
@@ -17,21 +17,22 @@ abbrev pub comes_first : List (ℕ × ℕ) → ℕ → ℕ → Bool
 comes_first pairs i j =
     nat_lt (choices pairs j) (choices pairs i) || (choices pairs i == choices pairs j && nat_lt i j)
 
--- each pair once, and none behind one that it comes before
-pub record IsBranchingOrder (pairs : List (ℕ × ℕ)) (order : List ℕ) : Type 0 where
-  pub each_once : IsPermutation (range_with_len 0 (length pairs)) order
+-- each of the first pairs, of which there are so many, once, and none behind one that it comes before
+pub record IsBranchingOrder (pairs : List (ℕ × ℕ)) (count : ℕ) (order : List ℕ) : Type 0 where
+  pub each_once : IsPermutation (range_with_len 0 count) order
   pub in_order : IsSortedBy (comes_first pairs) order
 
--- the number of pairs with other takers, and that of the pair
+-- the number of pairs with other finders, and that of the pair
 abbrev pub rank_of : List (ℕ × ℕ) → ℕ → ℕ × ℕ
 rank_of pairs k = (length pairs - choices pairs k, k)
 
--- the variable that says of a pair that it is matched
+-- the variable that says of a pair that it is matched, or of a pair with a probe that this has seen the send
 abbrev pub match_variable : MpiProgram → ℕ → ℕ
 match_variable p k = let pair = pair_at (pairs_of p) k in variable_of p (fact (matched pair.0 pair.1))
 
--- the match variables of all pairs, in the order of the pairs
+-- The match variables of all pairs that may be matched, which are the first ones of the list, in the order of the pairs. What
+-- probes see is not branched on.
 pub record AreBranchingVariables (p : MpiProgram) (variables : List ℕ) : Type 0 where
   pub order : List ℕ
-  pub is_order : IsBranchingOrder (pairs_of p) order
+  pub is_order : IsBranchingOrder (pairs_of p) (length (matching_pairs p)) order
   pub variables_are : variables ≡ map (match_variable p) order

@@ -2,7 +2,7 @@
 
 ghost use Rattle.cubes.specs.Laws.{OneBranchingOrder, MatchVariablesAreWithin, FullTreeSize};
 
-/// No two branching orders are of one list of pairs.
+/// No two branching orders are of as many pairs of one list.
 pub fn one_branching_order()
     ensures { OneBranchingOrder }
 {}

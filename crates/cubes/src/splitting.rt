@@ -2,14 +2,16 @@
 
 ghost use Rattle.std.specs.Prelude.{◌≡◌, ◌<◌, ◌≤◌, ◌↔◌, IfOk, length, map};
 ghost use Rattle.std.specs.List.{All};
-ghost use Rattle.candidates.specs.Pairs.{pairs_of};
+ghost use Rattle.candidates.specs.Pairs.{matching_pairs, pairs_of};
 ghost use Rattle.formulas.specs.Numbering.{formula_of};
-ghost use Rattle.cubes.specs.Order.{match_variable, AreBranchingVariables};
+ghost use Rattle.cubes.specs.Order.{match_variable, AreBranchingVariables, IsBranchingOrder};
 ghost use Rattle.cubes.specs.Cubes.{IsCubeTree};
 
 use crate::fault::CubeFault;
 use crate::levels::full_tree;
 use crate::order::branching_order;
+use callorder::Program;
+use candidates::Pairs;
 use encode::Encoded;
 use formulas::{Fact, Meaning};
 use std::alloc::{AllocError, Global};
@@ -19,7 +21,7 @@ use trees::Tree;
 /// The greatest depth of a tree of cubes.
 pub const GREATEST_DEPTH: u32 = 15;
 
-/// The variable that says that the pair of this number, from 0, is matched.
+/// The variable that says that the pair of this number, from 0, is matched, or seen where it is that of a probe.
 fn match_variable(table: &Variables, pairs: &[(usize, usize)], number: usize) -> u32
     requires pairs { pairs.now ≡ pairs_of table.now }
     requires there { number < length pairs.now }
@@ -48,6 +50,27 @@ fn match_variables(
     Ok(variables)
 }
 
+/// How many pairs may be matched: all but those of probes, which come last.
+fn count_matching(program: &Program, pairs: &Pairs) -> usize
+    requires { pairs.now ≡ pairs_of program.now }
+    ensures same { result ≡ length (matching_pairs program.now) }
+    ensures few { result ≤ length pairs.now }
+{
+    pairs
+        .as_slice()
+        .iter()
+        .filter(|pair| !program.is_probe(pair.1))
+        .count()
+}
+
+/// The numbers, from 0, of the pairs that may be matched, in the order in which they are branched on.
+fn matching_order(alloc: Global, encoded: &Encoded) -> Result<Vec<usize>, AllocError>
+    ensures { IfOk result (λ order. IsBranchingOrder encoded.now.pairs (length (matching_pairs encoded.now.program)) order.items) }
+{
+    let pairs = encoded.pairs();
+    branching_order(alloc, pairs, count_matching(encoded.program(), pairs))
+}
+
 /// How many variables the formula has.
 fn count_variables(encoded: &Encoded, table: &Variables) -> u32
     requires { table.now ≡ encoded.now.program }
@@ -71,7 +94,7 @@ fn cube_tree_over(
     ensures { IfOk result (λ tree. IsCubeTree encoded.now depth tree) }
 {
     let pairs = encoded.pairs();
-    let order = branching_order(alloc, pairs)?;
+    let order = matching_order(alloc, encoded)?;
     let levels = order.len().min(depth as usize);
     let variables = match_variables(alloc, table, pairs.as_slice(), &order[..levels])?;
     full_tree(alloc, count_variables(encoded, table), &variables)
@@ -95,12 +118,13 @@ fn branching_variables_in(
     ensures { IfOk result (λ variables. AreBranchingVariables encoded.now.program variables.items) }
 {
     let pairs = encoded.pairs();
-    let order = branching_order(alloc, pairs)?;
+    let order = matching_order(alloc, encoded)?;
     match_variables(alloc, table, pairs.as_slice(), &order)
 }
 
-/// The match variables of all pairs, those of the pairs first whose takers have most pairs, and of two pairs whose takers have
-/// as many that of the smaller number first. It is the order in which [`split`] branches. The only error is want of memory.
+/// The match variables of all pairs that may be matched, those of the pairs first whose takers have most pairs, and of two pairs
+/// whose takers have as many that of the smaller number first. It is the order in which [`split`] branches. What probes see has
+/// no place in it. The only error is want of memory.
 pub fn branching_variables(alloc: Global, encoded: &Encoded) -> Result<Vec<u32>, AllocError>
     ensures { IfOk result (λ variables. AreBranchingVariables encoded.now.program variables.items) }
 {
@@ -109,7 +133,7 @@ pub fn branching_variables(alloc: Global, encoded: &Encoded) -> Result<Vec<u32>,
 }
 
 /// The full tree that branches at each depth on the match variable of one pair, those pairs first whose
-/// takers have most pairs. Its depth is `depth`, or the number of pairs where these are fewer. Nodes
+/// takers have most pairs. Its depth is `depth`, or the number of pairs that may be matched where these are fewer. Nodes
 /// are numbered level by level, the one for true before the one for false. The only refusal beside
 /// want of memory is [`CubeFault::TooMany`], exactly where `depth` is above [`GREATEST_DEPTH`].
 pub fn split(alloc: Global, encoded: &Encoded, depth: u32) -> Result<Tree, CubeFault>

@@ -1,9 +1,9 @@
-//! What decided a run: which sends were buffered, where that is free, and which message a wildcard took where another
-//! one fitted too.
+//! What decided a run: which sends were buffered, where that is free, and which message a wildcard took, or a probe with a
+//! star saw, where another one fitted too.
 
 ghost use Rattle.semantics.specs.Machine.{IsStuckRun};
 
-use crate::placing::{put_call_of, put_number_of};
+use crate::placing::{put_call_of, put_finding, put_number_of};
 use crate::written::Written;
 use callorder::{Policy, Program};
 use semantics::{State, Step};
@@ -12,9 +12,9 @@ use std::alloc::{AllocError, Global};
 /// The most messages that are named where a wildcard took another one.
 const MOST_RIVALS: usize = 3;
 
-/// Whether the call is a receive or a matched probe with a star.
-fn is_wildcard(program: &Program, taker: usize) -> bool {
-    match program.call(taker) {
+/// Whether the call is a receive, a matched probe or a probe with a star.
+fn is_wildcard(program: &Program, finder: usize) -> bool {
+    match program.call(finder) {
         None => false,
         Some(call) => match call.kind.pattern() {
             None => false,
@@ -23,52 +23,51 @@ fn is_wildcard(program: &Program, taker: usize) -> bool {
     }
 }
 
-/// Whether the call is an unmatched send that fits the taker.
-fn is_free_send(program: &Program, state: &State, send: usize, taker: usize) -> bool {
-    program.are_fit(send, taker) && state.partner(send).is_none()
+/// Whether the call is an unmatched send that fits the receive, matched probe or probe.
+fn is_free_send(program: &Program, state: &State, send: usize, finder: usize) -> bool {
+    program.are_fit(send, finder) && state.partner(send).is_none()
 }
 
-/// Whether an earlier send of the send's rank would be matched with the taker first.
-fn is_behind(program: &Program, state: &State, send: usize, taker: usize) -> bool {
+/// Whether an earlier send of the send's rank would be found by the call first.
+fn is_behind(program: &Program, state: &State, send: usize, finder: usize) -> bool {
     (0..send).any(|earlier| {
-        program.are_of_one_rank(earlier, send) && is_free_send(program, state, earlier, taker)
+        program.are_of_one_rank(earlier, send) && is_free_send(program, state, earlier, finder)
     })
 }
 
-/// The sends of other ranks that fit the taker too, of each rank the first one that is not matched.
+/// The sends of other ranks that fit the call too, of each rank the first one that is not matched.
 fn rivals(
     alloc: Global,
     program: &Program,
     state: &State,
     send: usize,
-    taker: usize,
+    finder: usize,
 ) -> Result<Vec<usize>, AllocError> {
     (0..program.calls().len())
         .filter(|other| {
-            is_free_send(program, state, *other, taker)
+            is_free_send(program, state, *other, finder)
                 && !program.are_of_one_rank(*other, send)
-                && !is_behind(program, state, *other, taker)
+                && !is_behind(program, state, *other, finder)
         })
         .collect(alloc)
 }
 
-/// Tells which message a wildcard took, where others fitted too.
+/// Tells which message a wildcard found, where others fitted too.
 fn put_choice(
     out: &mut String,
+    alloc: Global,
+    program: &Program,
     calls: &[Written],
+    state: &State,
     send: usize,
-    taker: usize,
-    rivals: &[usize],
+    finder: usize,
 ) -> Result<(), AllocError> {
+    let rivals = rivals(alloc, program, state, send, finder)?;
     if rivals.is_empty() {
         return Ok(());
     }
-    out.push_str("  ")?;
-    put_call_of(out, calls, taker)?;
-    out.push_str(" took the message of ")?;
-    put_call_of(out, calls, send)?;
-    out.push_str("\n    ")?;
-    put_rivals(out, calls, rivals)?;
+    put_finding(out, program, calls, finder, send)?;
+    put_rivals(out, calls, &rivals)?;
     out.push_str(" fitted too\n")
 }
 
@@ -117,8 +116,10 @@ fn put_decision(
             buffered: true,
         } if program.policy() == Policy::Any => put_buffered(out, calls, state.next_of(rank)),
         Step::Match { send, taker } if is_wildcard(program, taker) => {
-            let rivals = rivals(alloc, program, state, send, taker)?;
-            put_choice(out, calls, send, taker, &rivals)
+            put_choice(out, alloc, program, calls, state, send, taker)
+        }
+        Step::See { send, probe } if is_wildcard(program, probe) => {
+            put_choice(out, alloc, program, calls, state, send, probe)
         }
         _ => Ok(()),
     }

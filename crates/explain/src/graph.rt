@@ -28,6 +28,7 @@ fn word_of(kind: &Kind) -> &'static str {
         Kind::Receive { blocking: true, .. } => "recv",
         Kind::Receive { .. } => "irecv",
         Kind::MatchedProbe { .. } => "mprobe",
+        Kind::Probe { .. } => "probe",
         Kind::MatchedReceive { blocking: true } => "mrecv",
         Kind::MatchedReceive { .. } => "imrecv",
         Kind::Wait { .. } => "wait",

@@ -4,6 +4,7 @@
 #![tactic(auto)]
 
 mod decisions;
+mod exchanged;
 mod explaining;
 mod graph;
 mod numbering;

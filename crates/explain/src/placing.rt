@@ -1,6 +1,7 @@
 //! Calls and ranks as they are told.
 
 use crate::written::Written;
+use callorder::Program;
 use semantics::State;
 use std::alloc::AllocError;
 use waits::RankSet;
@@ -37,6 +38,25 @@ pub fn put_number_of(out: &mut String, calls: &[Written], call: usize) -> Result
         write!(out, "call {number} of rank {rank}")?;
     }
     Ok(())
+}
+
+/// Tells that a receive or matched probe took the message of a send, or that a probe saw it, and begins a line below.
+pub fn put_finding(
+    out: &mut String,
+    program: &Program,
+    calls: &[Written],
+    finder: usize,
+    send: usize,
+) -> Result<(), AllocError> {
+    out.push_str("  ")?;
+    put_call_of(out, calls, finder)?;
+    out.push_str(if program.is_probe(finder) {
+        " saw the message of "
+    } else {
+        " took the message of "
+    })?;
+    put_call_of(out, calls, send)?;
+    out.push_str("\n    ")
 }
 
 /// Whether the set has more than one rank.

@@ -14,10 +14,10 @@ matched_open : (issued matched : Bool) → (issued && not matched) ≡ true → 
 matched_open issued matched is_open matches = true≢false (sym matches ∙ not-true matched (and_parts issued (not matched) is_open).1)
 
 pub fit_calls_are_not_both_open : FitCallsAreNotBothOpen
-fit_calls_are_not_both_open p m send taker stuck fit send_open taker_open =
-    elim (no_open_pair_where_stuck p m send taker stuck (and_parts _ _ send_open).0 (and_parts _ _ taker_open).0 fit) [
+fit_calls_are_not_both_open p m send finder stuck fit send_open finder_open =
+    elim (no_open_pair_where_stuck p m send finder stuck (and_parts _ _ send_open).0 (and_parts _ _ finder_open).0 fit) [
       | inl matched ↦ matched_open _ _ send_open matched
-      | inr matched ↦ matched_open _ _ taker_open matched
+      | inr matched ↦ matched_open _ _ finder_open matched
     ]
 
 -- ---- the operation that a rank waits for is issued
@@ -61,6 +61,6 @@ needed_calls_are_not_open p m rank call needed is stuck waits unmatched fit fate
     let here : is_open p m o ≡ true = and_from _ _ (operation_is_issued p m rank call is waits) free in
     let there : is_open p m needed ≡ true = open_is (partner_of m needed) (is_issued p m needed) fate in
     elim (or_cases _ _ fit) [
-      | inl sends ↦ fit_calls_are_not_both_open p m o needed stuck sends here there
+      | inl sends ↦ fit_calls_are_not_both_open p m o needed stuck (and_parts _ _ sends).0 here there
       | inr takes ↦ fit_calls_are_not_both_open p m needed o stuck takes there here
     ]

@@ -1,26 +1,26 @@
 -- A rank that waits needs something that has not come.
 use Rattle.std.proofs.Common.{◌≡◌, ℕ, inl, inr, Bool, true, false, not, ◌&&◌, IsTrue, List, [], ◌∷◌, Option, Some, None, is_some, get_or, length, replicate, refl, sym, ◌∙◌, ap, subst, arith}
 use Rattle.std.specs.Prelude.{slice_set, unwrap_or, option_map, option_and_then}
-use Rattle.std.proofs.lemmas.Bool.{cases_eq, cases_lt, and_from, or_cases, or_left, or_right, or_parts, not_from_false, true≢false}
+use Rattle.std.proofs.lemmas.Bool.{cases_eq, cases_lt, and_from, and_parts, or_cases, or_left, or_right, or_parts, not-true, not_from_false, true≢false}
 use Rattle.std.proofs.lemmas.List.{get_or-set_same, get_or-set_other, set_past, get_or-replicate, get_or_past, length-replicate}
 use Rattle.std.proofs.lemmas.Option.{same_Some, none-some, unwrap_or-slice_get}
 use Rattle.calltext.specs.declared.call.Mode.TheVariants.{Standard, Synchronous, Buffered}
 use Rattle.callorder.specs.declared.calls.Call.{Call}
 use Rattle.callorder.specs.declared.calls.Kind.{Kind}
-use Rattle.callorder.specs.declared.calls.Kind.TheVariants.{Send, Receive, MatchedProbe, MatchedReceive, Wait}
+use Rattle.callorder.specs.declared.calls.Kind.TheVariants.{Send, Receive, MatchedProbe, Probe, MatchedReceive, Wait}
 use Rattle.callorder.specs.declared.calls.Message.{Message}
 use Rattle.callorder.specs.declared.calls.Pattern.{Pattern}
-use Rattle.callorder.specs.Calls.{message_of, pattern_of, receive_of, operation_of, fits_between}
-use Rattle.callorder.specs.Programs.{MpiProgram, IsProgram, call_at, fit_calls}
+use Rattle.callorder.specs.Calls.{message_of, pattern_of, receive_of, operation_of, is_probe_kind, fits_between}
+use Rattle.callorder.specs.Programs.{MpiProgram, IsProgram, call_at, fit_calls, is_probe_call}
 use Rattle.semantics.specs.declared.state.Step.{Step}
-use Rattle.semantics.specs.declared.state.Step.TheVariants.{Issue, Match as MatchStep}
+use Rattle.semantics.specs.declared.state.Step.TheVariants.{Issue, Match as MatchStep, See}
 use Rattle.semantics.specs.Machine.{Configuration, IsEnabled, IsRun, after, after_all, opening, partner_of, is_done, is_done_call, is_done_kind, is_returned, is_returned_call, is_returned_kind, is_issued, fetches, fetches_call, fetches_partner}
 use Rattle.waits.specs.declared.needs.Need.TheVariants.{Match, Fetch}
 use Rattle.waits.specs.Waiting.{operation_of_call, operation_at, handled_receive, need_with, need_where, need_of_operation, fits_with}
 use Rattle.waits.specs.Laws.{HasNeed, WaitingRanksNeed}
 use Rattle.waits.proofs.NeededCalls.{own_rank}
 
--- ---- what is matched fits
+-- ---- what is matched fits, and what a probe has seen
 
 abbrev PartnersFit : MpiProgram → List (Option ℕ) → Type 0
 PartnersFit p partner = (e f : ℕ) → get_or partner e None ≡ Some f → IsTrue (fits_with p e f)
@@ -41,7 +41,8 @@ set_fit p partner i x fit all e f there =
 fit_after : (p : MpiProgram) (m : Configuration) (step : Step) → IsEnabled p m step → PartnersFit p m.partner → PartnersFit p (after m step).partner
 fit_after p m (Issue rank buffered) enabled all = all
 fit_after p m (MatchStep s t) enabled all =
-    set_fit p (slice_set m.partner s (Some t)) t s (or_right _ _ enabled.fit) (set_fit p m.partner s t (or_left _ _ enabled.fit) all)
+    set_fit p (slice_set m.partner s (Some t)) t s (or_right _ _ enabled.1.fit) (set_fit p m.partner s t (or_left _ _ (and_from _ _ enabled.1.fit enabled.0)) all)
+fit_after p m (See s f) enabled all = set_fit p m.partner f s (or_right _ _ enabled.1.fit) all
 
 fit_along : (p : MpiProgram) (m : Configuration) (steps : List Step) → IsRun p m steps → PartnersFit p m.partner → PartnersFit p (after_all m steps).partner
 fit_along p m [] run all = all
@@ -71,17 +72,18 @@ no_pattern sender taker (Some message) fit = true≢false (sym fit)
 abbrev HasReceive : MpiProgram → Configuration → Option ℕ → Type 0
 HasReceive p m found = (receive : ℕ) × (found ≡ Some receive) × (is_issued p m receive ≡ false)
 
-receive_awaited : (p : MpiProgram) (m : Configuration) (sender taker : ℕ) (message : Option Message) (kind : Kind) → fits_between sender message taker (pattern_of kind) ≡ true → fetches p m kind ≡ false → HasReceive p m (receive_of kind)
-receive_awaited p m sender taker message (Send mode blocking own) fit unfetched = absurd (no_pattern sender taker message fit)
-receive_awaited p m sender taker message (Receive blocking pattern) fit unfetched = absurd (true≢false unfetched)
-receive_awaited p m sender taker message (MatchedProbe pattern receive) fit unfetched = (receive, refl, unfetched)
-receive_awaited p m sender taker message (MatchedReceive blocking) fit unfetched = absurd (no_pattern sender taker message fit)
-receive_awaited p m sender taker message (Wait operation) fit unfetched = absurd (no_pattern sender taker message fit)
+receive_awaited : (p : MpiProgram) (m : Configuration) (sender taker : ℕ) (message : Option Message) (kind : Kind) → fits_between sender message taker (pattern_of kind) ≡ true → is_probe_kind kind ≡ false → fetches p m kind ≡ false → HasReceive p m (receive_of kind)
+receive_awaited p m sender taker message (Send mode blocking own) fit no_probe unfetched = absurd (no_pattern sender taker message fit)
+receive_awaited p m sender taker message (Receive blocking pattern) fit no_probe unfetched = absurd (true≢false unfetched)
+receive_awaited p m sender taker message (MatchedProbe pattern receive) fit no_probe unfetched = (receive, refl, unfetched)
+receive_awaited p m sender taker message (Probe pattern) fit no_probe unfetched = absurd (true≢false no_probe)
+receive_awaited p m sender taker message (MatchedReceive blocking) fit no_probe unfetched = absurd (no_pattern sender taker message fit)
+receive_awaited p m sender taker message (Wait operation) fit no_probe unfetched = absurd (no_pattern sender taker message fit)
 
-receive_of_taker : (p : MpiProgram) (m : Configuration) (send : Call) (taker : Option Call) → fit_calls (Some send) taker ≡ true → fetches_call p m taker ≡ false → HasReceive p m (option_and_then (λ call. receive_of call.kind) taker)
-receive_of_taker p m send None fit unfetched = absurd (true≢false (sym fit))
-receive_of_taker p m send (Some taker) fit unfetched =
-    receive_awaited p m send.rank taker.rank (message_of send.kind) taker.kind fit unfetched
+receive_of_taker : (p : MpiProgram) (m : Configuration) (send : Call) (taker : Option Call) → fit_calls (Some send) taker ≡ true → is_probe_call taker ≡ false → fetches_call p m taker ≡ false → HasReceive p m (option_and_then (λ call. receive_of call.kind) taker)
+receive_of_taker p m send None fit no_probe unfetched = absurd (true≢false (sym fit))
+receive_of_taker p m send (Some taker) fit no_probe unfetched =
+    receive_awaited p m send.rank taker.rank (message_of send.kind) taker.kind fit no_probe unfetched
 
 no_taker : (send taker : Option Call) (known : Call) → taker ≡ Some known → pattern_of known.kind ≡ None → fit_calls send taker ≡ true → ⊥
 no_taker None taker known there none fit = true≢false (sym fit)
@@ -95,7 +97,9 @@ no_taker (Some send) (Some taker) known there none fit =
 found_by_probe : (p : MpiProgram) (m : Configuration) (o t : ℕ) (known : Call) → call_at p o ≡ Some known → pattern_of known.kind ≡ None → IsTrue (fits_with p o t) → fetches_partner p m (Some t) ≡ false → HasReceive p m (handled_receive p t)
 found_by_probe p m o t known there none fit unfetched =
     elim (or_cases _ _ fit) [
-      | inl sends ↦ receive_of_taker p m known (call_at p t) (subst (λ (x : Option Call). fit_calls x (call_at p t) ≡ true) there sends) unfetched
+      | inl sends ↦
+          let both = and_parts _ _ sends in
+          receive_of_taker p m known (call_at p t) (subst (λ (x : Option Call). fit_calls x (call_at p t) ≡ true) there both.0) (not-true _ both.1) unfetched
       | inr takes ↦ absurd (no_taker (call_at p t) (call_at p o) known there none takes)
     ]
 
@@ -110,6 +114,8 @@ unfetched_of p m o t (Send Buffered blocking message) matched pending = absurd (
 unfetched_of p m o t (Receive blocking pattern) matched pending =
     absurd (true≢false (sym (ap is_some matched) ∙ pending))
 unfetched_of p m o t (MatchedProbe pattern receive) matched pending =
+    absurd (true≢false (sym (ap is_some matched) ∙ pending))
+unfetched_of p m o t (Probe pattern) matched pending =
     absurd (true≢false (sym (ap is_some matched) ∙ pending))
 unfetched_of p m o t (MatchedReceive blocking) matched pending = absurd (true≢false pending)
 unfetched_of p m o t (Wait operation) matched pending = absurd (true≢false pending)
@@ -140,6 +146,7 @@ undone p m call known there pending =
     by_kind (Send mode blocking message) unreturned = (or_parts _ _ unreturned).1
     by_kind (Receive blocking pattern) unreturned = (or_parts _ _ unreturned).1
     by_kind (MatchedProbe pattern receive) unreturned = unreturned
+    by_kind (Probe pattern) unreturned = unreturned
     by_kind (MatchedReceive blocking) unreturned = absurd (true≢false unreturned)
     by_kind (Wait operation) unreturned = unreturned
 

@@ -11,11 +11,11 @@ use std::alloc::{AllocError, Global};
 /// What became of a call.
 #[derive(Clone, Copy, PartialEq, Eq)]
 pub enum Fate {
-    /// It is matched with the call at this place.
+    /// It is matched with the call at this place, or is a probe that saw the send there.
     Taken(usize),
     /// Its rank has not come to it.
     NotIssued,
-    /// It is issued and not matched.
+    /// It is issued and not matched, and a probe has seen nothing.
     Open,
 }
 
@@ -36,14 +36,15 @@ pub fn fate_of(program: &Program, state: &State, call: usize) -> Fate
     }
 }
 
-/// Whether there are calls at both places that fit, one of them the send and the other the receive or matched probe.
+/// Whether there are calls at both places, and the second is one that the first looks for: a receive or matched probe that it
+/// fits, where the first is a send; else a send that fits the receive, matched probe or probe. A send looks for no probe.
 pub fn fits_with(program: &Program, call: usize, other: usize) -> bool
     ensures { result ≡ fits_with program.now call other }
 {
-    program.are_fit(call, other) || program.are_fit(other, call)
+    program.takes(call, other) || program.are_fit(other, call)
 }
 
-/// The places of the calls that fit with the one at this place, in rising order. The only error is want of memory.
+/// The places of the calls that the one at this place looks for, in rising order. The only error is want of memory.
 pub fn fitting(alloc: Global, program: &Program, call: usize) -> Result<Vec<usize>, AllocError>
     ensures { IfOk result (λ places. places.items ≡ filter (fits_with program.now call) (range_with_len 0 (length program.now.calls))) }
 {

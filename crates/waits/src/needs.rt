@@ -9,7 +9,8 @@ use semantics::State;
 /// What an operation that is not done waits for.
 #[derive(Clone, Copy, PartialEq, Eq)]
 pub enum Need {
-    /// A send, a receive or a matched probe without a partner waits for a call that fits with it.
+    /// A send that is not matched waits for a receive or matched probe that it fits; a receive or matched probe that is not
+    /// matched, and a probe that has seen nothing, wait for a send that fits.
     Match,
     /// A send that a matched probe found waits for the receive, at this place, on the probe's handle.
     Fetch { receive: usize },

@@ -49,8 +49,8 @@ fn needed_by(program: &Program, state: &State, operation: usize) -> RankSet
     }
 }
 
-/// The ranks that a rank, from 0, waits for: it waits in a call whose operation needs a match, and they have a call
-/// that fits and is not issued; or it needs a receive of theirs on the handle of a matched probe.
+/// The ranks that a rank, from 0, waits for: it waits in a call whose operation needs a match or a message to see, and they
+/// have a call that it looks for and that is not issued; or it needs a receive of theirs on the handle of a matched probe.
 pub fn awaited(program: &Program, state: &State, rank: u32) -> RankSet
     ensures { (other : ℕ) → IsTrue (has_rank result other) ↔ WaitsFor program.now state.now rank other }
 {

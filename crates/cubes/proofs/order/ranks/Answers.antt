@@ -7,4 +7,4 @@ overflow_sub-len c = omega (arith, ap length c.with_taker.ensures, c.len.ensures
 
 pub loop-number-preserved : goal.loop-number-preserved
 loop-number-preserved c =
-    rank_more c.args.pairs.now c.as_slice-send-items.result.now c.loop-number.ranks.items c.push.new.self.items c.with_taker.result.now c.loop-number.number c.len.result c.loop-number.invariant c.in_ok-push.ensures.items c.as_slice-send-items.ensures c.with_taker.ensures c.len.ensures
+    rank_more c.args.pairs.now c.as_slice-listed.result.now c.loop-number.ranks.items c.push.new.self.items c.with_taker.result.now c.loop-number.number c.len.result c.loop-number.invariant c.in_ok-push.ensures.items c.as_slice-listed.ensures c.with_taker.ensures c.len.ensures
