@@ -219,6 +219,10 @@ pub fn step(line: &str) -> Result<Step, Trouble> {
             send: place(first)?,
             taker: place(second)?,
         }),
+        "see" => Ok(Step::See {
+            send: place(first)?,
+            probe: place(second)?,
+        }),
         "issue" => Ok(Step::Issue {
             rank: number(first)?,
             buffered: second == "buffered",

@@ -101,12 +101,15 @@ fn put_step(out: &mut String, step: &Step) -> Result<(), AllocError> {
             write!(out, "issue {rank}")?;
             out.push_str(how)
         }
-        Step::Match { send, taker } => {
-            let send = send.saturating_add(1);
-            let taker = taker.saturating_add(1);
-            write!(out, "match {send} {taker}/")
-        }
+        Step::Match { send, taker } => put_found(out, "match", send, taker),
+        Step::See { send, probe } => put_found(out, "see", send, probe),
     }
+}
+
+fn put_found(out: &mut String, word: &str, send: usize, finder: usize) -> Result<(), AllocError> {
+    let send = send.saturating_add(1);
+    let finder = finder.saturating_add(1);
+    write!(out, "{word} {send} {finder}/")
 }
 
 /// Steps, each with a `/` behind it.
