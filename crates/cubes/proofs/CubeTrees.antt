@@ -49,6 +49,10 @@ levels_there pairs slice count order lent levels few is lent_is slice_is =
     subst (λ (ps : List (ℕ × ℕ)). All (λ k. k < length ps) (take levels lent)) (sym slice_is)
     (subst (λ (ns : List ℕ). All (λ k. k < length pairs) (take levels ns)) (sym lent_is) (All-take (λ k. k < length pairs) levels order (order_within pairs count order few is)))
 
+pub matching_levels_there : (p : MpiProgram) (known pairs slice : List (ℕ × ℕ)) (order lent : List ℕ) (levels : ℕ) → pairs ≡ known → known ≡ pairs_of p → IsBranchingOrder known (length (matching_pairs p)) order → lent ≡ order → slice ≡ pairs → All (λ k. k < length slice) (take levels lent)
+matching_levels_there p known pairs slice order lent levels same are is lent_is slice_is =
+    levels_there known slice (length (matching_pairs p)) order lent levels (omega (arith, few_matching p, ap length are)) is lent_is (slice_is ∙ same)
+
 pub variables_fit : (p : MpiProgram) (pairs slice : List (ℕ × ℕ)) (numbers variables lent : List ℕ) (most : ℕ) → pairs ≡ pairs_of p → slice ≡ pairs → All (λ k. k < length slice) numbers → variables ≡ map (match_variable p) numbers → lent ≡ variables → most ≡ (formula_of p).variables → All (λ v. (1 ≤ v) × (v ≤ most)) lent
 variables_fit p pairs slice numbers variables lent most are slice_is there made lent_is most_is =
     subst (λ (n : ℕ). All (λ v. (1 ≤ v) × (v ≤ n)) lent) (sym most_is)
@@ -75,6 +79,10 @@ pub order_there : (pairs slice : List (ℕ × ℕ)) (count : ℕ) (order lent : 
 order_there pairs slice count order lent few is lent_is slice_is =
     subst (λ (ps : List (ℕ × ℕ)). All (λ k. k < length ps) lent) (sym slice_is)
     (subst (λ (ns : List ℕ). All (λ k. k < length pairs) ns) (sym lent_is) (order_within pairs count order few is))
+
+pub matching_order_there : (p : MpiProgram) (known pairs slice : List (ℕ × ℕ)) (order lent : List ℕ) → pairs ≡ known → known ≡ pairs_of p → IsBranchingOrder known (length (matching_pairs p)) order → lent ≡ order → slice ≡ pairs → All (λ k. k < length slice) lent
+matching_order_there p known pairs slice order lent same are is lent_is slice_is =
+    order_there known slice (length (matching_pairs p)) order lent (omega (arith, few_matching p, ap length are)) is lent_is (slice_is ∙ same)
 
 pub branching_variables_are : (q p : MpiProgram) (pairs : List (ℕ × ℕ)) (order lent variables : List ℕ) → IsBranchingOrder pairs (length (matching_pairs q)) order → pairs ≡ pairs_of q → p ≡ q → lent ≡ order → variables ≡ map (match_variable p) lent → AreBranchingVariables q variables
 branching_variables_are q p pairs order lent variables is pairs_are p_is lent_is made =

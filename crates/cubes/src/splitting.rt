@@ -1,7 +1,8 @@
 //! The split of a formula into cubes.
 
-ghost use Rattle.std.specs.Prelude.{◌≡◌, ◌<◌, ◌≤◌, ◌↔◌, IfOk, length, map};
-ghost use Rattle.std.specs.List.{All};
+ghost use Rattle.std.specs.Prelude.{◌≡◌, ◌<◌, ◌≤◌, ◌↔◌, IfOk, length, map, not};
+ghost use Rattle.std.specs.List.{All, filter};
+ghost use Rattle.callorder.specs.Programs.{is_probe};
 ghost use Rattle.candidates.specs.Pairs.{matching_pairs, pairs_of};
 ghost use Rattle.formulas.specs.Numbering.{formula_of};
 ghost use Rattle.cubes.specs.Order.{match_variable, AreBranchingVariables, IsBranchingOrder};
@@ -50,17 +51,23 @@ fn match_variables(
     Ok(variables)
 }
 
-/// How many pairs may be matched: all but those of probes, which come last.
+/// How many of the pairs aren't those of probes.
+fn count_taken(program: &Program, pairs: &[(usize, usize)]) -> usize
+    ensures { result ≡ length (filter (λ pair. not (is_probe program.now pair.1)) pairs.now) }
+{
+    pairs
+        .iter()
+        .filter(|pair| !program.is_probe(pair.1))
+        .count()
+}
+
+/// How many pairs may be matched, which are the first ones.
 fn count_matching(program: &Program, pairs: &Pairs) -> usize
     requires { pairs.now ≡ pairs_of program.now }
     ensures same { result ≡ length (matching_pairs program.now) }
     ensures few { result ≤ length pairs.now }
 {
-    pairs
-        .as_slice()
-        .iter()
-        .filter(|pair| !program.is_probe(pair.1))
-        .count()
+    count_taken(program, pairs.as_slice())
 }
 
 /// The numbers, from 0, of the pairs that may be matched, in the order in which they are branched on.

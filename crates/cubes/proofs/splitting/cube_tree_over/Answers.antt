@@ -1,25 +1,18 @@
-use Rattle.std.proofs.Common.{◌≡◌, ℕ, ◌≤◌, List, length, min, take, ap, subst, sym, ◌∙◌, arith}
+use Rattle.std.proofs.Common.{◌≡◌, length, min, take, ap, sym, ◌∙◌, arith}
 use Rattle.std.proofs.lemmas.Result.{IfOk-weaker}
 use Rattle.callorder.specs.Programs.{MpiProgram}
-use Rattle.candidates.specs.Pairs.{matching_pairs, pairs_of}
+use Rattle.candidates.specs.Pairs.{pairs_of}
 use Rattle.clauses.specs.Clauses.{Conjunction}
 use Rattle.formulas.specs.Numbering.{formula_of}
 use Rattle.trees.specs.Trees.{TreeState}
 use Rattle.cubes.specs.Cubes.{IsCubeTree}
 use Rattle.cubes.specs.Levels.{full_tree}
-use Rattle.cubes.specs.Order.{IsBranchingOrder}
-use Rattle.cubes.proofs.CubeTrees.{few_matching, levels_there, variables_fit, cube_tree_made}
+use Rattle.cubes.proofs.CubeTrees.{matching_levels_there, variables_fit, cube_tree_made}
 use Rattle.cubes.proofs.splitting.cube_tree_over.Goals as goal
 
 pub match_variables-requires-clause-there : goal.match_variables-requires-clause-there
 match_variables-requires-clause-there c =
-    let program = c.args.encoded.now.program in
-    let are : c.pairs-pairs.result.now ≡ pairs_of program = c.pairs-pairs.ensures.same ∙ c.pairs-pairs.ensures.are in
-    let few : length (matching_pairs program) ≤ length c.pairs-pairs.result.now = omega (arith, few_matching program, ap length are) in
-    let is : IsBranchingOrder c.pairs-pairs.result.now (length (matching_pairs program)) c.in_ok-order.order.items =
-    subst (λ (ps : List (ℕ × ℕ)). IsBranchingOrder ps (length (matching_pairs program)) c.in_ok-order.order.items) (sym c.pairs-pairs.ensures.same) c.in_ok-order.ensures
-    in
-    levels_there c.pairs-pairs.result.now c.as_slice.result.now (length (matching_pairs program)) c.in_ok-order.order.items c.deref.result.now c.min-levels.result few is c.deref.ensures.value c.as_slice.ensures
+    matching_levels_there c.args.encoded.now.program c.args.encoded.now.pairs c.pairs-pairs.result.now c.as_slice.result.now c.in_ok-order.order.items c.deref.result.now c.min-levels.result c.pairs-pairs.ensures.same c.pairs-pairs.ensures.are c.in_ok-order.ensures c.deref.ensures.value c.as_slice.ensures
 
 pub full_tree-requires-clause-within : goal.full_tree-requires-clause-within
 full_tree-requires-clause-within c =
@@ -31,7 +24,7 @@ full_tree-requires-clause-within c =
     ∙ ap (λ (f : Conjunction). f.variables) c.count_variables.ensures.are
     ∙ ap (λ (q : MpiProgram). (formula_of q).variables) program
     in
-    let there = match_variables-requires-clause-there c in
+    let there = matching_levels_there c.args.encoded.now.program c.args.encoded.now.pairs c.pairs-pairs.result.now c.as_slice.result.now c.in_ok-order.order.items c.deref.result.now c.min-levels.result c.pairs-pairs.ensures.same c.pairs-pairs.ensures.are c.in_ok-order.ensures c.deref.ensures.value c.as_slice.ensures in
     variables_fit p c.pairs-pairs.result.now c.as_slice.result.now (take c.min-levels.result c.deref.result.now) c.in_ok-variables.variables.items c.deref-2.result.now c.count_variables.result are c.as_slice.ensures there c.in_ok-variables.ensures c.deref-2.ensures.value most
 
 pub returns : goal.returns
