@@ -9,7 +9,7 @@ use Rattle.plaintext.proofs.Cuts.{no_line_of, parts, words_are, line_is, first_p
 use Rattle.plaintext.proofs.Ascii.{plain_by_test}
 use Rattle.plaintext.proofs.Texts.{capped_small}
 use Rattle.calltext.specs.declared.call.CallLine.{CallLine}
-use Rattle.calltext.specs.declared.call.CallLine.TheVariants.{Send, Receive, MatchedProbe, MatchedReceive, Wait, WaitAll, SendReceive}
+use Rattle.calltext.specs.declared.call.CallLine.TheVariants.{Send, Receive, MatchedProbe, Probe, MatchedReceive, Wait, WaitAll, SendReceive}
 use Rattle.calltext.specs.declared.call.Policy.{Policy}
 use Rattle.calltext.specs.declared.call.Policy.TheVariants as policies
 use Rattle.calltext.specs.Grammar.{or_star, communicator_words, call_words, policy_words, ranks_words, rank_words, UpTo, IsCommunicator, HasNames, IsInRange, CallFits}
@@ -62,6 +62,7 @@ plain_operands : (c : CallLine) → HasNames c → AllByRecursion IsPlain (opera
 plain_operands (Send m r d t k) names = plain_request r (message_words d t k) names (IsPlain-numeral d, (IsPlain-numeral t, plain_comm k))
 plain_operands (Receive r s t k) names = plain_request r (pattern_words s t k) names (plain_star s, (plain_star t, plain_comm k))
 plain_operands (MatchedProbe h s t k) names = (plain_name h names, (plain_star s, (plain_star t, plain_comm k)))
+plain_operands (Probe s t k) names = (plain_star s, (plain_star t, plain_comm k))
 plain_operands (MatchedReceive r h) names = subst (AllByRecursion IsPlain) (sym (append-nil (request_words r ++ h ∷ []))) (plain_request r (h ∷ []) names.0 (plain_name h names.1, tt))
 plain_operands (Wait r) names = (plain_name r names, tt)
 plain_operands (WaitAll rs) names = subst (AllByRecursion IsPlain) (sym (append-nil rs)) (plain_names rs names.1)
@@ -123,6 +124,11 @@ capped_same (MatchedProbe h s t k) fits =
     let b = upto_capped 32767 t (omega arith) fits.1 in
     let e = comm_capped k fits.2 in
     rw (a, b, e) refl
+capped_same (Probe s t k) fits =
+    let a = upto_capped 63 s (omega arith) fits.0 in
+    let b = upto_capped 32767 t (omega arith) fits.1 in
+    let e = comm_capped k fits.2 in
+    rw (a, b, e) refl
 capped_same (MatchedReceive r h) fits = refl
 capped_same (Wait r) fits = refl
 capped_same (WaitAll rs) fits = refl
@@ -146,6 +152,7 @@ capped_fits : (c : CallLine) → IsInRange c → IsInRange (capped_call c)
 capped_fits (Send m r d t k) fits = (omega (arith, fits.0), omega (arith, fits.1), comm_fits k fits.2)
 capped_fits (Receive r s t k) fits = (upto_fits 63 s fits.0, upto_fits 32767 t fits.1, comm_fits k fits.2)
 capped_fits (MatchedProbe h s t k) fits = (upto_fits 63 s fits.0, upto_fits 32767 t fits.1, comm_fits k fits.2)
+capped_fits (Probe s t k) fits = (upto_fits 63 s fits.0, upto_fits 32767 t fits.1, comm_fits k fits.2)
 capped_fits (MatchedReceive r h) fits = tt
 capped_fits (Wait r) fits = tt
 capped_fits (WaitAll rs) fits = tt

@@ -11,7 +11,7 @@ use Rattle.plaintext.proofs.FirstFaults.{heads}
 use Rattle.plaintext.proofs.Ascii.{AllAscii, all_append, ascii_words, ascii_among}
 use Rattle.plaintext.proofs.Texts.{IsLine, is_line, line_of_injective, lines_joined}
 use Rattle.calltext.specs.declared.call.CallLine.{CallLine}
-use Rattle.calltext.specs.declared.call.CallLine.TheVariants.{Send, Receive, MatchedProbe, MatchedReceive, Wait, WaitAll, SendReceive}
+use Rattle.calltext.specs.declared.call.CallLine.TheVariants.{Send, Receive, MatchedProbe, Probe, MatchedReceive, Wait, WaitAll, SendReceive}
 use Rattle.calltext.specs.declared.verb.Verb.{Verb}
 use Rattle.calltext.specs.declared.verb.Verb.TheVariants as verb
 use Rattle.calltext.specs.Grammar.{ProgramText, or_star, communicator_words, call_words, policy_words, ranks_words, rank_words, rank_lines, program_lines, text_of, HasNames, AllHaveNames, CallFits, Fits}
@@ -61,6 +61,7 @@ abbrev IsOnly : Verb → List (List ℕ) → CallLine → Type 0
 IsOnly (verb.Send m started) words c = (r : Option (List ℕ)) (d t : ℕ) (k : Option ℕ) → is_started r ≡ started → request_words r ++ message_words d t k ≡ words → Send m r d t k ≡ c
 IsOnly (verb.Receive started) words c = (r : Option (List ℕ)) (s t k : Option ℕ) → is_started r ≡ started → request_words r ++ pattern_words s t k ≡ words → Receive r s t k ≡ c
 IsOnly verb.MatchedProbe words c = (h : List ℕ) (s t k : Option ℕ) → h ∷ pattern_words s t k ≡ words → MatchedProbe h s t k ≡ c
+IsOnly verb.Probe words c = (s t k : Option ℕ) → pattern_words s t k ≡ words → Probe s t k ≡ c
 IsOnly (verb.MatchedReceive started) words c = (r : Option (List ℕ)) (h : List ℕ) → is_started r ≡ started → request_words r ++ h ∷ [] ≡ words → MatchedReceive r h ≡ c
 IsOnly verb.Wait words c = (r : List ℕ) → r ∷ [] ≡ words → Wait r ≡ c
 IsOnly verb.WaitAll words c = (rs : List (List ℕ)) → rs ≡ words → WaitAll rs ≡ c
@@ -79,6 +80,9 @@ only (MatchedProbe h s t k) = λ h' s' t' k' e.
     let x = heads h' h _ _ e in
     let y = pattern_injective s' s t' t k' k x.1 in
     rw (x.0, y.0, y.1, y.2) refl
+only (Probe s t k) = λ s' t' k' e.
+    let x = pattern_injective s' s t' t k' k e in
+    rw (x.0, x.1, x.2) refl
 only (MatchedReceive r h) = λ r' h' same e.
     let x = request_injective r' r (h' ∷ []) (h ∷ []) same (e ∙ append-nil (request_words r ++ h ∷ [])) in
     let y = heads h' h [] [] x.1 in
@@ -97,6 +101,7 @@ as_only : (a c : CallLine) → IsOnly (verb_of a) (operands a) c → a ≡ c
 as_only (Send m r d t k) c h = h r d t k refl refl
 as_only (Receive r s t k) c h = h r s t k refl refl
 as_only (MatchedProbe x s t k) c h = h x s t k refl
+as_only (Probe s t k) c h = h s t k refl
 as_only (MatchedReceive r x) c h = h r x refl (sym (append-nil (request_words r ++ x ∷ [])))
 as_only (Wait r) c h = h r refl
 as_only (WaitAll rs) c h = h rs (sym (append-nil rs))

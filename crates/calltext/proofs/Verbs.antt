@@ -8,7 +8,7 @@ use Rattle.plaintext.proofs.Ascii.{plain_by_test}
 use Rattle.plaintext.proofs.FirstFaults.{heads}
 use Rattle.calltext.proofs.Conjunctions.{and_true}
 use Rattle.calltext.specs.declared.call.CallLine.{CallLine}
-use Rattle.calltext.specs.declared.call.CallLine.TheVariants.{Send, Receive, MatchedProbe, MatchedReceive, Wait, WaitAll, SendReceive}
+use Rattle.calltext.specs.declared.call.CallLine.TheVariants.{Send, Receive, MatchedProbe, Probe, MatchedReceive, Wait, WaitAll, SendReceive}
 use Rattle.calltext.specs.declared.call.Mode.TheVariants.{Standard, Synchronous, Buffered}
 use Rattle.calltext.specs.declared.verb.Verb.{Verb}
 use Rattle.calltext.specs.declared.verb.Verb.TheVariants as verb
@@ -26,6 +26,7 @@ call_words_are (Send Buffered (Some r) d t k) = refl
 call_words_are (Receive None s t k) = refl
 call_words_are (Receive (Some r) s t k) = refl
 call_words_are (MatchedProbe h s t k) = refl
+call_words_are (Probe s t k) = refl
 call_words_are (MatchedReceive None h) = refl
 call_words_are (MatchedReceive (Some r) h) = refl
 call_words_are (Wait r) = refl
@@ -51,6 +52,7 @@ known (verb.Send Buffered true) = (refl, omega arith)
 known (verb.Receive false) = (refl, omega arith)
 known (verb.Receive true) = (refl, omega arith)
 known verb.MatchedProbe = (refl, omega arith)
+known verb.Probe = (refl, omega arith)
 known (verb.MatchedReceive false) = (refl, omega arith)
 known (verb.MatchedReceive true) = (refl, omega arith)
 known verb.Wait = (refl, omega arith)
@@ -120,6 +122,7 @@ none_of : (c : CallLine) → HasNames c → AreNoOperands (verb_of c) (operands 
 none_of (Send m r d t k) names none = none r d t k names refl refl
 none_of (Receive r s t k) names none = none r s t k names refl refl
 none_of (MatchedProbe h s t k) names none = none h s t k names refl
+none_of (Probe s t k) names none = none s t k refl
 none_of (MatchedReceive r h) names none = none r h names.0 names.1 refl (sym (append-nil (request_words r ++ h ∷ [])))
 none_of (Wait r) names none = none r names refl
 none_of (WaitAll rs) names none = none (subst AreNames (sym (append-nil rs)) names)

@@ -4,7 +4,7 @@ use Rattle.std.specs.Prelude.{codes, ◌≡◌, ℕ, ◌+◌, ◌≤◌, List, [
 use Rattle.std.specs.List.{AllByRecursion, flat_map}
 use Rattle.plaintext.specs.Plain.{numeral, line_of}
 use Rattle.calltext.specs.declared.call.CallLine.{CallLine}
-use Rattle.calltext.specs.declared.call.CallLine.TheVariants.{Send, Receive, MatchedProbe, MatchedReceive, Wait, WaitAll, SendReceive}
+use Rattle.calltext.specs.declared.call.CallLine.TheVariants.{Send, Receive, MatchedProbe, Probe, MatchedReceive, Wait, WaitAll, SendReceive}
 use Rattle.calltext.specs.declared.call.Mode.{Mode}
 use Rattle.calltext.specs.declared.call.Mode.TheVariants.{Standard, Synchronous, Buffered}
 use Rattle.calltext.specs.declared.call.Policy.{Policy}
@@ -39,13 +39,14 @@ send_word Standard = codes "send"
 send_word Synchronous = codes "ssend"
 send_word Buffered = codes "bsend"
 
--- A send names its destination and tag; a receive and a matched probe name a source and a tag; each of them may name a
--- communicator. The receive on a matched probe's handle names the handle, a wait its request. A joined send and receive names
+-- A send names its destination and tag; a receive, a matched probe and a probe name a source and a tag; each of them may name
+-- a communicator. The receive on a matched probe's handle names the handle, a wait its request. A joined send and receive names
 -- its destination and send tag, then its source and receive tag.
 abbrev pub call_words : CallLine → List (List ℕ)
 call_words (Send mode request destination tag communicator) = started request (send_word mode) (numeral destination ∷ numeral tag ∷ communicator_words communicator)
 call_words (Receive request source tag communicator) = started request (codes "recv") (or_star source ∷ or_star tag ∷ communicator_words communicator)
 call_words (MatchedProbe handle source tag communicator) = codes "mprobe" ∷ handle ∷ or_star source ∷ or_star tag ∷ communicator_words communicator
+call_words (Probe source tag communicator) = codes "probe" ∷ or_star source ∷ or_star tag ∷ communicator_words communicator
 call_words (MatchedReceive request handle) = started request (codes "mrecv") (handle ∷ [])
 call_words (Wait request) = codes "wait" ∷ request ∷ []
 call_words (WaitAll requests) = codes "waitall" ∷ requests
@@ -100,6 +101,7 @@ abbrev pub HasNames : CallLine → Type 0
 HasNames (Send mode request destination tag communicator) = IfSome request (λ name. IsTrue (is_name name))
 HasNames (Receive request source tag communicator) = IfSome request (λ name. IsTrue (is_name name))
 HasNames (MatchedProbe handle source tag communicator) = IsTrue (is_name handle)
+HasNames (Probe source tag communicator) = ⊤
 HasNames (MatchedReceive request handle) = IfSome request (λ name. IsTrue (is_name name)) × IsTrue (is_name handle)
 HasNames (Wait request) = IsTrue (is_name request)
 HasNames (WaitAll requests) = AreNames requests
@@ -110,6 +112,7 @@ abbrev pub IsInRange : CallLine → Type 0
 IsInRange (Send mode request destination tag communicator) = (destination ≤ 63) × (tag ≤ 32767) × IsCommunicator communicator
 IsInRange (Receive request source tag communicator) = UpTo 63 source × UpTo 32767 tag × IsCommunicator communicator
 IsInRange (MatchedProbe handle source tag communicator) = UpTo 63 source × UpTo 32767 tag × IsCommunicator communicator
+IsInRange (Probe source tag communicator) = UpTo 63 source × UpTo 32767 tag × IsCommunicator communicator
 IsInRange (MatchedReceive request handle) = ⊤
 IsInRange (Wait request) = ⊤
 IsInRange (WaitAll requests) = ⊤

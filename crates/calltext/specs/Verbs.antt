@@ -2,7 +2,7 @@
 use Rattle.std.specs.Prelude.{codes, ◌≡◌, ◌≢◌, ℕ, Bool, true, false, List, [], ◌∷◌, ◌++◌, Option, Some, None, IfSome, IsTrue}
 use Rattle.plaintext.specs.Plain.{numeral}
 use Rattle.calltext.specs.declared.call.CallLine.{CallLine}
-use Rattle.calltext.specs.declared.call.CallLine.TheVariants.{Send, Receive, MatchedProbe, MatchedReceive, Wait, WaitAll, SendReceive}
+use Rattle.calltext.specs.declared.call.CallLine.TheVariants.{Send, Receive, MatchedProbe, Probe, MatchedReceive, Wait, WaitAll, SendReceive}
 use Rattle.calltext.specs.declared.call.Mode.TheVariants.{Standard, Synchronous, Buffered}
 use Rattle.calltext.specs.declared.verb.Verb.{Verb}
 use Rattle.calltext.specs.declared.verb.Verb.TheVariants as verb
@@ -21,6 +21,7 @@ abbrev pub verb_of : CallLine → Verb
 verb_of (Send mode request destination tag communicator) = verb.Send mode (is_started request)
 verb_of (Receive request source tag communicator) = verb.Receive (is_started request)
 verb_of (MatchedProbe handle source tag communicator) = verb.MatchedProbe
+verb_of (Probe source tag communicator) = verb.Probe
 verb_of (MatchedReceive request handle) = verb.MatchedReceive (is_started request)
 verb_of (Wait request) = verb.Wait
 verb_of (WaitAll requests) = verb.WaitAll
@@ -35,6 +36,7 @@ abbrev pub verb_word : Verb → List ℕ
 verb_word (verb.Send mode started) = started_word started (send_word mode)
 verb_word (verb.Receive started) = started_word started (codes "recv")
 verb_word verb.MatchedProbe = codes "mprobe"
+verb_word verb.Probe = codes "probe"
 verb_word (verb.MatchedReceive started) = started_word started (codes "mrecv")
 verb_word verb.Wait = codes "wait"
 verb_word verb.WaitAll = codes "waitall"
@@ -44,7 +46,7 @@ verb_word verb.SendReceive = codes "sendrecv"
 unfoldable pub verbs : List Verb
 verbs =
     verb.Send Standard false ∷ verb.Send Synchronous false ∷ verb.Send Buffered false ∷ verb.Send Standard true ∷ verb.Send Synchronous true ∷ verb.Send Buffered true
-    ∷ verb.Receive false ∷ verb.Receive true ∷ verb.MatchedProbe ∷ verb.MatchedReceive false ∷ verb.MatchedReceive true ∷ verb.Wait ∷ verb.WaitAll ∷ verb.SendReceive ∷ []
+    ∷ verb.Receive false ∷ verb.Receive true ∷ verb.MatchedProbe ∷ verb.Probe ∷ verb.MatchedReceive false ∷ verb.MatchedReceive true ∷ verb.Wait ∷ verb.WaitAll ∷ verb.SendReceive ∷ []
 
 -- ---- operands
 
@@ -52,7 +54,7 @@ verbs =
 abbrev pub message_words : ℕ → ℕ → Option ℕ → List (List ℕ)
 message_words destination tag communicator = numeral destination ∷ numeral tag ∷ communicator_words communicator
 
--- What a receive or a matched probe names last.
+-- What a receive, a matched probe or a probe names last.
 abbrev pub pattern_words : Option ℕ → Option ℕ → Option ℕ → List (List ℕ)
 pattern_words source tag communicator = or_star source ∷ or_star tag ∷ communicator_words communicator
 
@@ -65,6 +67,7 @@ abbrev pub name_words : CallLine → List (List ℕ)
 name_words (Send mode request destination tag communicator) = request_words request
 name_words (Receive request source tag communicator) = request_words request
 name_words (MatchedProbe handle source tag communicator) = handle ∷ []
+name_words (Probe source tag communicator) = []
 name_words (MatchedReceive request handle) = request_words request ++ handle ∷ []
 name_words (Wait request) = request ∷ []
 name_words (WaitAll requests) = requests
@@ -74,6 +77,7 @@ abbrev pub number_words : CallLine → List (List ℕ)
 number_words (Send mode request destination tag communicator) = message_words destination tag communicator
 number_words (Receive request source tag communicator) = pattern_words source tag communicator
 number_words (MatchedProbe handle source tag communicator) = pattern_words source tag communicator
+number_words (Probe source tag communicator) = pattern_words source tag communicator
 number_words (MatchedReceive request handle) = []
 number_words (Wait request) = []
 number_words (WaitAll requests) = []
@@ -96,6 +100,7 @@ AreNoOperands (verb.Send mode started) words =
 AreNoOperands (verb.Receive started) words =
     (request : Option (List ℕ)) (source tag communicator : Option ℕ) → IsRequest request → is_started request ≡ started → request_words request ++ pattern_words source tag communicator ≢ words
 AreNoOperands verb.MatchedProbe words = (handle : List ℕ) (source tag communicator : Option ℕ) → IsTrue (is_name handle) → handle ∷ pattern_words source tag communicator ≢ words
+AreNoOperands verb.Probe words = (source tag communicator : Option ℕ) → pattern_words source tag communicator ≢ words
 AreNoOperands (verb.MatchedReceive started) words =
     (request : Option (List ℕ)) (handle : List ℕ) → IsRequest request → IsTrue (is_name handle) → is_started request ≡ started → request_words request ++ handle ∷ [] ≢ words
 AreNoOperands verb.Wait words = (request : List ℕ) → IsTrue (is_name request) → request ∷ [] ≢ words

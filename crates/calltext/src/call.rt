@@ -51,6 +51,12 @@ pub enum CallLine {
         tag: Option<u32>,
         communicator: Option<u32>,
     },
+    /// `probe` (section 3.8.1), which takes no message out.
+    Probe {
+        source: Option<u32>,
+        tag: Option<u32>,
+        communicator: Option<u32>,
+    },
     /// `mrecv` (section 3.8.3); with a request `imrecv`.
     MatchedReceive {
         request: Option<Name>,

@@ -126,6 +126,26 @@ fn matched_probe_of(alloc: Global, words: &[&[u8]]) -> Result<Option<CallLine>, 
     }))
 }
 
+fn probe_of(words: &[&[u8]]) -> Option<CallLine>
+    ensures { IsReadAs Verb.Probe (map (λ w. w.now) words.now) result }
+{
+    let Some(
+        PatternNumbers {
+            source,
+            tag,
+            communicator,
+        },
+    ) = pattern_of(words)
+    else {
+        return None;
+    };
+    Some(CallLine::Probe {
+        source,
+        tag,
+        communicator,
+    })
+}
+
 fn matched_receive_of(
     alloc: Global,
     started: bool,
@@ -200,6 +220,7 @@ fn with_operands(alloc: Global, verb: Verb, words: &[&[u8]]) -> Result<Option<Ca
         Verb::Send { mode, started } => send_of(alloc, mode, started, words),
         Verb::Receive { started } => receive_of(alloc, started, words),
         Verb::MatchedProbe => matched_probe_of(alloc, words),
+        Verb::Probe => Ok(probe_of(words)),
         Verb::MatchedReceive { started } => matched_receive_of(alloc, started, words),
         Verb::Wait => wait_of(alloc, words),
         Verb::WaitAll => wait_all_of(alloc, words),

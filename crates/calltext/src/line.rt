@@ -85,6 +85,11 @@ fn is_in_range(call: &CallLine) -> bool
             tag,
             communicator,
             ..
+        }
+        | CallLine::Probe {
+            source,
+            tag,
+            communicator,
         } => pattern_is_in_range(*source, *tag, *communicator),
         CallLine::MatchedReceive { .. } | CallLine::Wait { .. } | CallLine::WaitAll { .. } => true,
         CallLine::SendReceive {

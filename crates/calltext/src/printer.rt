@@ -109,7 +109,7 @@ fn put_call_names(out: &mut Vec<u8>, call: &CallLine) -> Result<(), AllocError>
         }
         CallLine::Wait { request } => put_name(out, request)?,
         CallLine::WaitAll { requests } => put_names(out, requests)?,
-        CallLine::SendReceive { .. } => {}
+        CallLine::Probe { .. } | CallLine::SendReceive { .. } => {}
     }
     Ok(())
 }
@@ -135,6 +135,11 @@ fn put_call_numbers(out: &mut Vec<u8>, call: &CallLine) -> Result<(), AllocError
             tag,
             communicator,
             ..
+        }
+        | CallLine::Probe {
+            source,
+            tag,
+            communicator,
         } => put_pattern(out, *source, *tag, *communicator)?,
         CallLine::MatchedReceive { .. } | CallLine::Wait { .. } | CallLine::WaitAll { .. } => {}
         CallLine::SendReceive {

@@ -17,6 +17,8 @@ pub enum Verb {
     Receive { started: bool },
     /// `mprobe`.
     MatchedProbe,
+    /// `probe`.
+    Probe,
     /// `mrecv`, `imrecv`.
     MatchedReceive { started: bool },
     /// `wait`.
@@ -27,7 +29,7 @@ pub enum Verb {
     SendReceive,
 }
 
-const VERBS: [Verb; 14] = [
+const VERBS: [Verb; 15] = [
     Verb::Send {
         mode: Mode::Standard,
         started: false,
@@ -55,6 +57,7 @@ const VERBS: [Verb; 14] = [
     Verb::Receive { started: false },
     Verb::Receive { started: true },
     Verb::MatchedProbe,
+    Verb::Probe,
     Verb::MatchedReceive { started: false },
     Verb::MatchedReceive { started: true },
     Verb::Wait,
@@ -62,7 +65,7 @@ const VERBS: [Verb; 14] = [
     Verb::SendReceive,
 ];
 
-fn all() -> [Verb; 14]
+fn all() -> [Verb; 15]
     ensures { result ≡ verbs }
 {
     VERBS
@@ -91,6 +94,7 @@ impl Verb {
             Verb::Receive { started: false } => "recv",
             Verb::Receive { started: true } => "irecv",
             Verb::MatchedProbe => "mprobe",
+            Verb::Probe => "probe",
             Verb::MatchedReceive { started: false } => "mrecv",
             Verb::MatchedReceive { started: true } => "imrecv",
             Verb::Wait => "wait",
@@ -126,6 +130,7 @@ impl Verb {
                 started: request.is_some(),
             },
             CallLine::MatchedProbe { .. } => Verb::MatchedProbe,
+            CallLine::Probe { .. } => Verb::Probe,
             CallLine::MatchedReceive { request, .. } => Verb::MatchedReceive {
                 started: request.is_some(),
             },

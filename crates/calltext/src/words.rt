@@ -86,7 +86,7 @@ pub struct MessageNumbers {
     pub communicator: Option<u32>,
 }
 
-/// What a receive or a matched probe names last.
+/// What a receive, a matched probe or a probe names last.
 #[derive(Clone, Copy)]
 pub struct PatternNumbers {
     pub source: Option<u32>,

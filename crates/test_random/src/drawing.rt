@@ -22,16 +22,19 @@ struct RankLines {
 #[derive(Drop)]
 struct Drawing {
     chance: Chance,
+    /// Whether probes are drawn too.
+    has_probes: bool,
     ranks: Vec<RankLines>,
     /// How many requests and handles there are; they count from 1.
     names: u32,
 }
 
-/// The text of the program that is drawn by this seed, with 2 to 4 ranks and 3 to 5 messages. Where lines are swapped or receives
-/// dropped, it stays a program.
-pub fn draw(alloc: Global, seed: u64) -> Result<String, AllocError> {
+/// The text of the program that is drawn by this seed, with 2 to 4 ranks and 3 to 5 messages, and with probes or without them. Where
+/// lines are swapped or receives dropped, it stays a program.
+pub fn draw(alloc: Global, seed: u64, has_probes: bool) -> Result<String, AllocError> {
     let mut drawing = Drawing {
         chance: Chance::of_seed(seed),
+        has_probes,
         ranks: Vec::new(alloc),
         names: 0,
     };
@@ -210,8 +213,9 @@ impl Drawing {
         self.end_some(rank)
     }
 
-    /// Adds a receive, or a matched probe.
+    /// Adds a receive, or a matched probe. Where there are probes, one may stand before it, and one behind it.
     fn add_taker(&mut self, rank: u32, pattern: Pattern) -> Result<(), AllocError> {
+        self.add_probe(rank, pattern, 3)?;
         if self.chance.is_once_in(4) {
             let handle = self.new_name();
             self.add(rank, Line::MatchedProbe { handle, pattern })?;
@@ -220,7 +224,16 @@ impl Drawing {
             let request = self.draw_request(rank)?;
             self.add(rank, Line::Receive { request, pattern })?;
         }
+        self.add_probe(rank, pattern, 6)?;
         self.end_some(rank)
+    }
+
+    /// Adds a probe, once in so many times, where there are probes.
+    fn add_probe(&mut self, rank: u32, pattern: Pattern, times: u32) -> Result<(), AllocError> {
+        if self.has_probes && self.chance.is_once_in(times) {
+            self.add(rank, Line::Probe { pattern })?;
+        }
+        Ok(())
     }
 }
 

@@ -19,6 +19,9 @@ pub enum Line {
         handle: u32,
         pattern: Pattern,
     },
+    Probe {
+        pattern: Pattern,
+    },
     MatchedReceive {
         request: Option<u32>,
         handle: u32,
@@ -53,6 +56,7 @@ impl Line {
             Line::Send { request, .. } => [*request, None],
             Line::Receive { request, .. } => [*request, None],
             Line::MatchedProbe { handle, .. } => [Some(*handle), None],
+            Line::Probe { .. } => [None, None],
             Line::MatchedReceive { request, handle } => [*request, Some(*handle)],
             Line::Wait { request } => [Some(*request), None],
             Line::WaitAll { first, second } => [Some(*first), Some(*second)],
@@ -80,7 +84,8 @@ impl Line {
                 message,
             } => send_text(alloc, *mode, *request, *message),
             Line::Receive { request, pattern } => receive_text(alloc, *request, *pattern),
-            Line::MatchedProbe { handle, pattern } => probe_text(alloc, *handle, *pattern),
+            Line::MatchedProbe { handle, pattern } => matched_probe_text(alloc, *handle, *pattern),
+            Line::Probe { pattern } => probe_text(alloc, *pattern),
             Line::MatchedReceive { request, handle } => {
                 matched_receive_text(alloc, *request, *handle)
             }
@@ -125,9 +130,14 @@ fn receive_text(
     }
 }
 
-fn probe_text(alloc: Global, handle: u32, pattern: Pattern) -> Result<String, AllocError> {
+fn matched_probe_text(alloc: Global, handle: u32, pattern: Pattern) -> Result<String, AllocError> {
     let pattern = pattern_text(alloc, pattern)?;
     format!(in alloc; "mprobe h{handle} {pattern}")
+}
+
+fn probe_text(alloc: Global, pattern: Pattern) -> Result<String, AllocError> {
+    let pattern = pattern_text(alloc, pattern)?;
+    format!(in alloc; "probe {pattern}")
 }
 
 fn matched_receive_text(

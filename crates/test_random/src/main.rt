@@ -1,5 +1,6 @@
 //! Draws programs by a fixed generator, and compares two answers for each: the prover's, whose evidence the checker has to accept, and
-//! that of a plain exploration of all runs. Prints each program on which they differ, and at the end how many agree.
+//! that of a plain exploration of all runs. Prints each program on which they differ, and at the end how many agree: first of programs
+//! without probes, then of programs with probes.
 #![tactic(auto)]
 
 mod chance;
@@ -21,8 +22,11 @@ use std::sync::Wait;
 use std::thread::Threads;
 use tally::Tally;
 
-/// How many programs are drawn.
+/// How many programs without probes are drawn.
 const PROGRAMS: u64 = 300;
+
+/// How many programs with probes are drawn.
+const PROBING_PROGRAMS: u64 = 100;
 
 /// Lets the worker go on at once.
 struct Open;
@@ -43,11 +47,24 @@ fn main(rt: HostRuntime) -> ExitCode {
     }
 }
 
-/// Compares the answers for each program, and prints what was counted. Answers whether none differ.
+/// Compares the answers for all programs. Answers whether none differ.
 fn compare_all(rt: &HostRuntime, threads: &(impl Threads + Wait + Sync)) -> io::Result<bool> {
+    let plain_agree = compare_drawn(rt, threads, PROGRAMS, false)?;
+    println!(rt; "with probes:")?;
+    let probing_agree = compare_drawn(rt, threads, PROBING_PROGRAMS, true)?;
+    Ok(plain_agree && probing_agree)
+}
+
+/// Compares the answers for each of so many programs, and prints what was counted. Answers whether none differ.
+fn compare_drawn(
+    rt: &HostRuntime,
+    threads: &(impl Threads + Wait + Sync),
+    programs: u64,
+    has_probes: bool,
+) -> io::Result<bool> {
     let mut tally = Tally::new(rt.alloc());
-    for seed in 0..PROGRAMS {
-        let text = draw(rt.alloc(), seed)?;
+    for seed in 0..programs {
+        let text = draw(rt.alloc(), seed, has_probes)?;
         compare(rt, threads, &text, &mut tally)?;
     }
     print_tally(rt, &tally)?;

@@ -11,8 +11,8 @@ pub const MOST_CALLS: usize = 24;
 pub struct Position {
     /// How many calls of each rank are issued.
     issued: [u8; MOST_RANKS],
-    /// Which calls are sends that were issued as buffered.
-    buffered: [bool; MOST_CALLS],
+    /// Which calls are sends that were issued as buffered, or probes that have seen a message.
+    marks: [bool; MOST_CALLS],
     /// For each call the one that it is matched with.
     partners: [Option<u8>; MOST_CALLS],
 }
@@ -22,7 +22,7 @@ impl Position {
     pub fn opening() -> Position {
         Position {
             issued: [0; MOST_RANKS],
-            buffered: [false; MOST_CALLS],
+            marks: [false; MOST_CALLS],
             partners: [None; MOST_CALLS],
         }
     }
@@ -37,9 +37,18 @@ impl Position {
 
     /// Whether the call is a send that was issued as buffered.
     pub fn is_buffered(&self, call: usize) -> bool {
-        match self.buffered.get(call) {
+        self.is_marked(call)
+    }
+
+    /// Whether the call is a probe that has seen a message.
+    pub fn has_seen(&self, call: usize) -> bool {
+        self.is_marked(call)
+    }
+
+    fn is_marked(&self, call: usize) -> bool {
+        match self.marks.get(call) {
             None => false,
-            Some(is_buffered) => *is_buffered,
+            Some(mark) => *mark,
         }
     }
 
@@ -56,15 +65,24 @@ impl Position {
         if let Some(count) = self.issued.get_mut(rank) {
             *count = count.saturating_add(1);
         }
-        if let Some(entry) = self.buffered.get_mut(call) {
-            *entry = is_buffered;
-        }
+        self.mark(call, is_buffered);
+    }
+
+    /// Notes that a probe sees a message. Which one makes no difference to what comes.
+    pub fn see(&mut self, probe: usize) {
+        self.mark(probe, true);
     }
 
     /// Notes that two calls are matched.
     pub fn join(&mut self, one: usize, other: usize) {
         self.set_partner(one, other);
         self.set_partner(other, one);
+    }
+
+    fn mark(&mut self, call: usize, mark: bool) {
+        if let Some(entry) = self.marks.get_mut(call) {
+            *entry = mark;
+        }
     }
 
     fn set_partner(&mut self, call: usize, partner: usize) {

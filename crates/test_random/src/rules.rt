@@ -103,17 +103,21 @@ impl Rules {
         }
     }
 
-    /// Whether the first call is a send whose message the second may take: it is sent to the second's rank, in the same communicator,
-    /// and source and tag are those that are wanted, or any are.
-    fn is_meant_for(&self, send: usize, taker: usize) -> bool {
-        let (Some(send), Some(taker)) = (self.seat(send), self.seat(taker)) else {
+    fn is_probe(&self, place: usize) -> bool {
+        matches!(self.kind(place), Some(Kind::Probe { .. }))
+    }
+
+    /// Whether the first call is a send whose message the second may take, or see: it is sent to the second's rank, in the same
+    /// communicator, and source and tag are those that are wanted, or any are.
+    fn is_meant_for(&self, send: usize, finder: usize) -> bool {
+        let (Some(send), Some(finder)) = (self.seat(send), self.seat(finder)) else {
             return false;
         };
-        let (Some(message), Some(pattern)) = (send.call.kind.message(), taker.call.kind.pattern())
+        let (Some(message), Some(pattern)) = (send.call.kind.message(), finder.call.kind.pattern())
         else {
             return false;
         };
-        message.destination as usize == taker.rank
+        message.destination as usize == finder.rank
             && message.communicator == pattern.communicator
             && pattern.source.unwrap_or(send.call.rank) == send.call.rank
             && pattern.tag.unwrap_or(message.tag) == message.tag
@@ -170,6 +174,7 @@ impl Rules {
             Some(Kind::Send { blocking, .. }) => !blocking || self.is_complete(position, place),
             Some(Kind::Receive { blocking, .. }) => !blocking || self.is_complete(position, place),
             Some(Kind::MatchedProbe { .. }) => self.is_complete(position, place),
+            Some(Kind::Probe { .. }) => position.has_seen(place),
             Some(Kind::MatchedReceive { .. }) => true,
             Some(Kind::Wait { operation }) => self.is_complete(position, operation),
         }
@@ -201,21 +206,44 @@ impl Rules {
     }
 }
 
-/// Which matches can be made.
+/// Which messages can be taken, and which seen.
 impl Rules {
     fn can_match(&self, position: &Position, send: usize, taker: usize) -> bool {
         self.is_open(position, send)
             && self.is_open(position, taker)
             && self.is_meant_for(send, taker)
+            && !self.is_probe(taker)
             && !self.passes_send(position, send, taker)
             && !self.passes_taker(position, send, taker)
     }
 
-    /// Whether the taker could have an earlier message of the same rank that is still there.
-    fn passes_send(&self, position: &Position, send: usize, taker: usize) -> bool {
+    /// Whether a probe that is issued and has seen nothing can see some message.
+    fn can_see_some(&self, position: &Position, probe: usize) -> bool {
+        if !self.is_probe(probe) || !self.is_issued(position, probe) || position.has_seen(probe) {
+            return false;
+        }
+        for send in 0..self.seats.len() {
+            if self.can_see(position, send, probe) {
+                return true;
+            }
+        }
+        false
+    }
+
+    /// Whether such a probe can see the message of this send: it is there, and neither an earlier message nor an earlier taker of
+    /// the probe's rank comes first.
+    fn can_see(&self, position: &Position, send: usize, probe: usize) -> bool {
+        self.is_open(position, send)
+            && self.is_meant_for(send, probe)
+            && !self.passes_send(position, send, probe)
+            && !self.passes_taker(position, send, probe)
+    }
+
+    /// Whether the taker or probe could have an earlier message of the same rank that is still there.
+    fn passes_send(&self, position: &Position, send: usize, finder: usize) -> bool {
         for earlier in 0..send {
             if self.are_of_one_rank(earlier, send)
-                && self.is_meant_for(earlier, taker)
+                && self.is_meant_for(earlier, finder)
                 && position.partner(earlier).is_none()
             {
                 return true;
@@ -224,11 +252,13 @@ impl Rules {
         false
     }
 
-    /// Whether an earlier taker of the same rank could have the message and still has none.
-    fn passes_taker(&self, position: &Position, send: usize, taker: usize) -> bool {
-        for earlier in 0..taker {
-            if self.are_of_one_rank(earlier, taker)
+    /// Whether an earlier taker of the same rank could have the message and still has none. A probe takes none, so it is never in
+    /// the way.
+    fn passes_taker(&self, position: &Position, send: usize, finder: usize) -> bool {
+        for earlier in 0..finder {
+            if self.are_of_one_rank(earlier, finder)
                 && self.is_meant_for(send, earlier)
+                && !self.is_probe(earlier)
                 && position.partner(earlier).is_none()
             {
                 return true;
@@ -245,6 +275,7 @@ impl Rules {
         let mut next = Vec::new(alloc);
         self.push_issues(position, &mut next)?;
         self.push_matches(position, &mut next)?;
+        self.push_sees(position, &mut next)?;
         Ok(next)
     }
 
@@ -312,6 +343,17 @@ impl Rules {
                 let mut matched = *position;
                 matched.join(send, taker);
                 next.push(matched)?;
+            }
+        }
+        Ok(())
+    }
+
+    fn push_sees(&self, position: &Position, next: &mut Vec<Position>) -> Result<(), AllocError> {
+        for probe in 0..self.seats.len() {
+            if self.can_see_some(position, probe) {
+                let mut seen = *position;
+                seen.see(probe);
+                next.push(seen)?;
             }
         }
         Ok(())

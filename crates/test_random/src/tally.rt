@@ -85,10 +85,13 @@ impl Tally {
         if pattern.tag.is_none() {
             self.count(alloc, "any tag")?;
         }
-        if pattern.communicator != 0 {
-            self.count(alloc, "taken in communicator 1")?;
+        if pattern.communicator == 0 {
+            return Ok(());
         }
-        Ok(())
+        if call.kind.is_probe() {
+            return self.count(alloc, "seen in communicator 1");
+        }
+        self.count(alloc, "taken in communicator 1")
     }
 
     /// How often each kind of line was drawn, as `bsend 20, ibsend 13`.
