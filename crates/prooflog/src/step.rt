@@ -21,7 +21,7 @@ pub enum WrittenStep {
 }
 
 /// The word of the step by which a finder finds a send: a probe sees it, a taker is matched with it.
-fn find_word(sees: bool) -> &'static str
+pub fn find_word(sees: bool) -> &'static str
     ensures { result.now ≡ find_word sees }
 {
     if sees {
