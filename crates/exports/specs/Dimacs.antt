@@ -1,7 +1,7 @@
 -- The text of a program's formula in the DIMACS format. Calls are numbered from 1, their places plus 1; ranks from 0.
-use Rattle.std.specs.Prelude.{codes, ℕ, ◌+◌, List, [], ◌∷◌, ◌++◌, length, map}
+use Rattle.std.specs.Prelude.{codes, ℕ, ◌+◌, Bool, true, false, List, [], ◌∷◌, ◌++◌, length, map}
 use Rattle.std.specs.List.{flat_map}
-use Rattle.callorder.specs.Programs.{MpiProgram}
+use Rattle.callorder.specs.Programs.{MpiProgram, is_probe}
 use Rattle.plaintext.specs.Plain.{numeral, line_of}
 use Rattle.clauses.specs.Clauses.{Literal, Conjunction}
 use Rattle.formulas.specs.declared.facts.Event.{Event}
@@ -13,27 +13,34 @@ use Rattle.formulas.specs.declared.facts.Meaning.TheVariants.{OfFact as fact, Cl
 use Rattle.formulas.specs.Families.{event_at}
 use Rattle.formulas.specs.Numbering.{meanings, formula_of}
 use Rattle.prooflog.specs.Refutations.{literal_word}
+use Rattle.prooflog.specs.Steps.{find_word}
 
--- An event's words are `issue C`, or `match C` with the taker.
-abbrev pub event_words : Event → List (List ℕ)
-event_words (issue_of c) = codes "issue" ∷ numeral (c + 1) ∷ []
-event_words (match_of c) = codes "match" ∷ numeral (c + 1) ∷ []
+-- An event's words are `issue C`, `match T` with the taker, or `see P` with the probe.
+abbrev pub event_words : MpiProgram → Event → List (List ℕ)
+event_words p (issue_of c) = codes "issue" ∷ numeral (c + 1) ∷ []
+event_words p (match_of f) = find_word (is_probe p f) ∷ numeral (f + 1) ∷ []
 
--- A fact's words are `issued C`, `buffered C`, `matched S T` with the send and the taker, or `unfinished R` with the rank.
-abbrev pub fact_words : Fact → List (List ℕ)
-fact_words (issued c) = codes "issued" ∷ numeral (c + 1) ∷ []
-fact_words (buffered c) = codes "buffered" ∷ numeral (c + 1) ∷ []
-fact_words (matched s t) = codes "matched" ∷ numeral (s + 1) ∷ numeral (t + 1) ∷ []
-fact_words (unfinished r) = codes "unfinished" ∷ numeral r ∷ []
+-- The word of a send that was found is `seen` where a probe has seen it, and `matched` where it is matched with a taker.
+abbrev pub found_word : Bool → List ℕ
+found_word true = codes "seen"
+found_word false = codes "matched"
+
+-- A fact's words are `issued C`, `buffered C`, `matched S T` with the send and the taker, `unfinished R` with the rank, or `seen S P` with the
+-- send and the probe.
+abbrev pub fact_words : MpiProgram → Fact → List (List ℕ)
+fact_words p (issued c) = codes "issued" ∷ numeral (c + 1) ∷ []
+fact_words p (buffered c) = codes "buffered" ∷ numeral (c + 1) ∷ []
+fact_words p (matched s f) = found_word (is_probe p f) ∷ numeral (s + 1) ∷ numeral (f + 1) ∷ []
+fact_words p (unfinished r) = codes "unfinished" ∷ numeral r ∷ []
 
 -- What a variable stands for: a fact; `bit I of EVENT`, the bit at place I of the event's clock, from 1 for the highest; `EVENT before EVENT`;
 -- or `N equal bits of EVENT and EVENT`, where the two clocks begin with so many equal bits.
 abbrev pub meaning_words : MpiProgram → Meaning → List (List ℕ)
-meaning_words p (fact a) = fact_words a
-meaning_words p (clock_bit e i) = codes "bit" ∷ numeral (i + 1) ∷ codes "of" ∷ event_words (event_at p e)
-meaning_words p (before e f) = event_words (event_at p e) ++ codes "before" ∷ event_words (event_at p f)
+meaning_words p (fact a) = fact_words p a
+meaning_words p (clock_bit e i) = codes "bit" ∷ numeral (i + 1) ∷ codes "of" ∷ event_words p (event_at p e)
+meaning_words p (before e f) = event_words p (event_at p e) ++ codes "before" ∷ event_words p (event_at p f)
 meaning_words p (same_bits e f n) =
-    numeral n ∷ codes "equal" ∷ codes "bits" ∷ codes "of" ∷ (event_words (event_at p e) ++ codes "and" ∷ event_words (event_at p f))
+    numeral n ∷ codes "equal" ∷ codes "bits" ∷ codes "of" ∷ (event_words p (event_at p e) ++ codes "and" ∷ event_words p (event_at p f))
 
 -- A comment line's words are `c`, a variable's number, and what the variable stands for.
 abbrev pub comment_line : MpiProgram → ℕ → Meaning → List ℕ

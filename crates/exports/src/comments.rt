@@ -1,17 +1,19 @@
 //! Comment lines, which tell what the variables stand for.
 
 ghost use Rattle.std.specs.Prelude.{◌≡◌, ◌+◌, ◌++◌, ◌∷◌, [], codes, get_or, OnOk};
-ghost use Rattle.callorder.specs.Programs.{MpiProgram};
+ghost use Rattle.callorder.specs.Programs.{is_probe};
 ghost use Rattle.plaintext.specs.Plain.{numeral, spaced};
 ghost use Rattle.formulas.specs.declared.facts.Event.TheVariants.{Issue as issue_of};
 ghost use Rattle.formulas.specs.Families.{events as events_of};
 ghost use Rattle.formulas.specs.Numbering.{meanings};
-ghost use Rattle.exports.specs.Dimacs.{event_words, fact_words, meaning_words, comment_line, comment_lines};
+ghost use Rattle.exports.specs.Dimacs.{event_words, found_word, fact_words, meaning_words, comment_line, comment_lines};
 
 use crate::events::event_at;
 use crate::words::{put_number, put_word};
+use callorder::Program;
 use encode::Encoded;
 use formulas::{Event, Fact, Meaning};
+use prooflog::find_word;
 use std::alloc::AllocError;
 
 /// Writes the number of the call at a place, which is 1 more.
@@ -22,32 +24,47 @@ fn put_call(out: &mut Vec<u8>, call: usize) -> Result<(), AllocError>
 }
 
 /// Writes the words of the event.
-fn put_event(out: &mut Vec<u8>, event: &Event) -> Result<(), AllocError>
-    ensures { OnOk result (out.new.items ≡ out.old.items ++ spaced (event_words event.now)) }
+fn put_event(out: &mut Vec<u8>, program: &Program, event: &Event) -> Result<(), AllocError>
+    ensures { OnOk result (out.new.items ≡ out.old.items ++ spaced (event_words program.now event.now)) }
 {
     match *event {
         Event::Issue(call) => {
             put_word(out, "issue")?;
             put_call(out, call)
         }
-        Event::Match(taker) => {
-            put_word(out, "match")?;
-            put_call(out, taker)
+        Event::Match(finder) => {
+            put_word(out, find_word(program.is_probe(finder)))?;
+            put_call(out, finder)
         }
     }
 }
 
-fn put_matched(out: &mut Vec<u8>, send: usize, taker: usize) -> Result<(), AllocError>
-    ensures { OnOk result (out.new.items ≡ out.old.items ++ spaced (codes "matched" ∷ numeral (send + 1) ∷ numeral (taker + 1) ∷ [])) }
+/// The word of a pair whose finder has found the send: a probe has seen it, a taker is matched with it.
+fn found_word(sees: bool) -> &'static str
+    ensures { result.now ≡ found_word sees }
 {
-    put_word(out, "matched")?;
+    if sees {
+        return "seen";
+    }
+    "matched"
+}
+
+fn put_found(
+    out: &mut Vec<u8>,
+    program: &Program,
+    send: usize,
+    finder: usize,
+) -> Result<(), AllocError>
+    ensures { OnOk result (out.new.items ≡ out.old.items ++ spaced (found_word (is_probe program.now finder) ∷ numeral (send + 1) ∷ numeral (finder + 1) ∷ [])) }
+{
+    put_word(out, found_word(program.is_probe(finder)))?;
     put_call(out, send)?;
-    put_call(out, taker)
+    put_call(out, finder)
 }
 
 /// Writes the words of the fact.
-fn put_fact(out: &mut Vec<u8>, fact: &Fact) -> Result<(), AllocError>
-    ensures { OnOk result (out.new.items ≡ out.old.items ++ spaced (fact_words fact.now)) }
+fn put_fact(out: &mut Vec<u8>, program: &Program, fact: &Fact) -> Result<(), AllocError>
+    ensures { OnOk result (out.new.items ≡ out.old.items ++ spaced (fact_words program.now fact.now)) }
 {
     match *fact {
         Fact::Issued(call) => {
@@ -58,7 +75,7 @@ fn put_fact(out: &mut Vec<u8>, fact: &Fact) -> Result<(), AllocError>
             put_word(out, "buffered")?;
             put_call(out, send)
         }
-        Fact::Matched(send, taker) => put_matched(out, send, taker),
+        Fact::Matched(send, finder) => put_found(out, program, send, finder),
         Fact::Unfinished(rank) => {
             put_word(out, "unfinished")?;
             put_number(out, rank as u128)
@@ -67,62 +84,75 @@ fn put_fact(out: &mut Vec<u8>, fact: &Fact) -> Result<(), AllocError>
 }
 
 /// Writes what the bit at a place of an event's clock is called.
-fn put_bit(out: &mut Vec<u8>, event: &Event, place: usize) -> Result<(), AllocError>
-    ensures { OnOk result (out.new.items ≡ out.old.items ++ spaced (codes "bit" ∷ numeral (place + 1) ∷ codes "of" ∷ event_words event.now)) }
+fn put_bit(
+    out: &mut Vec<u8>,
+    program: &Program,
+    event: &Event,
+    place: usize,
+) -> Result<(), AllocError>
+    ensures { OnOk result (out.new.items ≡ out.old.items ++ spaced (codes "bit" ∷ numeral (place + 1) ∷ codes "of" ∷ event_words program.now event.now)) }
 {
     put_word(out, "bit")?;
     put_number(out, place as u128 + 1)?;
     put_word(out, "of")?;
-    put_event(out, event)
+    put_event(out, program, event)
 }
 
 /// Writes two events with a word between them.
 fn put_events(
     out: &mut Vec<u8>,
+    program: &Program,
     first: &Event,
     word: &str,
     second: &Event,
 ) -> Result<(), AllocError>
-    ensures { OnOk result (out.new.items ≡ out.old.items ++ spaced (event_words first.now ++ word.now ∷ event_words second.now)) }
+    ensures { OnOk result (out.new.items ≡ out.old.items ++ spaced (event_words program.now first.now ++ word.now ∷ event_words program.now second.now)) }
 {
-    put_event(out, first)?;
+    put_event(out, program, first)?;
     put_word(out, word)?;
-    put_event(out, second)
+    put_event(out, program, second)
 }
 
 /// Writes that the clocks of two events begin with so many equal bits.
 fn put_equal_bits(
     out: &mut Vec<u8>,
+    program: &Program,
     first: &Event,
     second: &Event,
     bits: usize,
 ) -> Result<(), AllocError>
-    ensures { OnOk result (out.new.items ≡ out.old.items ++ spaced (numeral bits ∷ codes "equal" ∷ codes "bits" ∷ codes "of" ∷ (event_words first.now ++ codes "and" ∷ event_words second.now))) }
+    ensures { OnOk result (out.new.items ≡ out.old.items ++ spaced (numeral bits ∷ codes "equal" ∷ codes "bits" ∷ codes "of" ∷ (event_words program.now first.now ++ codes "and" ∷ event_words program.now second.now))) }
 {
     put_number(out, bits as u128)?;
     put_word(out, "equal")?;
     put_word(out, "bits")?;
     put_word(out, "of")?;
-    put_events(out, first, "and", second)?;
+    put_events(out, program, first, "and", second)?;
     Ok(())
 }
 
 /// Writes what a variable of a program with these events stands for.
-fn put_meaning(out: &mut Vec<u8>, events: &[Event], meaning: &Meaning) -> Result<(), AllocError>
-    ensures { OnOk result ((p : MpiProgram) → events.now ≡ events_of p → out.new.items ≡ out.old.items ++ spaced (meaning_words p meaning.now)) }
+fn put_meaning(
+    out: &mut Vec<u8>,
+    program: &Program,
+    events: &[Event],
+    meaning: &Meaning,
+) -> Result<(), AllocError>
+    requires { events.now ≡ events_of program.now }
+    ensures { OnOk result (out.new.items ≡ out.old.items ++ spaced (meaning_words program.now meaning.now)) }
 {
     match *meaning {
-        Meaning::OfFact(fact) => put_fact(out, &fact),
-        Meaning::ClockBit(event, place) => put_bit(out, &event_at(events, event), place),
+        Meaning::OfFact(fact) => put_fact(out, program, &fact),
+        Meaning::ClockBit(event, place) => put_bit(out, program, &event_at(events, event), place),
         Meaning::Before(first, second) => {
             let first = event_at(events, first);
             let second = event_at(events, second);
-            put_events(out, &first, "before", &second)
+            put_events(out, program, &first, "before", &second)
         }
         Meaning::SameBits(first, second, bits) => {
             let first = event_at(events, first);
             let second = event_at(events, second);
-            put_equal_bits(out, &first, &second, bits)
+            put_equal_bits(out, program, &first, &second, bits)
         }
     }
 }
@@ -130,15 +160,17 @@ fn put_meaning(out: &mut Vec<u8>, events: &[Event], meaning: &Meaning) -> Result
 /// Writes the comment line of a variable.
 fn put_comment(
     out: &mut Vec<u8>,
+    program: &Program,
     events: &[Event],
     variable: u32,
     meaning: &Meaning,
 ) -> Result<(), AllocError>
-    ensures { OnOk result ((p : MpiProgram) → events.now ≡ events_of p → out.new.items ≡ out.old.items ++ comment_line p variable meaning.now) }
+    requires { events.now ≡ events_of program.now }
+    ensures { OnOk result (out.new.items ≡ out.old.items ++ comment_line program.now variable meaning.now) }
 {
     out.push(b'c')?;
     put_number(out, variable as u128)?;
-    put_meaning(out, events, meaning)?;
+    put_meaning(out, program, events, meaning)?;
     out.push(b'\n')?;
     Ok(())
 }
@@ -156,7 +188,7 @@ pub fn put_comments(
         let Some(meaning) = encoded.meaning(place + 1) else {
             unreachable!();
         };
-        put_comment(out, events, place + 1, &meaning)?;
+        put_comment(out, encoded.program(), events, place + 1, &meaning)?;
     }
     Ok(())
 }

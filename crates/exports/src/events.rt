@@ -4,12 +4,12 @@ ghost use Rattle.std.specs.Prelude.{◌≡◌, IfOk, get_or, map};
 ghost use Rattle.std.specs.List.{filter};
 ghost use Rattle.candidates.specs.Pairs.{places};
 ghost use Rattle.formulas.specs.declared.facts.Event.TheVariants.{Issue as issue_of, Match as match_of};
-ghost use Rattle.formulas.specs.Families.{events as events_of, is_taker};
+ghost use Rattle.formulas.specs.Families.{events as events_of, is_finder};
 
 use callorder::Program;
 use formulas::Event;
 use std::alloc::{AllocError, Global};
-use tables::is_taker;
+use tables::is_finder;
 
 fn issues(alloc: Global, program: &Program) -> Result<Vec<Event>, AllocError>
     ensures { IfOk result (λ events. events.items ≡ map issue_of (places program.now)) }
@@ -20,15 +20,15 @@ fn issues(alloc: Global, program: &Program) -> Result<Vec<Event>, AllocError>
 }
 
 fn matches(alloc: Global, program: &Program) -> Result<Vec<Event>, AllocError>
-    ensures { IfOk result (λ events. events.items ≡ map match_of (filter (is_taker program.now) (places program.now))) }
+    ensures { IfOk result (λ events. events.items ≡ map match_of (filter (is_finder program.now) (places program.now))) }
 {
     (0..program.calls().len())
-        .filter(|call| is_taker(program, *call))
-        .map(|taker| Event::Match(taker))
+        .filter(|call| is_finder(program, *call))
+        .map(|finder| Event::Match(finder))
         .collect(alloc)
 }
 
-/// The events of the program: the issue of each call, and then the match of each taker.
+/// The events of the program: the issue of each call, and then the match of each taker and the see of each probe.
 pub fn events_of(alloc: Global, program: &Program) -> Result<Vec<Event>, AllocError>
     ensures { IfOk result (λ events. events.items ≡ events_of program.now) }
 {

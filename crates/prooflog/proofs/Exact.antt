@@ -67,12 +67,22 @@ one_list line injective nonempty (a ∷ xs) (b ∷ ys) e =
 written_injective : (a b : Step) → written a ≡ written b → a ≡ b
 written_injective (steps.Issue r b) (steps.Issue r' b') e = cc
 written_injective (steps.Issue r b) (steps.Match s t) e = absurd cc
+written_injective (steps.Issue r b) (steps.See s f) e = absurd cc
 written_injective (steps.Match s t) (steps.Issue r b) e = absurd cc
 written_injective (steps.Match s t) (steps.Match s' t') e =
     let p : s + 1 ≡ s' + 1 = cc in
     let q : t + 1 ≡ t' + 1 = cc in
     let p' : s ≡ s' = omega arith in
     let q' : t ≡ t' = omega arith in
+    cc
+written_injective (steps.Match s t) (steps.See s' f) e = absurd cc
+written_injective (steps.See s f) (steps.Issue r b) e = absurd cc
+written_injective (steps.See s f) (steps.Match s' t) e = absurd cc
+written_injective (steps.See s f) (steps.See s' f') e =
+    let p : s + 1 ≡ s' + 1 = cc in
+    let q : f + 1 ≡ f' + 1 = cc in
+    let p' : s ≡ s' = omega arith in
+    let q' : f ≡ f' = omega arith in
     cc
 
 same_steps : (xs ys : List Step) → map written xs ≡ map written ys → xs ≡ ys

@@ -15,7 +15,7 @@ use Rattle.prooflog.specs.declared.ahead.Part.{Part}
 use Rattle.prooflog.specs.declared.reader.Kind.{Kind}
 use Rattle.prooflog.specs.declared.reader.Kind.TheVariants.{Schedule, Refutation}
 use Rattle.prooflog.specs.declared.step.WrittenStep.{WrittenStep}
-use Rattle.prooflog.specs.declared.step.WrittenStep.TheVariants.{Issue, Match}
+use Rattle.prooflog.specs.declared.step.WrittenStep.TheVariants.{Issue, Match, See}
 use Rattle.prooflog.specs.Refutations.{proof_words, is_line_in_range, item_line, a_proof, the_tree}
 use Rattle.prooflog.specs.Grammar.{heading_line, schedule_line, refutation_line}
 use Rattle.prooflog.specs.Fault.{CanGoOn, IsWhy}
@@ -36,6 +36,7 @@ capped n = min n 2147483648
 abbrev pub capped_step : WrittenStep → WrittenStep
 capped_step (Issue rank buffered) = Issue (capped rank) buffered
 capped_step (Match send taker) = Match (capped send) (capped taker)
+capped_step (See send probe) = See (capped send) (capped probe)
 
 abbrev pub capped_node : Node → Node
 capped_node (Split variable) = Split (capped variable)

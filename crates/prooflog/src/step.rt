@@ -1,9 +1,9 @@
 //! A step's line.
 
-ghost use Rattle.std.specs.Prelude.{◌≡◌, ◌≢◌, ◌↔◌, ◌++◌, Bool, IsTrue, IfNone, IfSome, OnOk};
+ghost use Rattle.std.specs.Prelude.{◌≡◌, ◌≢◌, ◌↔◌, ◌+◌, ◌++◌, Bool, IsTrue, IfNone, IfSome, OnOk};
 ghost use Rattle.std.specs.Option.{option_copied};
 ghost use Rattle.prooflog.specs.declared.step.WrittenStep.{WrittenStep};
-ghost use Rattle.prooflog.specs.Steps.{step_words, step_line, buffered_words, IsStepInRange, written};
+ghost use Rattle.prooflog.specs.Steps.{step_words, step_line, buffered_words, find_word, find_step, IsStepInRange, AreCallsInRange, written};
 ghost use Rattle.prooflog.specs.Reading.{words_of, words_after, capped_step};
 
 use crate::words::cut_word;
@@ -17,6 +17,32 @@ use std::alloc::AllocError;
 pub enum WrittenStep {
     Issue { rank: u32, buffered: bool },
     Match { send: u32, taker: u32 },
+    See { send: u32, probe: u32 },
+}
+
+/// The word of the step by which a finder finds a send: a probe sees it, a taker is matched with it.
+pub fn find_word(sees: bool) -> &'static str
+    ensures { result.now ≡ find_word sees }
+{
+    if sees {
+        return "see";
+    }
+    "match"
+}
+
+fn find_step(sees: bool, send: u32, finder: u32) -> WrittenStep
+    ensures { result ≡ find_step sees send finder }
+{
+    if sees {
+        return WrittenStep::See {
+            send,
+            probe: finder,
+        };
+    }
+    WrittenStep::Match {
+        send,
+        taker: finder,
+    }
 }
 
 /// Whether `buffered` follows, where that or nothing does.
@@ -33,6 +59,20 @@ fn buffered_of(others: Option<&[u8]>) -> Option<bool>
     None
 }
 
+/// Whether the word is that of a probe's step, where it is a finder's.
+fn sees_of(word: &[u8]) -> Option<bool>
+    ensures none { IfNone result ((sees : Bool) → find_word sees ≢ word.now) }
+    ensures some { IfSome result (λ sees. find_word sees ≡ word.now) }
+{
+    if is_word(word, find_word(true)) {
+        return Some(true);
+    }
+    if is_word(word, find_word(false)) {
+        return Some(false);
+    }
+    None
+}
+
 /// The step of a line; a number above the largest is told as `plaintext::MOST`.
 pub fn step_of(line: &[u8]) -> Option<WrittenStep>
     ensures none { IfNone result ((s : WrittenStep) → step_words s ≢ words_of line.now) }
@@ -45,12 +85,21 @@ pub fn step_of(line: &[u8]) -> Option<WrittenStep>
         let buffered = buffered_of(others)?;
         return Some(WrittenStep::Issue { rank, buffered });
     }
-    if is_word(kind, "match") {
-        let send = number_of(first)?;
-        let taker = number_of(others?)?;
-        return Some(WrittenStep::Match { send, taker });
+    let sees = sees_of(kind)?;
+    let send = number_of(first)?;
+    let finder = number_of(others?)?;
+    Some(find_step(sees, send, finder))
+}
+
+/// The places of two calls, where their numbers are in range.
+fn places_of(send: u32, finder: u32) -> Option<(usize, usize)>
+    ensures none { IfNone result (¬ AreCallsInRange send finder) }
+    ensures some { IfSome result (λ places. AreCallsInRange send finder × (places.0 + 1 ≡ send) × (places.1 + 1 ≡ finder)) }
+{
+    if send < 1 || send > LARGEST_NUMBER || finder < 1 || finder > LARGEST_NUMBER {
+        return None;
     }
-    None
+    Some((send as usize - 1, finder as usize - 1))
 }
 
 /// The machine's step, where the numbers are in range.
@@ -66,13 +115,12 @@ pub fn step_in_range(step: WrittenStep) -> Option<Step>
             Some(Step::Issue { rank, buffered })
         }
         WrittenStep::Match { send, taker } => {
-            if send < 1 || send > LARGEST_NUMBER || taker < 1 || taker > LARGEST_NUMBER {
-                return None;
-            }
-            Some(Step::Match {
-                send: send as usize - 1,
-                taker: taker as usize - 1,
-            })
+            let (send, taker) = places_of(send, taker)?;
+            Some(Step::Match { send, taker })
+        }
+        WrittenStep::See { send, probe } => {
+            let (send, probe) = places_of(send, probe)?;
+            Some(Step::See { send, probe })
         }
     }
 }
@@ -85,6 +133,9 @@ pub fn is_in_range(step: Step) -> bool
         Step::Issue { rank, .. } => rank <= LARGEST_NUMBER,
         Step::Match { send, taker } => {
             send < LARGEST_NUMBER as usize && taker < LARGEST_NUMBER as usize
+        }
+        Step::See { send, probe } => {
+            send < LARGEST_NUMBER as usize && probe < LARGEST_NUMBER as usize
         }
     }
 }
@@ -99,6 +150,10 @@ pub fn written(step: Step) -> WrittenStep
         Step::Match { send, taker } => WrittenStep::Match {
             send: send as u32 + 1,
             taker: taker as u32 + 1,
+        },
+        Step::See { send, probe } => WrittenStep::See {
+            send: send as u32 + 1,
+            probe: probe as u32 + 1,
         },
     }
 }
@@ -115,15 +170,16 @@ fn put_issue(out: &mut Vec<u8>, rank: u32, buffered: bool) -> Result<(), AllocEr
     Ok(())
 }
 
-/// Writes the line of a match at the end, by the numbers of its calls, from 1. The only error is want of memory; a beginning
-/// of the line may stand there then.
-pub fn put_match(out: &mut Vec<u8>, send: u32, taker: u32) -> Result<(), AllocError>
-    ensures { OnOk result (out.new.items ≡ out.old.items ++ step_line (WrittenStep.Match send taker)) }
+/// Writes the line of the step by which a finder finds a send at the end, by the numbers of the calls, from 1: a probe sees
+/// the send, a taker is matched with it. The only error is want of memory; a beginning of the line may stand there then.
+pub fn put_find(out: &mut Vec<u8>, sees: bool, send: u32, finder: u32) -> Result<(), AllocError>
+    ensures { OnOk result (out.new.items ≡ out.old.items ++ step_line (find_step sees send finder)) }
 {
-    out.extend_from_slice(b"match ")?;
+    out.extend_from_slice(find_word(sees).as_bytes())?;
+    out.push(b' ')?;
     put_number(out, send)?;
     out.push(b' ')?;
-    put_number(out, taker)?;
+    put_number(out, finder)?;
     out.push(b'\n')?;
     Ok(())
 }
@@ -134,6 +190,7 @@ pub fn put_step(out: &mut Vec<u8>, step: WrittenStep) -> Result<(), AllocError>
 {
     match step {
         WrittenStep::Issue { rank, buffered } => put_issue(out, rank, buffered),
-        WrittenStep::Match { send, taker } => put_match(out, send, taker),
+        WrittenStep::Match { send, taker } => put_find(out, false, send, taker),
+        WrittenStep::See { send, probe } => put_find(out, true, send, probe),
     }
 }

@@ -6,10 +6,10 @@ use Rattle.calltext.specs.declared.verb.Verb.TheVariants as verb
 use Rattle.calltext.specs.Verbs.{verb_word}
 use Rattle.callorder.specs.declared.calls.Call.{Call}
 use Rattle.callorder.specs.declared.calls.Kind.{Kind}
-use Rattle.callorder.specs.declared.calls.Kind.TheVariants.{Send, Receive, MatchedProbe, MatchedReceive, Wait}
+use Rattle.callorder.specs.declared.calls.Kind.TheVariants.{Send, Receive, MatchedProbe, Probe, MatchedReceive, Wait}
 use Rattle.callorder.specs.Programs.{MpiProgram, call_at}
 use Rattle.semantics.specs.declared.state.Step.{Step}
-use Rattle.semantics.specs.declared.state.Step.TheVariants.{Issue, Match}
+use Rattle.semantics.specs.declared.state.Step.TheVariants.{Issue, Match, See}
 use Rattle.semantics.specs.Machine.{Configuration, opening, after}
 use Rattle.prooflog.specs.Steps.{step_line, written}
 
@@ -18,6 +18,7 @@ abbrev pub verb_of : Kind → Verb
 verb_of (Send mode blocking message) = verb.Send mode (not blocking)
 verb_of (Receive blocking pattern) = verb.Receive (not blocking)
 verb_of (MatchedProbe pattern receive) = verb.MatchedProbe
+verb_of (Probe pattern) = verb.Probe
 verb_of (MatchedReceive blocking) = verb.MatchedReceive (not blocking)
 verb_of (Wait operation) = verb.Wait
 
@@ -36,10 +37,11 @@ abbrev pub issue_line : MpiProgram → ℕ → ℕ → Bool → List ℕ
 issue_line p c rank buffered =
     codes "issue " ++ (numeral rank ++ (how_issued buffered ++ (numeral (c + 1) ++ (codes " " ++ (word_of (call_at p c) ++ codes "\n")))))
 
--- the line that tells a step in a configuration: that of an issue, or `match S T`
+-- the line that tells a step in a configuration: that of an issue, `match S T`, or `see S P`
 abbrev pub told_line : MpiProgram → Configuration → Step → List ℕ
 told_line p m (Issue rank buffered) = issue_line p (slice_index m.next rank) rank buffered
 told_line p m (Match s t) = step_line (written (Match s t))
+told_line p m (See s f) = step_line (written (See s f))
 
 -- the lines that tell steps from a configuration on
 abbrev pub told_steps : MpiProgram → Configuration → List Step → List ℕ

@@ -9,24 +9,27 @@ pub struct Manner {
     pub buffers: bool,
     /// Whether matches come before issues.
     pub matches_first: bool,
-    /// Whether the last match is taken, by send, then by taker, and not the first.
+    /// Whether the last match or see is taken, by send, then by finder, and not the first.
     pub last_match: bool,
+    /// Whether a probe sees a message only where nothing else is enabled, and not before all else.
+    pub sees_last: bool,
     /// Whether the highest rank issues first, and not the lowest.
     pub highest_rank: bool,
     /// A rank that issues only where nothing else is enabled.
     pub held_back: Option<u32>,
 }
 
-/// Issues where it can, of the lowest rank first, and else matches; buffers only what it must.
+/// Sees where it can, then issues where it can, of the lowest rank first, and else matches; buffers only what it must.
 const PLAIN: Manner = Manner {
     buffers: false,
     matches_first: false,
     last_match: false,
+    sees_last: false,
     highest_rank: false,
     held_back: None,
 };
 
-/// Matches where it can, and else issues; buffers what it may.
+/// Sees and matches where it can, and else issues; buffers what it may.
 const EAGER: Manner = Manner {
     buffers: true,
     matches_first: true,
@@ -43,6 +46,7 @@ const FIRST: [Manner; 5] = [
     },
     Manner {
         last_match: true,
+        sees_last: true,
         ..EAGER
     },
     Manner {

@@ -9,7 +9,7 @@ use callorder::{Kind, Program};
 use calltext::Verb;
 use checker::{NoRun, Reason, stuck_run_of};
 use plaintext::put_number;
-use prooflog::put_match;
+use prooflog::put_find;
 use semantics::{State, Step};
 use std::alloc::{AllocError, Global};
 
@@ -35,6 +35,7 @@ fn verb_of(kind: &Kind) -> Verb
         },
         Kind::Receive { blocking, .. } => Verb::Receive { started: !blocking },
         Kind::MatchedProbe { .. } => Verb::MatchedProbe,
+        Kind::Probe { .. } => Verb::Probe,
         Kind::MatchedReceive { blocking } => Verb::MatchedReceive { started: !blocking },
         Kind::Wait { .. } => Verb::Wait,
     }
@@ -93,7 +94,8 @@ fn put_told(
             };
             put_issue(out, program, place, rank, buffered)
         }
-        Step::Match { send, taker } => put_match(out, send as u32 + 1, taker as u32 + 1),
+        Step::Match { send, taker } => put_find(out, false, send as u32 + 1, taker as u32 + 1),
+        Step::See { send, probe } => put_find(out, true, send as u32 + 1, probe as u32 + 1),
     }
 }
 

@@ -2,12 +2,12 @@
 
 ghost use Rattle.std.specs.Prelude.{◌≡◌, ℕ, Contains, IfSome, IfNone, IfOk, IsPermutation, filter, length};
 ghost use Rattle.std.specs.List.{range_with_len};
-ghost use Rattle.semantics.specs.Machine.{IsConfigurationOf, IsEnabled, CanMatch};
-ghost use Rattle.semantics.specs.StuckParts.{NoMatch};
-ghost use Rattle.prover.specs.Walks.{IsWalk, NothingEnabled, NoIssueOf, is_open_send, is_open_taker, is_other};
+ghost use Rattle.semantics.specs.Machine.{IsConfigurationOf, IsEnabled};
+ghost use Rattle.histories.specs.Places.{find_step};
+ghost use Rattle.prover.specs.Walks.{IsWalk, NothingButSees, NothingEnabled, NoFindBy, NoIssueOf, finds, is_open_finder, is_open_send, is_other};
 
 use crate::manner::Manner;
-use callorder::Program;
+use callorder::{Kind, Program};
 use semantics::{State, Step};
 use std::alloc::{AllocError, Global};
 
@@ -84,12 +84,22 @@ fn is_open_send(program: &Program, state: &State, call: usize) -> bool
     }
 }
 
-fn is_open_taker(program: &Program, state: &State, call: usize) -> bool
-    ensures { result ≡ is_open_taker program.now state.now call }
+/// Whether calls of this kind are finders: probes, which see messages, or takers.
+fn finds(sees: bool, kind: &Kind) -> bool
+    ensures { result ≡ finds sees kind.now }
+{
+    if sees {
+        return kind.is_probe();
+    }
+    kind.pattern().is_some() && !kind.is_probe()
+}
+
+fn is_open_finder(program: &Program, state: &State, sees: bool, call: usize) -> bool
+    ensures { result ≡ is_open_finder program.now state.now sees call }
 {
     match program.call(call) {
         None => false,
-        Some(known) => known.kind.pattern().is_some() && state.is_open(program, call),
+        Some(known) => finds(sees, &known.kind) && state.is_open(program, call),
     }
 }
 
@@ -102,24 +112,48 @@ fn open_sends(alloc: Global, program: &Program, state: &State) -> Result<Vec<usi
         .collect(alloc)
 }
 
-/// The issued receives and matched probes that are not matched.
-fn open_takers(alloc: Global, program: &Program, state: &State) -> Result<Vec<usize>, AllocError>
-    ensures { IfOk result (λ takers. takers.items ≡ filter (is_open_taker program.now state.now) (range_with_len 0 (length program.now.calls))) }
+/// The issued probes that have seen nothing, or the issued receives and matched probes that are not matched.
+fn open_finders(
+    alloc: Global,
+    program: &Program,
+    state: &State,
+    sees: bool,
+) -> Result<Vec<usize>, AllocError>
+    ensures { IfOk result (λ finders. finders.items ≡ filter (is_open_finder program.now state.now sees) (range_with_len 0 (length program.now.calls))) }
 {
     (0..program.calls().len())
-        .filter(|call| is_open_taker(program, state, *call))
+        .filter(|call| is_open_finder(program, state, sees, *call))
         .collect(alloc)
 }
 
-fn next_match_of(program: &Program, state: &State, send: usize, takers: &[usize]) -> Option<Step>
-    ensures some { IfSome result (IsEnabled program.now state.now) }
-    ensures none { IfNone result ((taker : ℕ) → Contains takers.now taker → CanMatch program.now state.now send taker → ⊥) }
+/// The step by which a finder finds a send: a probe sees it, a taker is matched with it.
+fn find_step(sees: bool, send: usize, finder: usize) -> Step
+    ensures { result ≡ find_step sees send finder }
 {
-    for taker in takers {
-        let step = Step::Match {
+    if sees {
+        return Step::See {
             send,
-            taker: *taker,
+            probe: finder,
         };
+    }
+    Step::Match {
+        send,
+        taker: finder,
+    }
+}
+
+fn next_find_of(
+    program: &Program,
+    state: &State,
+    sees: bool,
+    send: usize,
+    finders: &[usize],
+) -> Option<Step>
+    ensures some { IfSome result (IsEnabled program.now state.now) }
+    ensures none { IfNone result ((finder : ℕ) → Contains finders.now finder → IsEnabled program.now state.now (find_step sees send finder) → ⊥) }
+{
+    for finder in finders {
+        let step = find_step(sees, send, *finder);
         if state.enabled(program, step) {
             return Some(step);
         }
@@ -127,13 +161,19 @@ fn next_match_of(program: &Program, state: &State, send: usize, takers: &[usize]
     None
 }
 
-/// The first enabled match of these sends and takers.
-fn match_of(program: &Program, state: &State, sends: &[usize], takers: &[usize]) -> Option<Step>
+/// The first enabled step by which one of these finders finds one of these sends.
+fn find_of(
+    program: &Program,
+    state: &State,
+    sees: bool,
+    sends: &[usize],
+    finders: &[usize],
+) -> Option<Step>
     ensures some { IfSome result (IsEnabled program.now state.now) }
-    ensures none { IfNone result ((send taker : ℕ) → Contains sends.now send → Contains takers.now taker → CanMatch program.now state.now send taker → ⊥) }
+    ensures none { IfNone result ((send finder : ℕ) → Contains sends.now send → Contains finders.now finder → IsEnabled program.now state.now (find_step sees send finder) → ⊥) }
 {
     for send in sends {
-        let step = next_match_of(program, state, *send, takers);
+        let step = next_find_of(program, state, sees, *send, finders);
         if step.is_some() {
             return step;
         }
@@ -141,20 +181,57 @@ fn match_of(program: &Program, state: &State, sends: &[usize], takers: &[usize])
     None
 }
 
-/// An enabled match, where there is one: by send, then by taker, the first or the last. It looks only at
-/// calls that are issued and not matched.
-fn next_match(
+/// An enabled step by which a probe sees a message, or by which a taker is matched, where there is one: by send, then by
+/// finder, the first or the last. It looks only at sends that are not matched and finders that have found nothing.
+fn next_find(
     alloc: Global,
     program: &Program,
     state: &State,
+    sees: bool,
     last_first: bool,
 ) -> Result<Option<Step>, AllocError>
     ensures some { IfOk result (λ found. IfSome found (IsEnabled program.now state.now)) }
-    ensures none { IfOk result (λ found. IfNone found (NoMatch program.now state.now)) }
+    ensures none { IfOk result (λ found. IfNone found (NoFindBy program.now state.now sees)) }
 {
+    let finders = in_turn(open_finders(alloc, program, state, sees)?, last_first);
+    if finders.is_empty() {
+        return Ok(None);
+    }
     let sends = in_turn(open_sends(alloc, program, state)?, last_first);
-    let takers = in_turn(open_takers(alloc, program, state)?, last_first);
-    Ok(match_of(program, state, &sends, &takers))
+    Ok(find_of(program, state, sees, &sends, &finders))
+}
+
+/// An enabled issue or match, where there is one; `ranks` are all but the one that is held back, in turn.
+fn next_issue_or_match(
+    alloc: Global,
+    program: &Program,
+    state: &State,
+    ranks: &[u32],
+    manner: Manner,
+) -> Result<Option<Step>, AllocError>
+    requires of { IsConfigurationOf program.now state.now }
+    requires others { IsPermutation (filter (is_other manner.held_back) (range_with_len 0 program.now.ranks)) ranks.now }
+    ensures some { IfOk result (λ found. IfSome found (IsEnabled program.now state.now)) }
+    ensures none { IfOk result (λ found. IfNone found (NothingButSees program.now state.now)) }
+{
+    if !manner.matches_first {
+        let issue = next_issue(program, state, ranks, manner.buffers);
+        if issue.is_some() {
+            return Ok(issue);
+        }
+    }
+    let matching = next_find(alloc, program, state, false, manner.last_match)?;
+    if matching.is_some() {
+        return Ok(matching);
+    }
+    let issue = next_issue(program, state, ranks, manner.buffers);
+    if issue.is_some() {
+        return Ok(issue);
+    }
+    match manner.held_back {
+        None => Ok(None),
+        Some(rank) => Ok(issue_of(program, state, rank, manner.buffers)),
+    }
 }
 
 /// An enabled step, where there is one; `ranks` are all but the one that is held back, in turn.
@@ -170,24 +247,18 @@ fn next_step(
     ensures some { IfOk result (λ found. IfSome found (IsEnabled program.now state.now)) }
     ensures none { IfOk result (λ found. IfNone found (NothingEnabled program.now state.now)) }
 {
-    if !manner.matches_first {
-        let issue = next_issue(program, state, ranks, manner.buffers);
-        if issue.is_some() {
-            return Ok(issue);
+    if !manner.sees_last {
+        let seeing = next_find(alloc, program, state, true, manner.last_match)?;
+        if seeing.is_some() {
+            return Ok(seeing);
         }
     }
-    let matching = next_match(alloc, program, state, manner.last_match)?;
-    if matching.is_some() {
-        return Ok(matching);
+    let step = next_issue_or_match(alloc, program, state, ranks, manner)?;
+    if step.is_some() {
+        return Ok(step);
     }
-    let issue = next_issue(program, state, ranks, manner.buffers);
-    if issue.is_some() {
-        return Ok(issue);
-    }
-    match manner.held_back {
-        None => Ok(None),
-        Some(rank) => Ok(issue_of(program, state, rank, manner.buffers)),
-    }
+    let seeing = next_find(alloc, program, state, true, manner.last_match)?;
+    Ok(seeing)
 }
 
 /// A run from the opening state, which goes on until no step is enabled: so it ends stuck or finished. No run has more

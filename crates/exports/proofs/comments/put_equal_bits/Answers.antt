@@ -12,4 +12,4 @@ returns c =
     let one = more_words old _ _ (bits ∷ []) (codes "equal" ∷ []) c.in_ok-put_number.ensures c.in_ok-put_word.ensures in
     let two = more_words old _ _ (bits ∷ codes "equal" ∷ []) (codes "bits" ∷ []) one c.in_ok-put_word-2.ensures in
     let three = more_words old _ _ (bits ∷ codes "equal" ∷ codes "bits" ∷ []) (codes "of" ∷ []) two c.in_ok-put_word-3.ensures in
-    more_words old _ _ (bits ∷ codes "equal" ∷ codes "bits" ∷ codes "of" ∷ []) (event_words c.args.first.now ++ codes "and" ∷ event_words c.args.second.now) three c.in_ok-put_events.ensures
+    more_words old _ _ (bits ∷ codes "equal" ∷ codes "bits" ∷ codes "of" ∷ []) (event_words c.args.program.now c.args.first.now ++ codes "and" ∷ event_words c.args.program.now c.args.second.now) three c.in_ok-put_events.ensures
