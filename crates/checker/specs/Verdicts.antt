@@ -70,7 +70,7 @@ IsARefutation program evidence = OfRefutation program evidence (λ p claim. Unit
 -- ---- refutations of a program
 
 -- The formula of the program is within the limits: at most 8,192 fitting pairs, 1,024 events and 4,000,000 clauses. An event is the
--- issue of a call or the match of a taker.
+-- issue of a call, the match of a taker or the see of a probe.
 pub record HasFormula (p : MpiProgram) : Type 0 where
   pub few_pairs : length (pairs_of p) ≤ 8192
   pub few_events : length (events p) ≤ 1024
