@@ -108,6 +108,9 @@ comm_capped : (n : Option ℕ) → IsCommunicator (capped_option n) → capped_o
 comm_capped None fits = refl
 comm_capped (Some n) fits = ap (λ (x : ℕ). Some x) (capped_small n 255 (omega arith) fits.1)
 
+pattern_capped : (s t k : Option ℕ) → UpTo 63 (capped_option s) × UpTo 32767 (capped_option t) × IsCommunicator (capped_option k) → (capped_option s ≡ s) × (capped_option t ≡ t) × (capped_option k ≡ k)
+pattern_capped s t k fits = (upto_capped 63 s (omega arith) fits.0, upto_capped 32767 t (omega arith) fits.1, comm_capped k fits.2)
+
 pub capped_same : (c : CallLine) → IsInRange (capped_call c) → capped_call c ≡ c
 capped_same (Send m r d t k) fits =
     let a = capped_small d 63 (omega arith) fits.0 in
@@ -115,20 +118,14 @@ capped_same (Send m r d t k) fits =
     let e = comm_capped k fits.2 in
     rw (a, b, e) refl
 capped_same (Receive r s t k) fits =
-    let a = upto_capped 63 s (omega arith) fits.0 in
-    let b = upto_capped 32767 t (omega arith) fits.1 in
-    let e = comm_capped k fits.2 in
-    rw (a, b, e) refl
+    let same = pattern_capped s t k fits in
+    rw (same.0, same.1, same.2) refl
 capped_same (MatchedProbe h s t k) fits =
-    let a = upto_capped 63 s (omega arith) fits.0 in
-    let b = upto_capped 32767 t (omega arith) fits.1 in
-    let e = comm_capped k fits.2 in
-    rw (a, b, e) refl
+    let same = pattern_capped s t k fits in
+    rw (same.0, same.1, same.2) refl
 capped_same (Probe s t k) fits =
-    let a = upto_capped 63 s (omega arith) fits.0 in
-    let b = upto_capped 32767 t (omega arith) fits.1 in
-    let e = comm_capped k fits.2 in
-    rw (a, b, e) refl
+    let same = pattern_capped s t k fits in
+    rw (same.0, same.1, same.2) refl
 capped_same (MatchedReceive r h) fits = refl
 capped_same (Wait r) fits = refl
 capped_same (WaitAll rs) fits = refl

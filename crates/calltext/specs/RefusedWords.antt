@@ -1,7 +1,7 @@
 -- The words that are refused by name: the first words of calls of MPI that a program's text can't hold.
 use Rattle.std.specs.Prelude.{codes, ℕ, List, [], ◌∷◌, ◌++◌, map, get_or, position, bytes_eq, unwrap_or}
 
--- Probes that don't wait, and calls that test, wait for some of several, cancel, or free a request.
+-- Nonblocking probes, and calls that test, wait for some of several, cancel, or free a request.
 abbrev completions : List (List ℕ)
 completions = codes "iprobe" ∷ codes "improbe" ∷ codes "test" ∷ codes "testall" ∷ codes "testany" ∷ codes "testsome" ∷ codes "waitany" ∷ codes "waitsome" ∷ codes "cancel" ∷ codes "request_free" ∷ []
 
