@@ -8,7 +8,7 @@ use Rattle.std.proofs.lemmas.List.Concat.{flat_map-append}
 use Rattle.std.proofs.lemmas.Option.{slice_get_within, get_or_from_slice_get, slice_get-map, same_Some, none-some}
 use Rattle.plaintext.specs.Plain.{line_of}
 use Rattle.calltext.specs.declared.call.CallLine.{CallLine}
-use Rattle.calltext.specs.declared.call.CallLine.TheVariants.{Send, Receive, MatchedProbe, MatchedReceive, Wait, WaitAll, SendReceive}
+use Rattle.calltext.specs.declared.call.CallLine.TheVariants.{Send, Receive, MatchedProbe, Probe, MatchedReceive, Wait, WaitAll, SendReceive}
 use Rattle.calltext.specs.Grammar.{ProgramText, IsReadable, call_words, rank_words, ranks_words, policy_words, rank_lines, program_lines}
 use Rattle.callorder.specs.Expansion.{NamedPart, parts_of, parts_of_lines, parts_of_ranks, wait_for}
 use Rattle.explain.specs.Lines.{heading_of, line_of_part, LinesAreNumbered}
@@ -23,6 +23,7 @@ line_numbered : (heading rank place : ℕ) (line : CallLine) → map (λ x. head
 line_numbered heading rank place (Send mode request destination tag communicator) = refl
 line_numbered heading rank place (Receive request source tag communicator) = refl
 line_numbered heading rank place (MatchedProbe handle source tag communicator) = refl
+line_numbered heading rank place (Probe source tag communicator) = refl
 line_numbered heading rank place (MatchedReceive request handle) = refl
 line_numbered heading rank place (Wait request) = refl
 line_numbered heading rank place (WaitAll requests) = waits_numbered heading rank place requests
@@ -81,6 +82,7 @@ line_ranked : (text : ProgramText) (rank place : ℕ) (line : CallLine) → map 
 line_ranked text rank place (Send mode request destination tag communicator) = refl
 line_ranked text rank place (Receive request source tag communicator) = refl
 line_ranked text rank place (MatchedProbe handle source tag communicator) = refl
+line_ranked text rank place (Probe source tag communicator) = refl
 line_ranked text rank place (MatchedReceive request handle) = refl
 line_ranked text rank place (Wait request) = refl
 line_ranked text rank place (WaitAll requests) = waits_ranked text rank place requests

@@ -17,6 +17,7 @@ fn calls_of(line: &CallLine) -> usize
         CallLine::Send { .. }
         | CallLine::Receive { .. }
         | CallLine::MatchedProbe { .. }
+        | CallLine::Probe { .. }
         | CallLine::MatchedReceive { .. }
         | CallLine::Wait { .. } => 1,
     }
