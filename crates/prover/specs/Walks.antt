@@ -37,7 +37,7 @@ is_open_send_call p m c (Some call) = is_some (message_of call.kind) && is_open 
 abbrev pub is_open_send : MpiProgram → Configuration → ℕ → Bool
 is_open_send p m c = is_open_send_call p m c (call_at p c)
 
--- a call of this kind is a finder: a probe, which sees a message, or a taker, which takes one out
+-- calls of this kind are probes, which see messages, or takers, which take them out
 abbrev pub finds : Bool → Kind → Bool
 finds true kind = is_probe_kind kind
 finds false kind = is_some (pattern_of kind) && not (is_probe_kind kind)

@@ -84,7 +84,7 @@ fn is_open_send(program: &Program, state: &State, call: usize) -> bool
     }
 }
 
-/// Whether calls of this kind are finders: probes, which see messages, or takers.
+/// Whether calls of this kind are probes, which see messages, or takers, which take them out.
 fn finds(sees: bool, kind: &Kind) -> bool
     ensures { result ≡ finds sees kind.now }
 {
