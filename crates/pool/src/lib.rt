@@ -29,4 +29,4 @@ pub use laws::{
     runs_stay_sound,
 };
 pub use share::Share;
-pub use why::Why;
+pub use why::{Why, smaller};

@@ -65,7 +65,8 @@ pub(crate) fn smallest(reasons: &[Why]) -> Option<Why>
     smallest
 }
 
-fn smaller(one: Why, other: Why) -> Why
+/// Of two reasons the one that is told before the other.
+pub fn smaller(one: Why, other: Why) -> Why
     ensures { result ≡ smaller_of one other }
 {
     if one.number() <= other.number() {

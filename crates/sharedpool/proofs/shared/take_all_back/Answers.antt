@@ -1,9 +1,9 @@
-use Rattle.std.proofs.Common.{◌≡◌, ◌<◌, ◌∷◌, ℕ, ap, sym, ◌∙◌, subst}
+use Rattle.std.proofs.Common.{◌≡◌, ◌<◌, ◌∷◌, ap, sym, ◌∙◌, subst}
 use Rattle.std.proofs.lemmas.List.Elements.{All-push}
 use Rattle.crossbeam_utils.specs.Seq.{cell_view}
 use Rattle.sharedpool.specs.declared.room.View.{View}
-use Rattle.sharedpool.specs.Views.{taker, items_of, AllBelow, IsNoneOf, AreDifferent}
-use Rattle.sharedpool.specs.Seats.{Chair, workers_of}
+use Rattle.sharedpool.specs.Views.{taker, items_of, AllBelow, IsNoneOf}
+use Rattle.sharedpool.specs.Seats.{Chair}
 use Rattle.sharedpool.proofs.Different.{seats_push, seats_none}
 use Rattle.sharedpool.proofs.shared.take_all_back.Goals as goal
 

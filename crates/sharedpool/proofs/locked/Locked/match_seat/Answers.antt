@@ -1,4 +1,4 @@
-use Rattle.std.proofs.Common.{sym, ap, ◌∙◌, rules}
+use Rattle.std.proofs.Common.{sym, ap, ◌∙◌}
 use Rattle.sharedpool.specs.declared.room.View.{View}
 use Rattle.sharedpool.proofs.Legal.{locked_same, seat_same}
 use Rattle.sharedpool.proofs.locked.Locked.match_seat.Goals as goal
