@@ -1,5 +1,24 @@
 //! How the help of each command ends: an example, and the exit statuses.
 
+/// How the help of a command ends that has this example and, before those that all commands have, these exit statuses.
+macro_rules! ending {
+    ($example:literal, $statuses:literal) => {
+        concat!(
+            "Example:\n  mpiprove ",
+            $example,
+            "\n\nExit status:",
+            $statuses,
+            "
+  4  memory ran out
+  5  a file or standard output failed
+  6  the words can't be read
+
+File names are paths, and - is one of them, not standard input.
+The file FORMATS.md in the folder docs tells the texts and the answers."
+        )
+    };
+}
+
 /// Of the program.
 pub const HELP_END: &str = "Example:
   mpiprove prove program.mpi --out program.evidence
@@ -8,90 +27,54 @@ pub const HELP_END: &str = "Example:
 Each command tells its options and exit statuses: mpiprove COMMAND --help";
 
 /// Of `prove`.
-pub const PROVE_END: &str = "Example:
-  mpiprove prove program.mpi --out program.evidence
-
-Exit status:
+pub const PROVE_END: &str = ending!(
+    "prove program.mpi --out program.evidence",
+    "
   0  no deadlock: no run of the program gets stuck
   1  deadlock: some run of it does
   2  unknown: no answer was found, with the reason
-  3  refused: the program, with the reason
-  4  memory ran out
-  5  a file or standard output failed
-  6  the words can't be read
-
-File names are paths, and - is one of them, not standard input.
-The file FORMATS.md in the folder docs tells the texts and the answers.";
+  3  refused: the program, with the reason"
+);
 
 /// Of `check`.
-pub const CHECK_END: &str = "Example:
-  mpiprove check program.mpi program.evidence
-
-Exit status:
+pub const CHECK_END: &str = ending!(
+    "check program.mpi program.evidence",
+    "
   0  no deadlock: the evidence shows that no run of the program gets stuck
   1  deadlock: the evidence shows a run that does
-  3  refused: the program or the evidence, with the reason
-  4  memory ran out
-  5  a file or standard output failed
-  6  the words can't be read
-
-File names are paths, and - is one of them, not standard input.
-The file FORMATS.md in the folder docs tells the texts and the answers.";
+  3  refused: the program or the evidence, with the reason"
+);
 
 /// Of `replay`.
-pub const REPLAY_END: &str = "Example:
-  mpiprove replay program.mpi program.evidence
-
-Exit status:
+pub const REPLAY_END: &str = ending!(
+    "replay program.mpi program.evidence",
+    "
   1  deadlock: the steps are printed, and the last line is stuck
-  3  refused: the program or the evidence, with the reason
-  4  memory ran out
-  5  a file or standard output failed
-  6  the words can't be read
-
-File names are paths, and - is one of them, not standard input.
-The file FORMATS.md in the folder docs tells the texts and the answers.";
+  3  refused: the program or the evidence, with the reason"
+);
 
 /// Of `encode`.
-pub const ENCODE_END: &str = "Example:
-  mpiprove encode program.mpi --dimacs > program.cnf
-
-Exit status:
+pub const ENCODE_END: &str = ending!(
+    "encode program.mpi --dimacs > program.cnf",
+    "
   0  the formula is printed
-  3  refused: the program, with the reason
-  4  memory ran out
-  5  a file or standard output failed
-  6  the words can't be read
-
-File names are paths, and - is one of them, not standard input.
-The file FORMATS.md in the folder docs tells the texts and the answers.";
+  3  refused: the program, with the reason"
+);
 
 /// Of `explain`.
-pub const EXPLAIN_END: &str = "Example:
-  mpiprove explain program.mpi program.evidence
-
-Exit status:
+pub const EXPLAIN_END: &str = ending!(
+    "explain program.mpi program.evidence",
+    "
   0  no deadlock: the size of the refutation is printed
   1  deadlock: what each rank waits for is printed
-  3  refused: the program or the evidence, with the reason
-  4  memory ran out
-  5  a file or standard output failed
-  6  the words can't be read
-
-File names are paths, and - is one of them, not standard input.
-The file FORMATS.md in the folder docs tells the texts and the answers.";
+  3  refused: the program or the evidence, with the reason"
+);
 
 /// Of `export`.
-pub const EXPORT_END: &str = "Example:
-  mpiprove export program.mpi program.evidence --out program.lrat
-
-Exit status:
+pub const EXPORT_END: &str = ending!(
+    "export program.mpi program.evidence --out program.lrat",
+    "
   0  no deadlock: the proof is written
   1  deadlock: there is no proof, and no file is written
-  3  refused: the program or the evidence, with the reason
-  4  memory ran out
-  5  a file or standard output failed
-  6  the words can't be read
-
-File names are paths, and - is one of them, not standard input.
-The file FORMATS.md in the folder docs tells the texts and the answers.";
+  3  refused: the program or the evidence, with the reason"
+);
