@@ -1,10 +1,12 @@
-//! Files by their path, and whole contents read and written, with contracts on the bytes.
+//! Files by their path, those of the system among them, and whole contents read and written, with contracts on the bytes.
 #![tactic(auto)]
 
 mod contents;
 mod fault;
 mod file_set;
+mod host_files;
 
 pub use contents::{load, store};
 pub use fault::{LoadFault, OpenFault, StoreFault};
 pub use file_set::FileSet;
+pub use host_files::HostFiles;

@@ -5,12 +5,13 @@ ghost use Rattle.callorder.specs.Resolving.{IsTextOf};
 ghost use Rattle.checker.specs.Verdicts.{HasFormula};
 ghost use Rattle.prover.specs.Answers.{Answers, FinishesIfUnknown, HasNoFormulaText};
 ghost use Rattle.formulas.specs.Numbering.{formula_of};
-ghost use Rattle.prover.specs.Searches.{HasFinishedRun, IsEvidenceOn, IsFormulaOf, IsOver};
+ghost use Rattle.pool.specs.States.{IsUndecided};
+ghost use Rattle.prover.specs.Searches.{HasFinishedRun, IsEvidenceOn, IsFormulaOf, IsOver, IsUnknownFor, unnoted};
 
 use crate::answer::Answer;
 use crate::explore::stuck_walk;
 use crate::formula::encoded_of;
-use crate::search::pool_of;
+use crate::search::{pool_of, smallest_with};
 use callorder::Program;
 use checker::{Reason, formula_of, program_of};
 use encode::Encoded;
@@ -37,15 +38,28 @@ fn told(alloc: Global, program: &Program, evidence: &Evidence) -> Answer
     }
 }
 
-/// What a pool says at the end. A leaf that is open for no reason that was noted counts as left.
-fn answer_of(alloc: Global, pool: &Pool) -> Answer
+/// The reason that counts beside those that are noted at the end of a search, in which memory may have been wanting.
+fn unnoted(was_short: bool) -> Why
+    ensures { result ≡ unnoted was_short }
+{
+    if was_short { Why::Memory } else { Why::Left }
+}
+
+/// What a pool says at the end of a search, in which memory may have been wanting. A leaf that is open for no reason that was noted counts
+/// as left.
+fn answer_of(alloc: Global, pool: &Pool, was_short: bool) -> Answer
     requires { IsOver pool.now.held }
-    ensures { (text : List ℕ) → IsTextOf text pool.now.held.program → Answers text result }
+    ensures answer { (text : List ℕ) → IsTextOf text pool.now.held.program → Answers text result }
+    ensures undecided { IsUndecided pool.now.held → IsUnknownFor pool.now.held.reasons was_short result }
 {
     match pool.assemble(alloc) {
         Ok(evidence) => told(alloc, pool.program(), &evidence),
-        Err(AssembleFault::Memory) => Answer::Unknown(Why::Memory),
-        Err(AssembleFault::Open) => Answer::Unknown(pool.status().why.unwrap_or(Why::Left)),
+        Err(AssembleFault::Memory) => {
+            Answer::Unknown(smallest_with(pool.status().why, Why::Memory))
+        }
+        Err(AssembleFault::Open) => {
+            Answer::Unknown(smallest_with(pool.status().why, unnoted(was_short)))
+        }
     }
 }
 
@@ -79,7 +93,7 @@ fn answer_over<G: Gate + Sync, R: Threads + Wait + Sync>(
     ensures { (text : List ℕ) → IsTextOf text encoded.program → Answers text result }
 {
     match pool_of(rt, alloc, encoded, lent, options, gate) {
-        Ok(pool) => answer_of(alloc, &pool),
+        Ok((pool, was_short)) => answer_of(alloc, &pool, was_short),
         Err(why) => Answer::Unknown(why),
     }
 }

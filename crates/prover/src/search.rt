@@ -4,10 +4,11 @@ ghost use Rattle.std.specs.Prelude.{◌≡◌, ◌<◌, ◌≤◌, [], IfOk, len
 ghost use Rattle.steal.specs.Deques.{AreDealt, deques_of};
 ghost use Rattle.crossbeam_utils.specs.Seq.{cell_view};
 ghost use Rattle.sharedpool.specs.Views.{knower};
+ghost use Rattle.prover.specs.Searches.{smallest_with};
 
 use cubes::{CubeFault, split};
 use encode::Encoded;
-use pool::{Pool, Why};
+use pool::{Pool, Share, Why, smaller};
 use settings::Options;
 use sharedpool::{Cell, FinishFault, Room, Seat, SharedPool, Token, open_room};
 use std::alloc::{AllocError, Global};
@@ -136,8 +137,11 @@ fn all_work<B: Room + Send + Sync, G: Gate + Sync, R: Threads + Wait + Sync>(
     !is_unnoted.load(Ordering::SeqCst)
 }
 
-/// Settles all supplies, and hands the seats back.
-fn settled<B: Room>(alloc: Global, stations: Vec<Station<B>>) -> Result<Vec<Seat<B>>, AllocError>
+/// Hands the seats back, settles all supplies, and answers too whether these could be settled.
+fn settled<B: Room>(
+    alloc: Global,
+    stations: Vec<Station<B>>,
+) -> Result<(Vec<Seat<B>>, bool), AllocError>
     requires { AreDealt (map (λ s. deques_of s.supply) stations.items) }
 {
     let mut seats = Vec::new(alloc);
@@ -147,32 +151,45 @@ fn settled<B: Room>(alloc: Global, stations: Vec<Station<B>>) -> Result<Vec<Seat
         seats.push(seat)?;
         supplies.push(supply)?;
     }
-    settle_all(alloc, supplies)?;
-    Ok(seats)
+    let is_settled = settle_all(alloc, supplies).is_ok();
+    Ok((seats, is_settled))
 }
 
-/// The pool of a shared one and all its seats.
+/// The smaller of a reason and of the one that is noted, if one is.
+pub(crate) fn smallest_with(noted: Option<Why>, why: Why) -> Why
+    ensures { result ≡ smallest_with noted why }
+{
+    match noted {
+        Some(noted) => smaller(noted, why),
+        None => why,
+    }
+}
+
+/// The pool of a shared one and all its seats, and whether memory was wanting: for a worker that couldn't note why it left, or to
+/// settle the supplies. Where it is wanting before there is a pool, the smallest reason that is known.
 fn ended<B: Room, R: Wait>(
     rt: &R,
     alloc: Global,
     shared: SharedPool<B>,
     stations: Vec<Station<B>>,
-) -> Result<Pool, Why>
+    are_noted: bool,
+) -> Result<(Pool, bool), Why>
     requires { AreDealt (map (λ s. deques_of s.supply) stations.items) }
-    ensures program { IfOk result (λ pool. pool.held.program ≡ B.opening.program) }
-    ensures formula { IfOk result (λ pool. pool.held.formula ≡ B.opening.formula) }
+    ensures program { IfOk result (λ made. made.0.held.program ≡ B.opening.program) }
+    ensures formula { IfOk result (λ made. made.0.held.formula ≡ B.opening.formula) }
 {
-    let Ok(seats) = settled(alloc, stations) else {
-        return Err(Why::Memory);
+    let noted = shared.status(rt).why;
+    let Ok((seats, is_settled)) = settled(alloc, stations) else {
+        return Err(smallest_with(noted, Why::Memory));
     };
     match shared.finish(rt, alloc, seats) {
-        Ok((pool, _counts)) => Ok(pool),
-        Err((FinishFault::Memory, _shared, _seats)) => Err(Why::Memory),
-        Err((FinishFault::Missing, _shared, _seats)) => Err(Why::Left),
+        Ok((pool, _counts)) => Ok((pool, !are_noted || !is_settled)),
+        Err((FinishFault::Memory, _shared, _seats)) => Err(smallest_with(noted, Why::Memory)),
+        Err((FinishFault::Missing, _shared, _seats)) => Err(smallest_with(noted, Why::Left)),
     }
 }
 
-/// A search in a room that has a name. A reason for which a worker left that couldn't be noted is want of memory.
+/// A search in a room that has a name.
 fn search_in<B: Room + Send + Sync, G: Gate + Sync, R: Threads + Wait + Sync>(
     rt: &R,
     alloc: Global,
@@ -183,12 +200,12 @@ fn search_in<B: Room + Send + Sync, G: Gate + Sync, R: Threads + Wait + Sync>(
     cubes: &[u32],
     options: Options,
     gate: &G,
-) -> Result<Pool, Why>
+) -> Result<(Pool, bool), Why>
     requires room { (cell.table.shared.table_id ≡ B.table) × (keeper.table_id ≡ B.table) × (cell_view keeper ≡ knower 0 []) }
     requires fresh { (pool.history ≡ []) × (pool.held ≡ B.opening) }
     requires workers { options.workers ≡ B.workers }
-    ensures program { IfOk result (λ last. last.held.program ≡ pool.held.program) }
-    ensures formula { IfOk result (λ last. last.held.formula ≡ pool.held.formula) }
+    ensures program { IfOk result (λ made. made.0.held.program ≡ pool.held.program) }
+    ensures formula { IfOk result (λ made. made.0.held.formula ≡ pool.held.formula) }
 {
     let workers = options.workers();
     let Ok((shared, seats)) = SharedPool::<B>::new(alloc, cell, keeper, pool, workers) else {
@@ -205,10 +222,8 @@ fn search_in<B: Room + Send + Sync, G: Gate + Sync, R: Threads + Wait + Sync>(
         events: &events,
         budget: options.budget(),
     };
-    if !all_work(rt, alloc, &common, stations.as_mut_slice()) {
-        return Err(Why::Memory);
-    }
-    ended(rt, alloc, shared, stations)
+    let are_noted = all_work(rt, alloc, &common, stations.as_mut_slice());
+    ended(rt, alloc, shared, stations, are_noted)
 }
 
 /// The tree that a search begins with, and its leaves.
@@ -241,8 +256,8 @@ fn opened(alloc: Global, encoded: Encoded, depth: u32) -> Result<(Pool, Vec<u32>
     }
 }
 
-/// The pool at the end of a search over a program's formula, or why there is none. The worker reads `lent`, which is the same program with
-/// its formula: the first is the pool's.
+/// The pool at the end of a search over a program's formula, and whether memory was wanting at the end, or why there is no pool. The
+/// worker reads `lent`, which is the same program with its formula: the first is the pool's.
 pub fn pool_of<G: Gate + Sync, R: Threads + Wait + Sync>(
     rt: &R,
     alloc: Global,
@@ -250,9 +265,9 @@ pub fn pool_of<G: Gate + Sync, R: Threads + Wait + Sync>(
     lent: &Encoded,
     options: Options,
     gate: &G,
-) -> Result<Pool, Why>
-    ensures program { IfOk result (λ pool. pool.held.program ≡ encoded.program) }
-    ensures formula { IfOk result (λ pool. pool.held.formula ≡ encoded.formula) }
+) -> Result<(Pool, bool), Why>
+    ensures program { IfOk result (λ made. made.0.held.program ≡ encoded.program) }
+    ensures formula { IfOk result (λ made. made.0.held.formula ≡ encoded.formula) }
 {
     let (pool, cubes) = opened(alloc, encoded, options.depth())?;
     let Ok((cell, keeper)) = open_room(alloc) else {

@@ -1,8 +1,9 @@
 //! Judges worked examples: each row of the files that the words name is a run of the program over files in memory. Prints each
-//! row that doesn't hold, and at the end how many hold.
+//! row that doesn't hold, and at the end how many hold, or don't. Where all hold, two runs over the files of the system follow.
 #![tactic(auto)]
 
 mod row;
+mod written;
 
 use row::Row;
 use std::alloc::{AllocError, Global};
@@ -12,6 +13,7 @@ use std::thread::Threads;
 use std::time::Clock;
 use std::{env, fs, io, str};
 use test_runs::Ended;
+use written::write_and_read;
 
 /// How many rows hold, and how many don't.
 #[derive(Clone, Copy)]
@@ -32,7 +34,8 @@ fn main(rt: HostRuntime) -> ExitCode {
     }
 }
 
-/// Judges each file that the words name, and prints how many rows hold, and how many don't. Answers whether all hold.
+/// Judges each file that the words name, and prints how many rows hold, or don't. Where all hold, which is the answer, it makes the
+/// runs over the files of the system, which print their own answers.
 fn judge(rt: &HostRuntime, threads: &(impl Threads + Wait + Clock + Sync)) -> io::Result<bool> {
     let paths: Vec<String> = env::args(rt)?.collect(rt.alloc())?;
     let mut tally = Tally { held: 0, missed: 0 };
@@ -45,6 +48,7 @@ fn judge(rt: &HostRuntime, threads: &(impl Threads + Wait + Clock + Sync)) -> io
         return Ok(false);
     }
     println!(rt; "{} rows hold", tally.held)?;
+    write_and_read(rt, threads)?;
     Ok(true)
 }
 

@@ -98,8 +98,8 @@ pub fn run(
     })
 }
 
-/// The program's own name and these words.
-fn word_list(alloc: Global, words: &str) -> Result<Vec<String>, AllocError> {
+/// The program's own name and these words, which blanks part.
+pub fn word_list(alloc: Global, words: &str) -> Result<Vec<String>, AllocError> {
     let mut list = Vec::new(alloc);
     list.push(String::from_str(alloc, "mpiprove")?)?;
     for word in words.split_whitespace() {

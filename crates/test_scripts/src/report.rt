@@ -2,6 +2,9 @@
 use crate::reading::Trouble;
 use std::alloc::{AllocError, Global};
 
+/// How many bytes are printed at most of a call, of what was wanted and of what was given: they may have millions.
+const MOST_SHOWN: usize = 700;
+
 /// Where a line stands.
 #[derive(Clone, Copy)]
 pub struct Place<'a> {
@@ -93,13 +96,23 @@ impl Report {
         let line = place.line;
         self.failures.push_str(place.path)?;
         write!(self.failures, ":{line}: ")?;
-        self.failures.push_str(call)?;
+        put_front(&mut self.failures, call)?;
         self.failures.push_str("\n  wanted: ")?;
-        self.failures.push_str(wanted)?;
+        put_front(&mut self.failures, wanted)?;
         self.failures.push_str("\n  given:  ")?;
-        self.failures.push_str(given)?;
+        put_front(&mut self.failures, given)?;
         self.failures.push('\n')
     }
+}
+
+/// Writes the front of a text, and `..` where more follows.
+fn put_front(out: &mut String, text: &str) -> Result<(), AllocError> {
+    let front = &text[..text.floor_char_boundary(MOST_SHOWN)];
+    out.push_str(front)?;
+    if front.len() < text.len() {
+        out.push_str("..")?;
+    }
+    Ok(())
 }
 
 /// Writes why a call isn't made.

@@ -1,5 +1,6 @@
 //! In the programs' texts `/` stands for the end of a line.
 mod fake;
+mod trail;
 
 ghost use Rattle.std.specs.Prelude.{◌≡◌, IfOk};
 
@@ -14,16 +15,19 @@ use nonovertake::earlier;
 use pool::{Pool, Share, Status, Why};
 use prooflog::{Evidence, write_evidence};
 use std::alloc::Global;
-use std::sync::atomic::{AtomicU64, Ordering};
 use std::sync::{Mutex, Wait};
 use std::test::Fail;
 use std::thread::Threads;
 use steal::{Supply, deal};
+use trail::{Noted, Trail};
 use trees::Tree;
-use workers::{Common, Cubes, EventCount, Gate, work};
+use workers::{Common, Cubes, EventCount, work};
 
 /// More conflicts than any search here needs.
 const ENOUGH: u32 = 1_000_000;
+
+/// The number of the worker that searches.
+const WORKER: u32 = 5;
 
 /// A program without deadlock.
 const RELAY: &str =
@@ -42,18 +46,6 @@ ranks 3/policy none/rank 0/send 1 1/send 2 1/rank 1/send 2 1/recv 0 1/rank 2/rec
 ranks 3/policy any/rank 0/send 1 1/send 2 1/rank 1/send 2 1/recv 0 1/rank 2/recv * 1/recv 0 1/ | deadlock
 ranks 1/policy any/rank 0/bsend 0 1/ | no deadlock
 ranks 1/policy any/rank 0/ | no deadlock";
-
-/// Counts the cubes.
-#[derive(Drop)]
-struct Counter {
-    cubes: AtomicU64,
-}
-
-impl Gate for Counter {
-    fn before(&self, _worker: u32, _cube: u32) {
-        self.cubes.fetch_add(1, Ordering::SeqCst);
-    }
-}
 
 /// Cubes with no room for more.
 #[derive(Drop)]
@@ -80,8 +72,10 @@ impl Cubes for Narrow {
 struct Outcome {
     status: Status,
     is_refuted: bool,
-    /// How many cubes the worker took.
-    cubes: u64,
+    /// How many lines the log has.
+    logged: usize,
+    /// What the worker did.
+    noted: Noted,
 }
 
 /// The program of this text.
@@ -124,7 +118,8 @@ fn opened(
     let encoded = encoded(rt, alloc, text)?;
     let tree = tree_of(alloc, &encoded, depth)?;
     let pool = Mutex::new(Pool::new(alloc, encoded, tree)?);
-    Ok(Fake { pool, lie })
+    let trail = Trail::new();
+    Ok(Fake { pool, lie, trail })
 }
 
 /// All open leaves, in the order of their numbers, of which a tree of depth 4 has none from 31 on.
@@ -140,7 +135,7 @@ fn leaves(rt: &impl Wait, alloc: Global, share: &Fake) -> Result<Supply, Fail> {
     Ok(cubes)
 }
 
-/// Has one worker search this formula over the share, and answers how many cubes it took.
+/// Has one worker search this formula over the share.
 fn worked_on<R: Threads + Wait + Sync, C: Cubes>(
     rt: &R,
     alloc: Global,
@@ -148,21 +143,18 @@ fn worked_on<R: Threads + Wait + Sync, C: Cubes>(
     share: &Fake,
     cubes: &mut C,
     budget: u32,
-) -> Result<u64, Fail> {
-    let gate = Counter {
-        cubes: AtomicU64::new(0),
-    };
+) -> Result<(), Fail> {
     let events = EventCount::new();
     let common = Common {
         encoded,
         shared: share,
-        gate: &gate,
+        gate: share,
         events: &events,
         budget,
     };
-    let mut seat = 0;
-    work(rt, alloc, &common, &mut seat, cubes, 0)?;
-    Ok(gate.cubes.load(Ordering::SeqCst))
+    let mut seat = WORKER;
+    work(rt, alloc, &common, &mut seat, cubes, WORKER)?;
+    Ok(())
 }
 
 /// The same, where the formula is that of a program.
@@ -173,7 +165,7 @@ fn worked<R: Threads + Wait + Sync, C: Cubes>(
     share: &Fake,
     cubes: &mut C,
     budget: u32,
-) -> Result<u64, Fail> {
+) -> Result<(), Fail> {
     let encoded = encoded(rt, alloc, text)?;
     worked_on(rt, alloc, &encoded, share, cubes, budget)
 }
@@ -197,22 +189,24 @@ fn searched<R: Threads + Wait + Sync>(
 ) -> Result<Outcome, Fail> {
     let share = opened(rt, alloc, text, depth, lie)?;
     let mut cubes = leaves(rt, alloc, &share)?;
-    let count = worked(rt, alloc, text, &share, &mut cubes, budget)?;
+    worked(rt, alloc, text, &share, &mut cubes, budget)?;
+    let lines = share.pool.lock(rt).fetch(alloc, WORKER, 0)?;
     Ok(Outcome {
         status: share.status(rt),
         is_refuted: is_refuted(rt, alloc, &share),
-        cubes: count,
+        logged: lines.len(),
+        noted: share.trail.noted(),
     })
 }
 
-/// Why the worker leaves a share that lies.
+/// Why the worker leaves a share that lies, and how many calls it makes after the first that is refused.
 fn left_for<R: Threads + Wait + Sync>(
     rt: &R,
     alloc: Global,
     lie: Lie,
-) -> Result<Option<Why>, Fail> {
+) -> Result<(Option<Why>, u64), Fail> {
     let outcome = searched(rt, alloc, RELAY, 4, lie, ENOUGH)?;
-    Ok(outcome.status.why)
+    Ok((outcome.status.why, outcome.noted.late))
 }
 
 /// The text of the share's evidence.
@@ -264,7 +258,7 @@ fn nothing_without_budget(rt: HostRuntime) -> Result<(), Fail> {
     assert!(rt; !outcome.status.is_found && !outcome.is_refuted);
     assert_eq!(rt; outcome.status.open_leaves, 2);
     assert_eq!(rt; outcome.status.why, Some(Why::Budget));
-    assert_eq!(rt; outcome.cubes, 1);
+    assert_eq!(rt; outcome.noted.cubes, 1);
     Ok(())
 }
 
@@ -274,18 +268,21 @@ fn nothing_is_searched_after_a_schedule(rt: HostRuntime) -> Result<(), Fail> {
     let outcome = searched(&rt, rt.alloc(), text, 4, Lie::Nothing, ENOUGH)?;
     let left = outcome.status.open_leaves;
     assert!(rt; outcome.status.is_found && left > 0);
-    assert_eq!(rt; outcome.cubes.saturating_add(u64::from(left)), 9);
+    assert_eq!(rt; outcome.noted.cubes.saturating_add(u64::from(left)), 9);
     Ok(())
 }
 
 #[test]
-fn refusals_are_left(rt: HostRuntime) -> Result<(), Fail> {
+fn the_first_refusal_is_left_for(rt: HostRuntime) -> Result<(), Fail> {
     let alloc = rt.alloc();
     for lie in [Lie::ForeignLine, Lie::NeverOpen, Lie::NeverDerived] {
-        assert_eq!(rt; left_for(&rt, alloc, lie)?, Some(Why::Left), "{lie:?}");
+        assert_eq!(rt; left_for(&rt, alloc, lie)?, (Some(Why::Left), 0), "{lie:?}");
     }
-    assert_eq!(rt; left_for(&rt, alloc, Lie::FullLog)?, Some(Why::Full));
-    assert_eq!(rt; left_for(&rt, alloc, Lie::NoMemory)?, Some(Why::Memory));
+    assert_eq!(rt; left_for(&rt, alloc, Lie::FullLog)?, (Some(Why::Full), 0));
+    assert_eq!(rt;
+        left_for(&rt, alloc, Lie::NoMemory)?,
+        (Some(Why::Memory), 0)
+    );
     let outcome = searched(&rt, alloc, RELAY, 4, Lie::Forgetful, ENOUGH)?;
     assert!(rt; !outcome.status.is_found);
     Ok(())
@@ -299,8 +296,8 @@ fn without_room<R: Threads + Wait + Sync>(
     let share = opened(rt, alloc, SENDERS, 0, Lie::Nothing)?;
     let cubes = leaves(rt, alloc, &share)?;
     let mut cubes = Narrow { cubes };
-    let count = worked(rt, alloc, SENDERS, &share, &mut cubes, ENOUGH)?;
-    Ok((count, share.status(rt).why))
+    worked(rt, alloc, SENDERS, &share, &mut cubes, ENOUGH)?;
+    Ok((share.trail.noted().cubes, share.status(rt).why))
 }
 
 #[test]
@@ -314,11 +311,20 @@ fn halves_without_room_are_want_of_memory(rt: HostRuntime) -> Result<(), Fail> {
 fn long_searches_split_cubes(rt: HostRuntime) -> Result<(), Fail> {
     let alloc = rt.alloc();
     let split = searched(&rt, alloc, SENDERS, 0, Lie::Nothing, ENOUGH)?;
-    assert!(rt; split.is_refuted && split.cubes > 1);
+    assert!(rt; split.is_refuted && split.noted.cubes > 1);
     let whole = searched(&rt, alloc, SENDERS, 0, Lie::NoRoom, ENOUGH)?;
-    assert!(rt; whole.is_refuted && whole.cubes == 1);
+    assert!(rt; whole.is_refuted && whole.noted.cubes == 1);
     let cut = searched(&rt, alloc, SENDERS, 0, Lie::Nothing, 3_000)?;
-    assert!(rt; !cut.is_refuted && cut.cubes > 1);
+    assert!(rt; !cut.is_refuted && cut.noted.cubes > 1);
     assert_eq!(rt; cut.status.why, Some(Why::Budget));
+    Ok(())
+}
+
+#[test]
+fn a_search_that_is_cut_is_told_of(rt: HostRuntime) -> Result<(), Fail> {
+    let Outcome { logged, noted, .. } = searched(&rt, rt.alloc(), SENDERS, 1, Lie::Nothing, 100)?;
+    assert_eq!(rt; noted.worker, u64::from(WORKER));
+    assert!(rt; noted.cubes == 1 && noted.strayed == 0);
+    assert!(rt; logged > 0 && logged as u64 == noted.lines);
     Ok(())
 }

@@ -1,5 +1,6 @@
-//! A pool under a lock, which may lie.
+//! A pool under a lock, which may lie, and which notes what it is asked and what its gate is told.
 
+use crate::searches::trail::Trail;
 use batches::Batch;
 use clauses::{LARGEST_VARIABLE, Lit};
 use pages::Lines;
@@ -12,6 +13,7 @@ use refutations::Line;
 use semantics::Step;
 use std::alloc::{AllocError, Global};
 use std::sync::{Mutex, Wait};
+use workers::{Gate, Searched};
 
 /// In which way a share lies.
 #[derive(Clone, Copy, Debug, PartialEq, Eq)]
@@ -34,11 +36,22 @@ pub enum Lie {
     NoMemory,
 }
 
-/// A pool under a lock; a seat is the number of a worker.
+/// A pool under a lock, and the gate of its worker; a seat is the number of a worker.
 #[derive(Drop)]
 pub struct Fake {
     pub pool: Mutex<Pool>,
     pub lie: Lie,
+    pub trail: Trail,
+}
+
+impl Gate for Fake {
+    fn before(&self, worker: u32, cube: u32) {
+        self.trail.pass(worker, cube);
+    }
+
+    fn after(&self, worker: u32, searched: Searched) {
+        self.trail.end(worker, searched.lines);
+    }
 }
 
 fn lines_of(alloc: Global, lines: Vec<Line>) -> Result<Lines, FetchFault> {
@@ -72,12 +85,14 @@ impl Share for Fake {
         seat: &mut u32,
         batch: &Batch,
     ) -> Result<u32, PublishFault> {
-        match self.lie {
+        let reply = match self.lie {
             Lie::NeverDerived => Err(PublishFault::NotDerived(0)),
             Lie::Forgetful => Ok(1),
             Lie::FullLog => Err(PublishFault::Full),
             _ => self.pool.lock(rt).publish(alloc, *seat, batch),
-        }
+        };
+        self.trail.ask(reply.is_err());
+        reply
     }
 
     fn fetch<R: Wait>(
@@ -87,11 +102,13 @@ impl Share for Fake {
         seat: &mut u32,
         from: usize,
     ) -> Result<Lines, FetchFault> {
-        match self.lie {
+        let reply = match self.lie {
             Lie::ForeignLine => foreign_line(alloc),
             Lie::Forgetful => lines_of(alloc, Vec::new(alloc)),
             _ => self.pool.lock(rt).fetch(alloc, *seat, from),
-        }
+        };
+        self.trail.ask(reply.is_err());
+        reply
     }
 
     fn close<R: Wait>(
@@ -101,10 +118,12 @@ impl Share for Fake {
         leaf: u32,
         number: u32,
     ) -> Result<(), CloseFault> {
-        match self.lie {
+        let reply = match self.lie {
             Lie::NeverOpen => Err(CloseFault::NotOpen),
             _ => self.pool.lock(rt).close(*seat, leaf, number),
-        }
+        };
+        self.trail.ask(reply.is_err());
+        reply
     }
 
     fn split_leaf<R: Wait>(
@@ -115,10 +134,13 @@ impl Share for Fake {
         leaf: u32,
         variable: u32,
     ) -> Result<(u32, u32), SplitFault> {
-        match self.lie {
+        let reply = match self.lie {
             Lie::NoRoom => Err(SplitFault::Full),
             _ => self.pool.lock(rt).split_leaf(alloc, *seat, leaf, variable),
-        }
+        };
+        self.trail
+            .ask(!matches!(reply, Ok(_) | Err(SplitFault::Full)));
+        reply
     }
 
     fn found<R: Wait>(
@@ -128,7 +150,9 @@ impl Share for Fake {
         seat: &mut u32,
         steps: Vec<Step>,
     ) -> Result<(), FoundFault> {
-        self.pool.lock(rt).found(alloc, *seat, steps)
+        let reply = self.pool.lock(rt).found(alloc, *seat, steps);
+        self.trail.ask(reply.is_err());
+        reply
     }
 
     fn leave<R: Wait>(&self, rt: &R, seat: &mut u32, why: Option<Why>) -> Result<(), AllocError> {
@@ -140,10 +164,13 @@ impl Share for Fake {
     }
 
     fn path<R: Wait>(&self, rt: &R, alloc: Global, leaf: u32) -> Result<Vec<Lit>, PathFault> {
-        match self.lie {
+        let reply = match self.lie {
             Lie::NoMemory => Err(PathFault::Memory),
             _ => self.pool.lock(rt).path(alloc, leaf),
-        }
+        };
+        self.trail.ask(reply.is_err());
+        self.trail.begin(leaf);
+        reply
     }
 
     fn assemble<R: Wait>(&self, rt: &R, alloc: Global) -> Result<Evidence, AssembleFault> {

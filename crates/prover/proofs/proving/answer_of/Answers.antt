@@ -9,5 +9,5 @@ pub told-requires : goal.told-requires
 told-requires c =
     subst (λ (p : MpiProgram). IsEvidenceOn p c.in-Ok.evidence) (sym c.program.ensures) (assembled c.args.pool.now.held c.in-Ok.evidence c.requires c.in-Ok.ensures.evidence)
 
-pub returns-in-Ok : goal.returns-in-Ok
-returns-in-Ok c = λ text is_text. c.told.ensures.answer text (subst (IsTextOf text) (sym c.program.ensures) is_text)
+pub returns-in-Ok-clause-answer : goal.returns-in-Ok-clause-answer
+returns-in-Ok-clause-answer c = λ text is_text. c.told.ensures.answer text (subst (IsTextOf text) (sym c.program.ensures) is_text)

@@ -10,4 +10,4 @@ answer_of-requires g c =
 
 pub returns-in-Ok : goal.returns-in-Ok
 returns-in-Ok g c text is =
-    c.answer_of.ensures text (subst (IsTextOf text) (sym c.in-Ok.ensures.program) is)
+    c.answer_of.ensures.answer text (subst (IsTextOf text) (sym c.in-Ok.ensures.program) is)
