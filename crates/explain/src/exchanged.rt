@@ -6,8 +6,8 @@ use std::alloc::{AllocError, Global};
 
 /// The first receive or matched probe behind a probe, in its rank, that the send fits, if there is one.
 fn next_taker(program: &Program, send: usize, probe: usize) -> Option<usize> {
-    (probe..program.calls().len())
-        .find(|call| program.are_of_one_rank(*call, probe) && program.takes(send, *call))
+    (probe..program.calls().len()).find(|call| program.are_of_one_rank(*call, probe)
+        && program.takes(send, *call))
 }
 
 /// Tells the receive or matched probe that stands behind a probe to take the message that this saw, where it took another one.
