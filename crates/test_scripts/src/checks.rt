@@ -9,9 +9,10 @@ use crate::scripts::Section;
 use crate::telling::{put_done, put_lines, put_literals, put_number, put_word, put_yes};
 use clauses::Formula;
 use joining::joining_lines;
-use pieces::{PieceGate, check_all, check_piece, check_pieces};
+use pieces::{PieceGate, check_piece, check_pieces};
 use refutations::{
-    Line, LineFault, PartialAssignment, ProofTree, check_line, check_line_in, check_tree,
+    Line, LineFault, PartialAssignment, ProofTree, check_line, check_line_in, check_refutation,
+    check_tree,
 };
 use std::alloc::{AllocError, Global};
 use std::thread::Threads;
@@ -105,7 +106,7 @@ fn asked<R: Threads + Sync>(
         "check_line" => checked_line(alloc, formula, lines, words, out)?,
         "check_in_turn" => checked_in_turn(alloc, formula, words, out)?,
         "check_tree" => checked_tree(alloc, formula, lines, words, out)?,
-        "accepts" => put_accepted(alloc, formula, lines, words, out)?,
+        "check_refutation" => checked_refutation(alloc, formula, lines, words, out)?,
         "check_pieces" => checked_pieces(rt, alloc, formula, lines, number(words)?, out)?,
         "check_piece" => checked_piece(alloc, formula, lines, words, out)?,
         _ => return Err(Trouble::Script("no such call")),
@@ -206,18 +207,16 @@ fn checked_tree(
     Ok(())
 }
 
-/// Checks all lines, and then the tree, as a verdict does.
-fn put_accepted(
+fn checked_refutation(
     alloc: Global,
     formula: &Formula,
     lines: &[Line],
     words: &str,
     out: &mut String,
 ) -> Result<(), Trouble> {
-    match check_all(alloc, formula, lines) {
-        Ok(()) => checked_tree(alloc, formula, lines, words, out),
-        Err(fault) => Ok(put_done(out, Err(fault))?),
-    }
+    let tree = tree(alloc, words)?;
+    put_done(out, check_refutation(alloc, formula, lines, &tree))?;
+    Ok(())
 }
 
 fn checked_pieces<R: Threads + Sync>(
@@ -277,10 +276,8 @@ fn joined(
     lines: &[Line],
     tree: &ProofTree,
 ) -> Result<Vec<Line>, Trouble> {
-    if check_all(alloc, formula, lines).is_err()
-        || check_tree(alloc, formula, lines, tree).is_err()
-    {
-        return Err(Trouble::Script("a tree that isn't accepted"));
+    match check_refutation(alloc, formula, lines, tree) {
+        Ok(()) => Ok(joining_lines(alloc, formula, lines, tree)?),
+        Err(_fault) => Err(Trouble::Script("a tree that isn't accepted")),
     }
-    Ok(joining_lines(alloc, formula, lines, tree)?)
 }
