@@ -22,6 +22,6 @@ pub use line::{LARGEST_NUMBER, Line, MakeLineFault};
 pub use line_check::{LineFault, check_line, check_line_in, clause_at};
 pub use line_list::LineList;
 pub use partial::{ClauseStatus, PartialAssignment};
-pub use refutation::{FaultyLine, RefutationFault, check_lines_in, check_refutation};
+pub use refutation::{FaultyLine, check_lines_in};
 pub use tree::{Node, ProofTree, is_numbered};
 pub use tree_check::{TreeFault, check_tree, refutes};

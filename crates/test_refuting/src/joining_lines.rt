@@ -1,7 +1,8 @@
 //! Lines that join the leaves of a tree that code makes.
 use clauses::{Clause, Formula, Lit};
 use joining::joining_lines;
-use refutations::{Line, Node, ProofTree, check_refutation};
+use pieces::check_all;
+use refutations::{Line, Node, ProofTree, check_tree};
 use std::alloc::Global;
 use std::test::Fail;
 
@@ -11,7 +12,8 @@ fn refutes_without_tree(alloc: Global, formula: &Formula, lines: &[Line]) -> Res
     let mut nodes = Vec::new(alloc);
     nodes.push(Node::Leaf(last))?;
     let root = ProofTree::make(nodes).map_err(|_nodes| "no tree")?;
-    Ok(check_refutation(alloc, formula, lines, &root).is_ok())
+    let are_derived = check_all(alloc, formula, lines).is_ok();
+    Ok(are_derived && check_tree(alloc, formula, lines, &root).is_ok())
 }
 
 /// The variables of the tree, each path of which splits on all of them.
@@ -61,7 +63,7 @@ fn full_tree(alloc: Global) -> Result<ProofTree, Fail> {
 
 /// How many lines join the full tree, where both it and they are accepted.
 fn joining_count(alloc: Global, formula: &Formula, tree: &ProofTree) -> Result<usize, Fail> {
-    check_refutation(alloc, formula, &[], tree)?;
+    check_tree(alloc, formula, &[], tree)?;
     let added = joining_lines(alloc, formula, &[], tree)?;
     if refutes_without_tree(alloc, formula, added.as_slice())? {
         return Ok(added.len());

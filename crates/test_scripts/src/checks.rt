@@ -9,10 +9,9 @@ use crate::scripts::Section;
 use crate::telling::{put_done, put_lines, put_literals, put_number, put_word, put_yes};
 use clauses::Formula;
 use joining::joining_lines;
-use pieces::{PieceGate, check_piece, check_pieces};
+use pieces::{PieceGate, check_all, check_piece, check_pieces};
 use refutations::{
-    Line, LineFault, PartialAssignment, ProofTree, check_line, check_line_in, check_refutation,
-    check_tree,
+    Line, LineFault, PartialAssignment, ProofTree, check_line, check_line_in, check_tree,
 };
 use std::alloc::{AllocError, Global};
 use std::thread::Threads;
@@ -106,7 +105,7 @@ fn asked<R: Threads + Sync>(
         "check_line" => checked_line(alloc, formula, lines, words, out)?,
         "check_in_turn" => checked_in_turn(alloc, formula, words, out)?,
         "check_tree" => checked_tree(alloc, formula, lines, words, out)?,
-        "check_refutation" => checked_refutation(alloc, formula, lines, words, out)?,
+        "accepts" => put_accepted(alloc, formula, lines, words, out)?,
         "check_pieces" => checked_pieces(rt, alloc, formula, lines, number(words)?, out)?,
         "check_piece" => checked_piece(alloc, formula, lines, words, out)?,
         _ => return Err(Trouble::Script("no such call")),
@@ -207,16 +206,18 @@ fn checked_tree(
     Ok(())
 }
 
-fn checked_refutation(
+/// Checks all lines, and then the tree, as a verdict does.
+fn put_accepted(
     alloc: Global,
     formula: &Formula,
     lines: &[Line],
     words: &str,
     out: &mut String,
 ) -> Result<(), Trouble> {
-    let tree = tree(alloc, words)?;
-    put_done(out, check_refutation(alloc, formula, lines, &tree))?;
-    Ok(())
+    match check_all(alloc, formula, lines) {
+        Ok(()) => checked_tree(alloc, formula, lines, words, out),
+        Err(fault) => Ok(put_done(out, Err(fault))?),
+    }
 }
 
 fn checked_pieces<R: Threads + Sync>(
@@ -276,8 +277,11 @@ fn joined(
     lines: &[Line],
     tree: &ProofTree,
 ) -> Result<Vec<Line>, Trouble> {
-    match check_refutation(alloc, formula, lines, tree) {
-        Ok(()) => Ok(joining_lines(alloc, formula, lines, tree)?),
-        Err(_fault) => Err(Trouble::Script("a tree that isn't accepted")),
+    match check_all(alloc, formula, lines) {
+        Ok(()) => match check_tree(alloc, formula, lines, tree) {
+            Ok(()) => Ok(joining_lines(alloc, formula, lines, tree)?),
+            Err(_fault) => Err(Trouble::Script("a tree that isn't accepted")),
+        },
+        Err(_fault) => Err(Trouble::Script("lines that aren't derived")),
     }
 }

@@ -5,8 +5,9 @@ use crate::scripts::Section;
 use crate::telling::{put_done, put_number, put_text, put_word};
 use clauses::Lit;
 use cubes::CubeFault;
+use pieces::LinesFault;
 use prooflog::{Evidence, EvidenceFault, read_evidence, read_evidence_in, write_evidence};
-use refutations::{LineFault, MakeLineFault, RefutationFault, TreeFault};
+use refutations::{LineFault, MakeLineFault, TreeFault};
 use std::alloc::{AllocError, Global};
 use std::str;
 use std::thread::Threads;
@@ -38,7 +39,7 @@ fn put_fault(words: &str, out: &mut String) -> Result<(), Trouble> {
     match words {
         "LineFault::Memory" => put_done(out, Err(LineFault::Memory))?,
         "TreeFault::Memory" => put_done(out, Err(TreeFault::Memory))?,
-        "RefutationFault::Memory" => put_done(out, Err(RefutationFault::Memory))?,
+        "LinesFault::Memory" => put_done(out, Err(LinesFault::Memory))?,
         "MakeLineFault::Memory" => put_done(out, Err(MakeLineFault::Memory))?,
         "CubeFault::Memory" => put_done(out, Err(CubeFault::Memory))?,
         "SplitFault::Memory" => put_done(out, Err(SplitFault::Memory))?,
