@@ -1,0 +1,57 @@
+-- How many lines stay before a line.
+use Rattle.std.proofs.Common.{◌≡◌, ℕ, zero, suc, ◌+◌, ◌-◌, ◌<◌, ◌≤◌, inl, inr, Bool, true, false, nat_lt, if◌then◌else◌, List, [], ◌∷◌, Some, min, length, slice_get, refl, sym, ap, ◌∙◌, arith}
+use Rattle.std.proofs.lemmas.Bool.{cases_lt}
+use Rattle.std.proofs.lemmas.Bool.Decides.{nat_tests}
+use Rattle.trimming.specs.Needed.{count_first, renumber}
+use Rattle.trimming.specs.Marks.{running}
+
+pub count_first_most : (k : ℕ) (flags : List Bool) → count_first k flags ≤ k
+count_first_most zero flags = omega arith
+count_first_most (suc k) [] = omega arith
+count_first_most (suc k) (true ∷ flags) = omega (arith, count_first_most k flags)
+count_first_most (suc k) (false ∷ flags) = omega (arith, count_first_most k flags)
+
+pub length-running : (count : ℕ) (flags : List Bool) → length (running count flags) ≡ length flags + 1
+length-running count [] = refl
+length-running count (true ∷ flags) = ap suc (length-running (count + 1) flags)
+length-running count (false ∷ flags) = ap suc (length-running count flags)
+
+running_at : (count k : ℕ) (flags : List Bool) → slice_get (running count flags) (min k (length flags)) ≡ Some (count + count_first k flags)
+running_at count zero [] = let same : count ≡ count + 0 = omega arith in ap Some same
+running_at count (suc k) [] = let same : count ≡ count + 0 = omega arith in ap Some same
+running_at count zero (true ∷ flags) = let same : count ≡ count + 0 = omega arith in ap Some same
+running_at count zero (false ∷ flags) = let same : count ≡ count + 0 = omega arith in ap Some same
+running_at count (suc k) (true ∷ flags) = running_at (count + 1) k flags ∙ (let same : count + 1 + count_first k flags ≡ count + suc (count_first k flags) = omega arith in ap Some same)
+running_at count (suc k) (false ∷ flags) = running_at count k flags
+
+-- the count that is read at a place
+pub counted : (flags : List Bool) (counts : List ℕ) (k count : ℕ) → counts ≡ running 0 flags → slice_get counts (min k (length flags)) ≡ Some count → count ≡ count_first k flags
+counted flags counts k count is at =
+    let both : Some count ≡ Some (count_first k flags) = sym at ∙ ap (λ (l : List ℕ). slice_get l (min k (length flags))) is ∙ running_at 0 k flags in
+    cc
+
+pub renumber_first : (clauses : ℕ) (flags : List Bool) (n : ℕ) → n ≤ clauses → n ≡ renumber clauses flags n
+renumber_first clauses flags n h =
+    let off : nat_lt clauses n ≡ false = grind (arith, nat_tests) in
+    sym (ap (λ (b : Bool). if b then clauses + count_first (n - clauses - 1) flags + 1 else n) off)
+
+pub renumber_later : (clauses : ℕ) (flags : List Bool) (n place : ℕ) → clauses < n → place ≡ n - clauses - 1 → clauses + count_first place flags + 1 ≡ renumber clauses flags n
+renumber_later clauses flags n place h at =
+    let on : nat_lt clauses n ≡ true = grind (arith, nat_tests) in
+    ap (λ (p : ℕ). clauses + count_first p flags + 1) at
+    ∙ sym (ap (λ (b : Bool). if b then clauses + count_first (n - clauses - 1) flags + 1 else n) on)
+
+-- a new number is none larger than the old one, and none is 0 that wasn't
+pub renumber_most : (clauses : ℕ) (flags : List Bool) (n : ℕ) → renumber clauses flags n ≤ n
+renumber_most clauses flags n =
+    elim (cases_lt clauses n) [
+      | inl above ↦ omega (arith, above, renumber_later clauses flags n (n - clauses - 1) above refl, count_first_most (n - clauses - 1) flags)
+      | inr first ↦ omega (arith, renumber_first clauses flags n (omega (arith, first)))
+    ]
+
+pub renumber_least : (clauses : ℕ) (flags : List Bool) (n : ℕ) → 1 ≤ n → 1 ≤ renumber clauses flags n
+renumber_least clauses flags n h =
+    elim (cases_lt clauses n) [
+      | inl above ↦ omega (arith, renumber_later clauses flags n (n - clauses - 1) above refl)
+      | inr first ↦ omega (arith, h, renumber_first clauses flags n (omega (arith, first)))
+    ]

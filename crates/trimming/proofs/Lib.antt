@@ -1,0 +1,4 @@
+pub mod Trimmed
+pub mod MarkLaws
+pub mod Counting
+pub mod Ranges

@@ -1,0 +1,5 @@
+use Rattle.trimming.proofs.Trimmed as trimmed
+use Rattle.trimming.proofs.laws.trimmed_are_accepted.Goals as goal
+
+pub returns : goal.returns
+returns c = trimmed.trimmed_are_accepted
