@@ -1,6 +1,6 @@
 //! The reader.
 
-ghost use Rattle.std.specs.Prelude.{◌≡◌, ◌+◌, ◌++◌, ◌∷◌, [], length, map, IfOk, IfErr};
+ghost use Rattle.std.specs.Prelude.{◌≡◌, ◌≢◌, ◌+◌, ◌++◌, ◌∷◌, [], codes, length, map, true, false, IfNone, IfSome, IfOk, IfErr};
 ghost use Rattle.plaintext.specs.Plain.{text_lines};
 ghost use Rattle.prooflog.specs.Steps.{IsSchedule, written, step_line};
 ghost use Rattle.prooflog.specs.Grammar.{IsEvidenceText, heading_line, schedule_line};
@@ -70,10 +70,10 @@ struct Opening<'a> {
     rest: &'a [u8],
 }
 
-/// The version that an evidence's first line tells.
+/// The version that an evidence's first line tells, which stands here without its LF.
 fn version_of(line: &[u8]) -> Option<Version>
-    ensures none { IfNone result ((version : Version) → line.now ≢ heading_line version) }
-    ensures some { IfSome result (λ version. line.now ≡ heading_line version) }
+    ensures none { IfNone result ((version : Version) → heading_line version ≢ line.now ++ 10 ∷ []) }
+    ensures some { IfSome result (λ version. heading_line version ≡ line.now ++ 10 ∷ []) }
 {
     if is_word(line, "evidence 1") {
         return Some(Version::One);
@@ -82,6 +82,17 @@ fn version_of(line: &[u8]) -> Option<Version>
         return Some(Version::Two);
     }
     None
+}
+
+/// Whether an evidence of this version is a schedule, as its second line says. Schedules have version 1 alone.
+fn is_schedule(version: Version, line: &[u8]) -> bool
+    ensures yes { result ≡ true → (version ≡ Version.One) × (line.now ≡ codes "schedule") }
+    ensures no { result ≡ false → version ≡ Version.One → line.now ≢ codes "schedule" }
+{
+    match version {
+        Version::One => is_word(line, "schedule"),
+        Version::Two => false,
+    }
 }
 
 /// The opening of a text, or the fault of the first or second line.
@@ -98,7 +109,7 @@ fn opening_of(bytes: &[u8]) -> Result<Opening<'_>, EvidenceFault>
     let Some((kind, rest)) = next_line(rest) else {
         return Err(EvidenceFault::Syntax { line: 2 });
     };
-    if is_word(kind, "schedule") && version == Version::One {
+    if is_schedule(version, kind) {
         return Ok(Opening {
             kind: Kind::Schedule,
             rest,
