@@ -15,6 +15,8 @@ use Rattle.prooflog.specs.declared.evidence.Evidence.{Evidence}
 use Rattle.prooflog.specs.declared.evidence.Evidence.TheVariants.{Schedule, Refutation}
 use Rattle.prooflog.specs.declared.fault.EvidenceFault.{EvidenceFault}
 use Rattle.prooflog.specs.declared.fault.EvidenceFault.TheVariants.{Memory, Syntax, Range, TooLarge}
+use Rattle.prooflog.specs.declared.refutation.Version.{Version}
+use Rattle.prooflog.specs.declared.refutation.Version.TheVariants.{One, Two}
 use Rattle.prooflog.specs.declared.step.WrittenStep.{WrittenStep}
 use Rattle.prooflog.specs.Steps.{written, step_line}
 use Rattle.prooflog.specs.Refutations.{ClaimedRefutation, Item, item_line, items, a_node}
@@ -38,13 +40,17 @@ item_lines : (is : List Item) → AllByRecursion IsLine (map item_line is)
 item_lines [] = tt
 item_lines (i ∷ is) = (is_line _ (plain_item i), item_lines is)
 
+heading_is_line : (version : Version) → IsLine (heading_line version)
+heading_is_line One = is_line (codes "evidence" ∷ codes "1" ∷ []) (plain_by_test (codes "evidence") refl, (plain_by_test (codes "1") refl, tt))
+heading_is_line Two = is_line (codes "evidence" ∷ codes "2" ∷ []) (plain_by_test (codes "evidence") refl, (plain_by_test (codes "2") refl, tt))
+
 all_lines : (w : Written) → AllByRecursion IsLine (written_lines w)
 all_lines (as_schedule ss) = (
-  is_line (codes "evidence" ∷ codes "1" ∷ []) (plain_by_test (codes "evidence") refl, (plain_by_test (codes "1") refl, tt)),
+  heading_is_line One,
   (is_line (codes "schedule" ∷ []) (plain_by_test (codes "schedule") refl, tt), step_lines ss),
 )
 all_lines (as_refutation r) = (
-  is_line (codes "evidence" ∷ codes "1" ∷ []) (plain_by_test (codes "evidence") refl, (plain_by_test (codes "1") refl, tt)),
+  heading_is_line r.version,
   (is_line (codes "refutation" ∷ numeral r.variables ∷ numeral r.clauses ∷ []) (plain_counts r.variables r.clauses), item_lines (items r)),
 )
 
@@ -106,28 +112,40 @@ same_counts v c v' c' e =
     let three = heads (numeral c) (numeral c') [] [] two.1 in
     (numeral_injective v v' two.0, numeral_injective c c' three.0)
 
--- what stands below the first heading
-pub below_heading : (x y : List (List ℕ)) (k l : List ℕ) → heading_line ∷ k ∷ x ≡ heading_line ∷ l ∷ y → (k ≡ l) × (x ≡ y)
-below_heading x y k l e = heads k l x y (heads heading_line heading_line (k ∷ x) (l ∷ y) e).1
+headings_differ : heading_line One ≡ heading_line Two → ⊥
+headings_differ e = omega (arith, ap (λ (l : List ℕ). get_or l 9 0) e)
+
+pub same_version : (a b : Version) → heading_line a ≡ heading_line b → a ≡ b
+same_version One One e = refl
+same_version One Two e = absurd (headings_differ e)
+same_version Two One e = absurd (headings_differ (sym e))
+same_version Two Two e = refl
+
+-- the versions are the same, and so is what stands below the first heading
+pub below_heading : (a b : Version) (x y : List (List ℕ)) (k l : List ℕ) → heading_line a ∷ k ∷ x ≡ heading_line b ∷ l ∷ y → (k ≡ l) × (x ≡ y) × (a ≡ b)
+below_heading a b x y k l e =
+    let first = heads (heading_line a) (heading_line b) (k ∷ x) (l ∷ y) e in
+    let second = heads k l x y first.1 in
+    (second.0, second.1, same_version a b first.0)
 
 one_refutation : (r s : ClaimedRefutation) → to_end (written_lines (as_refutation r)) ≡ to_end (written_lines (as_refutation s)) → r ≡ s
 one_refutation r s e =
-    let below = below_heading (to_end (map item_line (items r))) (to_end (map item_line (items s))) (refutation_line r.variables r.clauses) (refutation_line s.variables s.clauses) e in
+    let below = below_heading r.version s.version (to_end (map item_line (items r))) (to_end (map item_line (items s))) (refutation_line r.variables r.clauses) (refutation_line s.variables s.clauses) e in
     let counts = same_counts r.variables r.clauses s.variables s.clauses below.0 in
     let all : items r ≡ items s = one_list item_line item_line_injective item_line_nonempty (items r) (items s) below.1 in
     let parts = cut_at_tree r.lines s.lines (map a_node r.nodes) (map a_node s.nodes) all in
     let nodes = same_nodes r.nodes s.nodes parts.1 in
-    (λ i. record { variables = counts.0 i; clauses = counts.1 i; lines = parts.0 i; nodes = nodes i })
+    (λ i. record { version = below.2 i; variables = counts.0 i; clauses = counts.1 i; lines = parts.0 i; nodes = nodes i })
 
 one_schedule : (xs ys : List Step) → to_end (written_lines (as_schedule (map written xs))) ≡ to_end (written_lines (as_schedule (map written ys))) → xs ≡ ys
 one_schedule xs ys e =
-    let below = below_heading (to_end (map step_line (map written xs))) (to_end (map step_line (map written ys))) schedule_line schedule_line e in
+    let below = below_heading One One (to_end (map step_line (map written xs))) (to_end (map step_line (map written ys))) schedule_line schedule_line e in
     same_steps xs ys (one_list step_line step_line_injective step_line_nonempty (map written xs) (map written ys) below.1)
 
 one_written : (a b : Evidence) → to_end (written_lines (written_of a)) ≡ to_end (written_lines (written_of b)) → a ≡ b
 one_written (Schedule xs) (Schedule ys) e = ap (λ (ss : List Step). Schedule ss) (one_schedule xs ys e)
-one_written (Schedule xs) (Refutation s) e = absurd (kinds_differ s.variables s.clauses (below_heading (to_end (map step_line (map written xs))) (to_end (map item_line (items s))) schedule_line (refutation_line s.variables s.clauses) e).0)
-one_written (Refutation r) (Schedule ys) e = absurd (kinds_differ r.variables r.clauses (sym (below_heading (to_end (map item_line (items r))) (to_end (map step_line (map written ys))) (refutation_line r.variables r.clauses) schedule_line e).0))
+one_written (Schedule xs) (Refutation s) e = absurd (kinds_differ s.variables s.clauses (below_heading One s.version (to_end (map step_line (map written xs))) (to_end (map item_line (items s))) schedule_line (refutation_line s.variables s.clauses) e).0)
+one_written (Refutation r) (Schedule ys) e = absurd (kinds_differ r.variables r.clauses (sym (below_heading r.version One (to_end (map item_line (items r))) (to_end (map step_line (map written ys))) (refutation_line r.variables r.clauses) schedule_line e).0))
 one_written (Refutation r) (Refutation s) e = ap (λ (x : ClaimedRefutation). Refutation x) (one_refutation r s e)
 
 pub one_value : (bytes : List ℕ) (a b : Evidence) → IsEvidenceText bytes a → IsEvidenceText bytes b → a ≡ b

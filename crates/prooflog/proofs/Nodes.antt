@@ -14,6 +14,7 @@ use Rattle.refutations.specs.Proofs.{ProofLine, is_tree, are_trees, missing_afte
 use Rattle.refutations.specs.declared.tree.Node.{Node}
 use Rattle.refutations.specs.declared.tree.Node.TheVariants.{Split, Leaf}
 use Rattle.prooflog.specs.declared.fault.EvidenceFault.TheVariants.{Syntax, Range, TooLarge}
+use Rattle.prooflog.specs.declared.refutation.Version.{Version}
 use Rattle.prooflog.specs.Refutations.{ClaimedRefutation, Item, node_words, item_words, item_line, items, a_proof, a_node, the_tree, depths, is_depth, IsInRangeRefutation, IsSmall, waiting_after}
 use Rattle.prooflog.specs.Grammar.{Written, as_refutation, written_lines}
 use Rattle.prooflog.specs.Fault.{IsShaped, IsRanged, IsFew, CanGoOn}
@@ -58,20 +59,20 @@ trees_after missing node some = one_node missing node (leaves (missing_after mis
 
 -- ---- refutations with these lines
 
-abbrev claim : ℕ → ℕ → List ProofLine → List Node → ClaimedRefutation
-claim v c lines nodes = record { variables = v; clauses = c; lines = lines; nodes = nodes }
+abbrev claim : Version → ℕ → ℕ → List ProofLine → List Node → ClaimedRefutation
+claim version v c lines nodes = record { version = version; variables = v; clauses = c; lines = lines; nodes = nodes }
 
 -- the lines above, and those of some items, are those of all items
-tree_front : (v c : ℕ) (lines : List ProofLine) (below : List Item) → above_tree v c lines ++ map item_line below ≡ opening v c ++ map item_line (map a_proof lines ++ the_tree ∷ below)
-tree_front v c lines below =
-    ap (λ (ls : List (List ℕ)). opening v c ++ ls) (sym (map-append item_line (map a_proof lines ++ the_tree ∷ []) below) ∙ ap (map item_line) (append_assoc (map a_proof lines) (the_tree ∷ []) below))
+tree_front : (version : Version) (v c : ℕ) (lines : List ProofLine) (below : List Item) → above_tree version v c lines ++ map item_line below ≡ opening version v c ++ map item_line (map a_proof lines ++ the_tree ∷ below)
+tree_front version v c lines below =
+    ap (λ (ls : List (List ℕ)). opening version v c ++ ls) (sym (map-append item_line (map a_proof lines ++ the_tree ∷ []) below) ∙ ap (map item_line) (append_assoc (map a_proof lines) (the_tree ∷ []) below))
 
-nodes_begin : (v c : ℕ) (lines : List ProofLine) (done more : List Node) → BeginsWith (above_tree v c lines ++ map item_line (map a_node done)) (to_end (written_lines (as_refutation (claim v c lines (done ++ more)))))
-nodes_begin v c lines done more =
-    let r : ClaimedRefutation = claim v c lines (done ++ more) in
+nodes_begin : (version : Version) (v c : ℕ) (lines : List ProofLine) (done more : List Node) → BeginsWith (above_tree version v c lines ++ map item_line (map a_node done)) (to_end (written_lines (as_refutation (claim version v c lines (done ++ more)))))
+nodes_begin version v c lines done more =
+    let r : ClaimedRefutation = claim version v c lines (done ++ more) in
     let cut : items r ≡ (map a_proof lines ++ the_tree ∷ map a_node done) ++ map a_node more =
     ap (λ (is : List Item). map a_proof lines ++ the_tree ∷ is) (map-append a_node done more) ∙ sym (append_assoc (map a_proof lines) (the_tree ∷ map a_node done) (map a_node more)) in
-    subst (λ (front : List (List ℕ)). BeginsWith front (to_end (written_lines (as_refutation r)))) (sym (tree_front v c lines (map a_node done))) (begins_items r (map a_proof lines ++ the_tree ∷ map a_node done) (map a_node more) cut)
+    subst (λ (front : List (List ℕ)). BeginsWith front (to_end (written_lines (as_refutation r)))) (sym (tree_front version v c lines (map a_node done))) (begins_items r (map a_proof lines ++ the_tree ∷ map a_node done) (map a_node more) cut)
 
 -- what begins with these lines and the lines of some nodes is a refutation, and goes on with another node or ends
 record NextNode (w : Written) (lines : List ProofLine) (done : List Node) (line : List ℕ) : Type 0 where
@@ -80,10 +81,10 @@ record NextNode (w : Written) (lines : List ProofLine) (done : List Node) (line 
   pub same : all.lines ≡ lines
   pub next : ((node : Node) × (others : List Node) × (item_line (a_node node) ≡ line) × (all.nodes ≡ done ++ node ∷ others)) ⊎ ((line ≡ []) × (all.nodes ≡ done))
 
-next_node : (w : Written) (v c : ℕ) (lines : List ProofLine) (done : List Node) (line : List ℕ) → BeginsWith ((above_tree v c lines ++ map item_line (map a_node done)) ++ line ∷ []) (to_end (written_lines w)) → NextNode w lines done line
-next_node w v c lines done line begins =
+next_node : (w : Written) (version : Version) (v c : ℕ) (lines : List ProofLine) (done : List Node) (line : List ℕ) → BeginsWith ((above_tree version v c lines ++ map item_line (map a_node done)) ++ line ∷ []) (to_end (written_lines w)) → NextNode w lines done line
+next_node w version v c lines done line begins =
     let so_far : List Item = map a_proof lines ++ the_tree ∷ map a_node done in
-    let found : NextItem w so_far line = next_item w v c so_far line (subst (λ (front : List (List ℕ)). BeginsWith (front ++ line ∷ []) (to_end (written_lines w))) (tree_front v c lines (map a_node done)) begins) in
+    let found : NextItem w so_far line = next_item w version v c so_far line (subst (λ (front : List (List ℕ)). BeginsWith (front ++ line ∷ []) (to_end (written_lines w))) (tree_front version v c lines (map a_node done)) begins) in
     elim found.next [
       | inl x ↦
           let parts = cut_at_tree found.all.lines lines (map a_node found.all.nodes) (map a_node done ++ x.value ∷ x.others) (x.cut ∙ append_assoc (map a_proof lines) (the_tree ∷ map a_node done) (x.value ∷ x.others)) in
@@ -152,41 +153,41 @@ small_so_far bytes rest first number nodes waiting lines so few = record {
     none_waiting [] = refl
     none_waiting (d ∷ roots) = refl
 
-module _ (bytes rest : List ℕ) (first number : ℕ) (nodes : List Node) (waiting : List ℕ) (so : NodesSoFar bytes rest first number nodes waiting) (line : List ℕ) (after : List (List ℕ)) (next : text_lines rest ≡ line ∷ after) (v c : ℕ) (lines : List ProofLine) (fits : FitsAbove v c lines) (placed : first ≡ length lines + 4) where
+module _ (bytes rest : List ℕ) (first number : ℕ) (nodes : List Node) (waiting : List ℕ) (so : NodesSoFar bytes rest first number nodes waiting) (line : List ℕ) (after : List (List ℕ)) (next : text_lines rest ≡ line ∷ after) (version : Version) (v c : ℕ) (lines : List ProofLine) (fits : FitsAbove v c lines) (placed : first ≡ length lines + 4) where
   cut : text_lines bytes ≡ map item_line (map a_node nodes) ++ line ∷ after
   cut = so.cut ∙ ap (λ (ls : List (List ℕ)). map item_line (map a_node nodes) ++ ls) next
 
-  above_length : length (above_tree v c lines) ≡ length lines + 3
+  above_length : length (above_tree version v c lines) ≡ length lines + 3
   above_length = omega (arith, length-map (map a_proof lines ++ the_tree ∷ []) item_line, length-append (map a_proof lines) (the_tree ∷ []), length-map lines a_proof)
 
   nodes_length : length (map item_line (map a_node nodes)) ≡ length nodes
   nodes_length = omega (arith, length-map (map a_node nodes) item_line, length-map nodes a_node)
 
-  ranged : (more : List Node) → IsTrue (are_numbered more) → are_trees (length waiting) more ≡ true → IsInRangeRefutation (claim v c lines (nodes ++ more))
+  ranged : (more : List Node) → IsTrue (are_numbered more) → are_trees (length waiting) more ≡ true → IsInRangeRefutation (claim version v c lines (nodes ++ more))
   ranged more numbered trees = record { variables = fits.variables_in_range; clauses = fits.clauses_in_range; lines = fits.lines_in_range; numbered = both_numbered nodes more so.numbered numbered; is_tree = so.trees more ∙ trees }
 
-  good : CanGoOn (above_tree v c lines ++ map item_line (map a_node nodes))
+  good : CanGoOn (above_tree version v c lines ++ map item_line (map a_node nodes))
   good =
       let more : List Node = leaves (length waiting) in
-      let count : ℕ = length (above_tree v c lines ++ map item_line (map a_node nodes)) in
-      let left : count - (3 + length lines) ≡ length nodes = omega (arith, above_length, nodes_length, length-append (above_tree v c lines) (map item_line (map a_node nodes))) in
+      let count : ℕ = length (above_tree version v c lines ++ map item_line (map a_node nodes)) in
+      let left : count - (3 + length lines) ≡ length nodes = omega (arith, above_length, nodes_length, length-append (above_tree version v c lines) (map item_line (map a_node nodes))) in
       let held : take (count - (3 + length lines)) (nodes ++ more) ≡ take (length nodes) nodes = ap (λ (n : ℕ). take n (nodes ++ more)) left ∙ take-append_seam nodes more ∙ sym (take-length nodes) in
       let small : IsSmall (take (count - 2) lines) (take (length nodes) nodes) = small_front lines nodes (count - 2) (length nodes) (small_so_far bytes rest first number nodes waiting lines so fits.few) in
-      (as_refutation (claim v c lines (nodes ++ more)), (ranged more (numbered_leaves (length waiting)) (trees_of_leaves (length waiting)), subst (λ (ns : List Node). IsSmall (take (count - 2) lines) ns) (sym held) small), nodes_begin v c lines nodes more)
+      (as_refutation (claim version v c lines (nodes ++ more)), (ranged more (numbered_leaves (length waiting)) (trees_of_leaves (length waiting)), subst (λ (ns : List Node). IsSmall (take (count - 2) lines) ns) (sym held) small), nodes_begin version v c lines nodes more)
 
-  at : number ≡ length (above_tree v c lines) + length (map item_line (map a_node nodes)) + 1
+  at : number ≡ length (above_tree version v c lines) + length (map item_line (map a_node nodes)) + 1
   at = omega (arith, so.place, placed, above_length, nodes_length)
 
-  with_node : (node : Node) (more : List Node) → item_line (a_node node) ≡ line → BeginsWith ((above_tree v c lines ++ map item_line (map a_node nodes)) ++ line ∷ []) (to_end (written_lines (as_refutation (claim v c lines (nodes ++ node ∷ more)))))
+  with_node : (node : Node) (more : List Node) → item_line (a_node node) ≡ line → BeginsWith ((above_tree version v c lines ++ map item_line (map a_node nodes)) ++ line ∷ []) (to_end (written_lines (as_refutation (claim version v c lines (nodes ++ node ∷ more)))))
   with_node node more spelled =
-      subst (λ (front : List (List ℕ)). BeginsWith front (to_end (written_lines (as_refutation (claim v c lines (nodes ++ node ∷ more))))))
-      (ap (λ (ls : List (List ℕ)). above_tree v c lines ++ ls) (push_node nodes node ∙ ap (λ (l : List ℕ). map item_line (map a_node nodes) ++ l ∷ []) spelled) ∙ sym (append_assoc (above_tree v c lines) (map item_line (map a_node nodes)) (line ∷ [])))
-      (subst (λ (ns : List Node). BeginsWith (above_tree v c lines ++ map item_line (map a_node (nodes ++ node ∷ []))) (to_end (written_lines (as_refutation (claim v c lines ns))))) (append_assoc nodes (node ∷ []) more) (nodes_begin v c lines (nodes ++ node ∷ []) more))
+      subst (λ (front : List (List ℕ)). BeginsWith front (to_end (written_lines (as_refutation (claim version v c lines (nodes ++ node ∷ more))))))
+      (ap (λ (ls : List (List ℕ)). above_tree version v c lines ++ ls) (push_node nodes node ∙ ap (λ (l : List ℕ). map item_line (map a_node nodes) ++ l ∷ []) spelled) ∙ sym (append_assoc (above_tree version v c lines) (map item_line (map a_node nodes)) (line ∷ [])))
+      (subst (λ (ns : List Node). BeginsWith (above_tree version v c lines ++ map item_line (map a_node (nodes ++ node ∷ []))) (to_end (written_lines (as_refutation (claim version v c lines ns))))) (append_assoc nodes (node ∷ []) more) (nodes_begin version v c lines (nodes ++ node ∷ []) more))
 
   -- a tree that lacks nodes goes on with no other line
-  pub nodes_stop_syntax : 0 < length waiting → ((node : Node) → item_line (a_node node) ≢ line) → HasFaultAfter (above_tree v c lines) bytes (Syntax number)
-  nodes_stop_syntax some none = stops_syntax (above_tree v c lines) bytes (map item_line (map a_node nodes)) line after cut good number at (λ (w, keeps, begins).
-      let found = next_node w v c lines nodes line begins in
+  pub nodes_stop_syntax : 0 < length waiting → ((node : Node) → item_line (a_node node) ≢ line) → HasFaultAfter (above_tree version v c lines) bytes (Syntax number)
+  nodes_stop_syntax some none = stops_syntax (above_tree version v c lines) bytes (map item_line (map a_node nodes)) line after cut good number at (λ (w, keeps, begins).
+      let found = next_node w version v c lines nodes line begins in
       let shaped : IsTrue (is_tree found.all.nodes) = subst IsShaped found.is keeps in
       elim found.next [
         | inl x ↦ none x.0 x.2
@@ -194,20 +195,20 @@ module _ (bytes rest : List ℕ) (first number : ℕ) (nodes : List Node) (waiti
       ])
 
   -- a whole tree goes on with no line
-  pub nodes_stop_after : length waiting ≡ 0 → line ≢ [] → HasFaultAfter (above_tree v c lines) bytes (Syntax number)
-  nodes_stop_after whole some = stops_syntax (above_tree v c lines) bytes (map item_line (map a_node nodes)) line after cut good number at (λ (w, keeps, begins).
-      let found = next_node w v c lines nodes line begins in
+  pub nodes_stop_after : length waiting ≡ 0 → line ≢ [] → HasFaultAfter (above_tree version v c lines) bytes (Syntax number)
+  nodes_stop_after whole some = stops_syntax (above_tree version v c lines) bytes (map item_line (map a_node nodes)) line after cut good number at (λ (w, keeps, begins).
+      let found = next_node w version v c lines nodes line begins in
       let shaped : IsTrue (is_tree found.all.nodes) = subst IsShaped found.is keeps in
       elim found.next [
         | inl x ↦ (let e : are_trees 0 (x.0 ∷ x.1) ≡ true = ap (λ (n : ℕ). are_trees n (x.0 ∷ x.1)) (sym whole) ∙ sym (so.trees (x.0 ∷ x.1)) ∙ ap (are_trees 1) (sym x.3) ∙ shaped in cc)
         | inr x ↦ some x.0
       ])
 
-  pub nodes_stop_range : 0 < length waiting → (node : Node) → item_line (a_node node) ≡ line → (IsTrue (is_number (number_of node)) → ⊥) → HasFaultAfter (above_tree v c lines) bytes (Range number)
+  pub nodes_stop_range : 0 < length waiting → (node : Node) → item_line (a_node node) ≡ line → (IsTrue (is_number (number_of node)) → ⊥) → HasFaultAfter (above_tree version v c lines) bytes (Range number)
   nodes_stop_range some node spelled over =
       let more : List Node = leaves (missing_after (length waiting) node) in
-      stops_range (above_tree v c lines) bytes (map item_line (map a_node nodes)) line after cut good number at (as_refutation (claim v c lines (nodes ++ node ∷ more)), so.trees (node ∷ more) ∙ trees_after (length waiting) node some, with_node node more spelled) (λ (w, keeps, begins).
-      let found = next_node w v c lines nodes line begins in
+      stops_range (above_tree version v c lines) bytes (map item_line (map a_node nodes)) line after cut good number at (as_refutation (claim version v c lines (nodes ++ node ∷ more)), so.trees (node ∷ more) ∙ trees_after (length waiting) node some, with_node node more spelled) (λ (w, keeps, begins).
+      let found = next_node w version v c lines nodes line begins in
       let in_range : IsInRangeRefutation found.all = subst IsRanged found.is keeps in
       elim found.next [
         | inl x ↦
@@ -219,16 +220,16 @@ module _ (bytes rest : List ℕ) (first number : ℕ) (nodes : List Node) (waiti
       ])
 
   -- a node too many, or one that is too deep
-  pub nodes_stop_large : (others : List ℕ) (depth : ℕ) → waiting ≡ others ++ depth ∷ [] → (node : Node) → item_line (a_node node) ≡ line → IsTrue (is_number (number_of node)) → (65536 ≤ length nodes) ⊎ (64 < depth) → HasFaultAfter (above_tree v c lines) bytes TooLarge
+  pub nodes_stop_large : (others : List ℕ) (depth : ℕ) → waiting ≡ others ++ depth ∷ [] → (node : Node) → item_line (a_node node) ≡ line → IsTrue (is_number (number_of node)) → (65536 ≤ length nodes) ⊎ (64 < depth) → HasFaultAfter (above_tree version v c lines) bytes TooLarge
   nodes_stop_large others depth is_waiting node spelled numbered large =
       let some : 0 < length waiting = omega (arith, ap length is_waiting, length-append others (depth ∷ [])) in
       let more : List Node = leaves (missing_after (length waiting) node) in
       let all_numbered : IsTrue (are_numbered (node ∷ more)) = rw numbered (numbered_leaves (missing_after (length waiting) node)) in
-      stops_large (above_tree v c lines) bytes (map item_line (map a_node nodes)) line after cut good (as_refutation (claim v c lines (nodes ++ node ∷ more)), ranged (node ∷ more) all_numbered (trees_after (length waiting) node some), with_node node more spelled) (λ (w, keeps, begins).
-      let found = next_node w v c lines nodes line begins in
-      let count : ℕ = length ((above_tree v c lines ++ map item_line (map a_node nodes)) ++ line ∷ []) in
+      stops_large (above_tree version v c lines) bytes (map item_line (map a_node nodes)) line after cut good (as_refutation (claim version v c lines (nodes ++ node ∷ more)), ranged (node ∷ more) all_numbered (trees_after (length waiting) node some), with_node node more spelled) (λ (w, keeps, begins).
+      let found = next_node w version v c lines nodes line begins in
+      let count : ℕ = length ((above_tree version v c lines ++ map item_line (map a_node nodes)) ++ line ∷ []) in
       let small : IsFew count (as_refutation found.all) = subst (IsFew count) found.is keeps.1 in
-      let left : count - (3 + length found.all.lines) ≡ length nodes + 1 = omega (arith, above_length, nodes_length, ap length found.same, length-append (above_tree v c lines) (map item_line (map a_node nodes)), length-append (above_tree v c lines ++ map item_line (map a_node nodes)) (line ∷ [])) in
+      let left : count - (3 + length found.all.lines) ≡ length nodes + 1 = omega (arith, above_length, nodes_length, ap length found.same, length-append (above_tree version v c lines) (map item_line (map a_node nodes)), length-append (above_tree version v c lines ++ map item_line (map a_node nodes)) (line ∷ [])) in
       elim found.next [
         | inl x ↦
             let held : take (count - (3 + length found.all.lines)) found.all.nodes ≡ nodes ++ x.0 ∷ [] = ap (λ (n : ℕ). take n found.all.nodes) left ∙ ap (take (length nodes + 1)) x.3 ∙ take-append-add nodes (x.0 ∷ x.1) 1 in
@@ -243,10 +244,10 @@ module _ (bytes rest : List ℕ) (first number : ℕ) (nodes : List Node) (waiti
       ])
 
 -- the text ends before the tree does
-pub nodes_unended : (bytes rest : List ℕ) (first number : ℕ) (nodes : List Node) (waiting : List ℕ) → NodesSoFar bytes rest first number nodes waiting → 0 < length waiting → text_lines rest ≡ rest ∷ [] → (v c : ℕ) (lines : List ProofLine) → FitsAbove v c lines → first ≡ length lines + 4
-    → HasFaultAfter (above_tree v c lines) bytes (Syntax number)
-nodes_unended bytes rest first number nodes waiting so some one v c lines fits placed =
-    nodes_stop_syntax bytes rest first number nodes waiting so rest [] one v c lines fits placed some (λ node e. no_line_of rest (item_words (a_node node)) one e)
+pub nodes_unended : (bytes rest : List ℕ) (first number : ℕ) (nodes : List Node) (waiting : List ℕ) → NodesSoFar bytes rest first number nodes waiting → 0 < length waiting → text_lines rest ≡ rest ∷ [] → (version : Version) (v c : ℕ) (lines : List ProofLine) → FitsAbove v c lines → first ≡ length lines + 4
+    → HasFaultAfter (above_tree version v c lines) bytes (Syntax number)
+nodes_unended bytes rest first number nodes waiting so some one version v c lines fits placed =
+    nodes_stop_syntax bytes rest first number nodes waiting so rest [] one version v c lines fits placed some (λ node e. no_line_of rest (item_words (a_node node)) one e)
 
 -- the end of a whole tree
 pub nodes_whole : (bytes rest : List ℕ) (first number : ℕ) (nodes : List Node) (waiting : List ℕ) → NodesSoFar bytes rest first number nodes waiting → length waiting ≡ 0 → length rest ≡ 0 → (text_lines bytes ≡ to_end (map item_line (map a_node nodes))) × IsTrue (is_tree nodes) × IsSmall [] nodes

@@ -11,6 +11,7 @@ use Rattle.plaintext.proofs.Cuts.{no_line_of, words_are, line_is}
 use Rattle.refutations.specs.Proofs.{ProofLine}
 use Rattle.refutations.specs.declared.tree.Node.TheVariants.{Leaf}
 use Rattle.prooflog.specs.declared.fault.EvidenceFault.TheVariants.{Syntax, Range, TooLarge}
+use Rattle.prooflog.specs.declared.refutation.Version.{Version}
 use Rattle.prooflog.specs.Refutations.{ClaimedRefutation, proof_words, item_words, item_line, a_proof, a_node, the_tree, is_line_in_range, IsInRangeRefutation, IsSmall}
 use Rattle.prooflog.specs.Grammar.{as_refutation, written_lines}
 use Rattle.prooflog.specs.Fault.{IsRanged, IsFew, CanGoOn}
@@ -21,11 +22,11 @@ use Rattle.prooflog.proofs.Fronts.{stops_syntax, stops_range, stops_large, small
 use Rattle.prooflog.proofs.Claims.{begins_items, next_item}
 
 -- the lines, and a tree of one leaf
-abbrev claim : ℕ → ℕ → List ProofLine → ClaimedRefutation
-claim v c lines = record { variables = v; clauses = c; lines = lines; nodes = Leaf 1 ∷ [] }
+abbrev claim : Version → ℕ → ℕ → List ProofLine → ClaimedRefutation
+claim version v c lines = record { version = version; variables = v; clauses = c; lines = lines; nodes = Leaf 1 ∷ [] }
 
-in_range_claim : (v c : ℕ) (lines : List ProofLine) → v ≤ 2147483647 → c ≤ 2147483647 → IsTrue (list_all is_line_in_range lines) → IsInRangeRefutation (claim v c lines)
-in_range_claim v c lines v_fits c_fits fits = record { variables = v_fits; clauses = c_fits; lines = fits; numbered = refl; is_tree = refl }
+in_range_claim : (version : Version) (v c : ℕ) (lines : List ProofLine) → v ≤ 2147483647 → c ≤ 2147483647 → IsTrue (list_all is_line_in_range lines) → IsInRangeRefutation (claim version v c lines)
+in_range_claim version v c lines v_fits c_fits fits = record { variables = v_fits; clauses = c_fits; lines = fits; numbered = refl; is_tree = refl }
 
 pub all_push : (lines : List ProofLine) (line : ProofLine) → IsTrue (list_all is_line_in_range lines) → IsTrue (is_line_in_range line) → IsTrue (list_all is_line_in_range (lines ++ line ∷ []))
 all_push lines line all one = list_all-append is_line_in_range lines (line ∷ []) ∙ rw (all, one) refl
@@ -50,27 +51,27 @@ one_more_line bytes rest after number lines p line so next spelled fits few = re
   place = omega (arith, so.place, length-append lines (p ∷ []));
 }
 
-module _ (bytes rest : List ℕ) (number : ℕ) (lines : List ProofLine) (so : LinesSoFar bytes rest number lines) (line : List ℕ) (after : List (List ℕ)) (next : text_lines rest ≡ line ∷ after) (v c : ℕ) (v_fits : v ≤ 2147483647) (c_fits : c ≤ 2147483647) where
+module _ (bytes rest : List ℕ) (number : ℕ) (lines : List ProofLine) (so : LinesSoFar bytes rest number lines) (line : List ℕ) (after : List (List ℕ)) (next : text_lines rest ≡ line ∷ after) (version : Version) (v c : ℕ) (v_fits : v ≤ 2147483647) (c_fits : c ≤ 2147483647) where
   cut : text_lines bytes ≡ map item_line (map a_proof lines) ++ line ∷ after
   cut = so.cut ∙ ap (λ (ls : List (List ℕ)). map item_line (map a_proof lines) ++ ls) next
 
-  good : CanGoOn (opening v c ++ map item_line (map a_proof lines))
+  good : CanGoOn (opening version v c ++ map item_line (map a_proof lines))
   good =
-      let front : List (List ℕ) = opening v c ++ map item_line (map a_proof lines) in
+      let front : List (List ℕ) = opening version v c ++ map item_line (map a_proof lines) in
       let small : IsSmall lines (Leaf 1 ∷ []) = record { few_lines = so.few; few_nodes = omega arith; shallow = refl } in
-      (as_refutation (claim v c lines), (in_range_claim v c lines v_fits c_fits so.in_range, small_front lines (Leaf 1 ∷ []) (length front - 2) (length front - (3 + length lines)) small), begins_items (claim v c lines) (map a_proof lines) (the_tree ∷ a_node (Leaf 1) ∷ []) refl)
+      (as_refutation (claim version v c lines), (in_range_claim version v c lines v_fits c_fits so.in_range, small_front lines (Leaf 1 ∷ []) (length front - 2) (length front - (3 + length lines)) small), begins_items (claim version v c lines) (map a_proof lines) (the_tree ∷ a_node (Leaf 1) ∷ []) refl)
 
-  at : number ≡ length (opening v c) + length (map item_line (map a_proof lines)) + 1
+  at : number ≡ length (opening version v c) + length (map item_line (map a_proof lines)) + 1
   at = omega (arith, so.place, length-map (map a_proof lines) item_line, length-map lines a_proof)
 
-  with_line : (p : ProofLine) → item_line (a_proof p) ≡ line → BeginsWith ((opening v c ++ map item_line (map a_proof lines)) ++ line ∷ []) (to_end (written_lines (as_refutation (claim v c (lines ++ p ∷ [])))))
+  with_line : (p : ProofLine) → item_line (a_proof p) ≡ line → BeginsWith ((opening version v c ++ map item_line (map a_proof lines)) ++ line ∷ []) (to_end (written_lines (as_refutation (claim version v c (lines ++ p ∷ [])))))
   with_line p spelled =
-      subst (λ (ls : List (List ℕ)). BeginsWith (opening v c ++ ls) (to_end (written_lines (as_refutation (claim v c (lines ++ p ∷ [])))))) (push_line lines p ∙ ap (λ (l : List ℕ). map item_line (map a_proof lines) ++ l ∷ []) spelled)
-      (begins_items (claim v c (lines ++ p ∷ [])) (map a_proof (lines ++ p ∷ [])) (the_tree ∷ a_node (Leaf 1) ∷ []) refl)
+      subst (λ (ls : List (List ℕ)). BeginsWith (opening version v c ++ ls) (to_end (written_lines (as_refutation (claim version v c (lines ++ p ∷ [])))))) (push_line lines p ∙ ap (λ (l : List ℕ). map item_line (map a_proof lines) ++ l ∷ []) spelled)
+      (begins_items (claim version v c (lines ++ p ∷ [])) (map a_proof (lines ++ p ∷ [])) (the_tree ∷ a_node (Leaf 1) ∷ []) refl)
 
-  pub lines_stop_syntax : ((p : ProofLine) → item_line (a_proof p) ≢ line) → item_line the_tree ≢ line → HasFaultAfter (opening v c) bytes (Syntax number)
-  lines_stop_syntax no_line no_tree = stops_syntax (opening v c) bytes (map item_line (map a_proof lines)) line after cut good number at (λ (w, keeps, begins).
-      let found = next_item w v c (map a_proof lines) line begins in
+  pub lines_stop_syntax : ((p : ProofLine) → item_line (a_proof p) ≢ line) → item_line the_tree ≢ line → HasFaultAfter (opening version v c) bytes (Syntax number)
+  lines_stop_syntax no_line no_tree = stops_syntax (opening version v c) bytes (map item_line (map a_proof lines)) line after cut good number at (λ (w, keeps, begins).
+      let found = next_item w version v c (map a_proof lines) line begins in
       elim found.next [
         | inl x ↦ elim (next_of_lines found.all.lines lines (map a_node found.all.nodes) x.value x.others x.cut) [
           | inl y ↦ no_line y.0 (ap item_line (sym y.2) ∙ x.spelled)
@@ -79,9 +80,9 @@ module _ (bytes rest : List ℕ) (number : ℕ) (lines : List ProofLine) (so : L
         | inr x ↦ tree_missing found.all.lines lines (map a_node found.all.nodes) x.1
       ])
 
-  pub lines_stop_range : (p : ProofLine) → item_line (a_proof p) ≡ line → (IsTrue (is_line_in_range p) → ⊥) → HasFaultAfter (opening v c) bytes (Range number)
-  lines_stop_range p spelled over = stops_range (opening v c) bytes (map item_line (map a_proof lines)) line after cut good number at (as_refutation (claim v c (lines ++ p ∷ [])), refl, with_line p spelled) (λ (w, keeps, begins).
-      let found = next_item w v c (map a_proof lines) line begins in
+  pub lines_stop_range : (p : ProofLine) → item_line (a_proof p) ≡ line → (IsTrue (is_line_in_range p) → ⊥) → HasFaultAfter (opening version v c) bytes (Range number)
+  lines_stop_range p spelled over = stops_range (opening version v c) bytes (map item_line (map a_proof lines)) line after cut good number at (as_refutation (claim version v c (lines ++ p ∷ [])), refl, with_line p spelled) (λ (w, keeps, begins).
+      let found = next_item w version v c (map a_proof lines) line begins in
       let ranged : IsInRangeRefutation found.all = subst IsRanged found.is keeps in
       elim found.next [
         | inl x ↦ elim (next_of_lines found.all.lines lines (map a_node found.all.nodes) x.value x.others x.cut) [
@@ -94,10 +95,10 @@ module _ (bytes rest : List ℕ) (number : ℕ) (lines : List ProofLine) (so : L
         | inr x ↦ item_line_nonempty (a_proof p) (spelled ∙ x.0)
       ])
 
-  pub lines_stop_large : (p : ProofLine) → item_line (a_proof p) ≡ line → IsTrue (is_line_in_range p) → 1000000 ≤ length lines → HasFaultAfter (opening v c) bytes TooLarge
-  lines_stop_large p spelled fits full = stops_large (opening v c) bytes (map item_line (map a_proof lines)) line after cut good (as_refutation (claim v c (lines ++ p ∷ [])), in_range_claim v c (lines ++ p ∷ []) v_fits c_fits (all_push lines p so.in_range fits), with_line p spelled) (λ (w, keeps, begins).
-      let found = next_item w v c (map a_proof lines) line begins in
-      let front : List (List ℕ) = (opening v c ++ map item_line (map a_proof lines)) ++ line ∷ [] in
+  pub lines_stop_large : (p : ProofLine) → item_line (a_proof p) ≡ line → IsTrue (is_line_in_range p) → 1000000 ≤ length lines → HasFaultAfter (opening version v c) bytes TooLarge
+  lines_stop_large p spelled fits full = stops_large (opening version v c) bytes (map item_line (map a_proof lines)) line after cut good (as_refutation (claim version v c (lines ++ p ∷ [])), in_range_claim version v c (lines ++ p ∷ []) v_fits c_fits (all_push lines p so.in_range fits), with_line p spelled) (λ (w, keeps, begins).
+      let found = next_item w version v c (map a_proof lines) line begins in
+      let front : List (List ℕ) = (opening version v c ++ map item_line (map a_proof lines)) ++ line ∷ [] in
       let few : IsFew (length front) (as_refutation found.all) = subst (IsFew (length front)) found.is keeps.1 in
       elim found.next [
         | inl x ↦ elim (next_of_lines found.all.lines lines (map a_node found.all.nodes) x.value x.others x.cut) [
@@ -108,9 +109,9 @@ module _ (bytes rest : List ℕ) (number : ℕ) (lines : List ProofLine) (so : L
       ])
 
 -- a last line that lacks its LF, or none
-pub lines_unended : (bytes rest : List ℕ) (number : ℕ) (lines : List ProofLine) → LinesSoFar bytes rest number lines → text_lines rest ≡ rest ∷ [] → (v c : ℕ) → v ≤ 2147483647 → c ≤ 2147483647 → HasFaultAfter (opening v c) bytes (Syntax number)
-lines_unended bytes rest number lines so one v c v_fits c_fits =
-    lines_stop_syntax bytes rest number lines so rest [] one v c v_fits c_fits (λ p e. no_line_of rest (item_words (a_proof p)) one e) (λ e. no_line_of rest (item_words the_tree) one e)
+pub lines_unended : (bytes rest : List ℕ) (number : ℕ) (lines : List ProofLine) → LinesSoFar bytes rest number lines → text_lines rest ≡ rest ∷ [] → (version : Version) (v c : ℕ) → v ≤ 2147483647 → c ≤ 2147483647 → HasFaultAfter (opening version v c) bytes (Syntax number)
+lines_unended bytes rest number lines so one version v c v_fits c_fits =
+    lines_stop_syntax bytes rest number lines so rest [] one version v c v_fits c_fits (λ p e. no_line_of rest (item_words (a_proof p)) one e) (λ e. no_line_of rest (item_words the_tree) one e)
 
 -- ---- a proof line's line
 

@@ -13,6 +13,7 @@ use Rattle.plaintext.proofs.Cuts.{no_line_of}
 use Rattle.semantics.specs.declared.state.Step.{Step}
 use Rattle.prooflog.specs.declared.evidence.Evidence.TheVariants.{Schedule}
 use Rattle.prooflog.specs.declared.fault.EvidenceFault.TheVariants.{Syntax, Range, TooLarge}
+use Rattle.prooflog.specs.declared.refutation.Version.TheVariants.{One}
 use Rattle.prooflog.specs.declared.step.WrittenStep.{WrittenStep}
 use Rattle.prooflog.specs.Steps.{written, step_words, step_line, IsStepInRange, IsSchedule}
 use Rattle.prooflog.specs.Refutations.{item_line, items}
@@ -25,7 +26,7 @@ use Rattle.prooflog.proofs.Exact.{kinds_differ, below_heading}
 
 -- the lines above the steps
 abbrev pub above_steps : List (List ℕ)
-above_steps = heading_line ∷ schedule_line ∷ []
+above_steps = heading_line One ∷ schedule_line ∷ []
 
 -- what begins with the lines of some steps is a schedule, and goes on with another step or ends
 pub record NextStep (w : Written) (done : List WrittenStep) (line : List ℕ) : Type 0 where
@@ -35,10 +36,10 @@ pub record NextStep (w : Written) (done : List WrittenStep) (line : List ℕ) : 
 
 next_step : (w : Written) (done : List WrittenStep) (line : List ℕ) → BeginsWith ((above_steps ++ map step_line done) ++ line ∷ []) (to_end (written_lines w)) → NextStep w done line
 next_step (as_schedule ss) done line (more, e) =
-    let below = below_heading (map step_line ss ++ [] ∷ []) ((map step_line done ++ line ∷ []) ++ more) schedule_line schedule_line e in
+    let below = below_heading One One (map step_line ss ++ [] ∷ []) ((map step_line done ++ line ∷ []) ++ more) schedule_line schedule_line e in
     record { all = ss; is = refl; next = next_or_end step_line step_line_injective step_line_nonempty ss done line more (below.1 ∙ append_assoc (map step_line done) (line ∷ []) more) }
 next_step (as_refutation r) done line (more, e) =
-    absurd (kinds_differ r.variables r.clauses (sym (below_heading (map item_line (items r) ++ [] ∷ []) ((map step_line done ++ line ∷ []) ++ more) (refutation_line r.variables r.clauses) schedule_line e).0))
+    absurd (kinds_differ r.variables r.clauses (sym (below_heading r.version One (map item_line (items r) ++ [] ∷ []) ((map step_line done ++ line ∷ []) ++ more) (refutation_line r.variables r.clauses) schedule_line e).0))
 
 -- one of the steps is in range where all are
 step_in_all : (all done : List WrittenStep) (step : WrittenStep) (others : List WrittenStep) → all ≡ done ++ step ∷ others → All IsStepInRange all → IsStepInRange step
@@ -93,7 +94,7 @@ module _ (bytes rest : List ℕ) (number : ℕ) (steps : List Step) (so : SoFar 
 
   with_step : (step : WrittenStep) → step_line step ≡ line → BeginsWith ((above_steps ++ map step_line (map written steps)) ++ line ∷ []) (to_end (written_lines (as_schedule (map written steps ++ step ∷ []))))
   with_step step spelled =
-      ([] ∷ [], ap (λ (ls : List (List ℕ)). to_end (heading_line ∷ schedule_line ∷ ls)) (map_push step_line (map written steps) step ∙ ap (λ (l : List ℕ). map step_line (map written steps) ++ l ∷ []) spelled))
+      ([] ∷ [], ap (λ (ls : List (List ℕ)). to_end (heading_line One ∷ schedule_line ∷ ls)) (map_push step_line (map written steps) step ∙ ap (λ (l : List ℕ). map step_line (map written steps) ++ l ∷ []) spelled))
 
   pub stop_syntax : ((step : WrittenStep) → step_line step ≢ line) → line ≢ [] → HasFaultAfter above_steps bytes (Syntax number)
   stop_syntax no_step no_end = stops_syntax above_steps bytes (map step_line (map written steps)) line after cut good number at (λ (w, keeps, begins). elim (next_step w (map written steps) line begins).next [
@@ -149,7 +150,7 @@ schedule_text steps out limits e =
     let lines : List (List ℕ) = map step_line (map written steps) in
     record {
       limits = limits;
-      text = e ∙ ap (λ (text : List ℕ). heading_line ++ (schedule_line ++ text)) (sym (flat_map-map (λ line. line) step_line (map written steps)))
-          ∙ ap (λ (text : List ℕ). heading_line ++ text) (sym (flat_map-cons (λ line. line) schedule_line lines))
-          ∙ sym (flat_map-cons (λ line. line) heading_line (schedule_line ∷ lines));
+      text = e ∙ ap (λ (text : List ℕ). heading_line One ++ (schedule_line ++ text)) (sym (flat_map-map (λ line. line) step_line (map written steps)))
+          ∙ ap (λ (text : List ℕ). heading_line One ++ text) (sym (flat_map-cons (λ line. line) schedule_line lines))
+          ∙ sym (flat_map-cons (λ line. line) (heading_line One) (schedule_line ∷ lines));
     }

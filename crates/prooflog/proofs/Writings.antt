@@ -10,6 +10,8 @@ use Rattle.plaintext.specs.Plain.{numeral, spaced}
 use Rattle.plaintext.proofs.Spaced.{spaced-append, spaced-join}
 use Rattle.refutations.specs.Proofs.{ProofLine}
 use Rattle.prooflog.specs.declared.evidence.Evidence.TheVariants.{Refutation}
+use Rattle.prooflog.specs.declared.refutation.Version.{Version}
+use Rattle.prooflog.specs.declared.refutation.Version.TheVariants.{One, Two}
 use Rattle.prooflog.specs.Refutations.{ClaimedRefutation, a_proof, the_tree, a_node, literal_word, item_line, items, IsRefutation}
 use Rattle.prooflog.specs.Grammar.{heading_line, refutation_line, IsEvidenceText}
 
@@ -43,23 +45,29 @@ proof_text out line =
 
 -- ---- lines
 
+-- the two headings of a refutation
+headings_text : (version : Version) (v c : ℕ) → ((((heading_line version ++ codes "refutation ") ++ numeral v) ++ 32 ∷ []) ++ numeral c) ++ 10 ∷ [] ≡ heading_line version ++ refutation_line v c
+headings_text One v c = ap (λ (t : List ℕ). heading_line One ++ (codes "refutation " ++ (t ++ 10 ∷ []))) (append_assoc (numeral v) (32 ∷ []) (numeral c))
+headings_text Two v c = ap (λ (t : List ℕ). heading_line Two ++ (codes "refutation " ++ (t ++ 10 ∷ []))) (append_assoc (numeral v) (32 ∷ []) (numeral c))
+
 -- the text of a refutation
 pub refutation_text : (r : ClaimedRefutation) (out : List ℕ) → IsRefutation r
-    → out ≡ (((((((codes "evidence 1" ++ 10 ∷ codes "refutation ") ++ numeral r.variables) ++ 32 ∷ []) ++ numeral r.clauses) ++ 10 ∷ []) ++ flat_map item_line (map a_proof r.lines)) ++ (codes "tree" ++ 10 ∷ [])) ++ flat_map item_line (map a_node r.nodes)
+    → out ≡ (((((((heading_line r.version ++ codes "refutation ") ++ numeral r.variables) ++ 32 ∷ []) ++ numeral r.clauses) ++ 10 ∷ []) ++ flat_map item_line (map a_proof r.lines)) ++ (codes "tree" ++ 10 ∷ [])) ++ flat_map item_line (map a_node r.nodes)
     → IsEvidenceText out (Refutation r)
 refutation_text r out limits e =
-    let front : List ℕ = ((((codes "evidence 1" ++ 10 ∷ codes "refutation ") ++ numeral r.variables) ++ 32 ∷ []) ++ numeral r.clauses) ++ 10 ∷ [] in
+    let heading : List ℕ = heading_line r.version in
+    let front : List ℕ = ((((heading ++ codes "refutation ") ++ numeral r.variables) ++ 32 ∷ []) ++ numeral r.clauses) ++ 10 ∷ [] in
     let second : List ℕ = refutation_line r.variables r.clauses in
     let above : List ℕ = flat_map item_line (map a_proof r.lines) in
     let below : List ℕ = flat_map item_line (map a_node r.nodes) in
-    let headings : front ≡ heading_line ++ second = ap (λ (t : List ℕ). codes "evidence 1" ++ 10 ∷ (codes "refutation " ++ (t ++ 10 ∷ []))) (append_assoc (numeral r.variables) (32 ∷ []) (numeral r.clauses)) in
+    let headings : front ≡ heading ++ second = headings_text r.version r.variables r.clauses in
     let body : above ++ (item_line the_tree ++ below) ≡ flat_map (λ line. line) (map item_line (items r)) =
     ap (λ (t : List ℕ). above ++ t) (sym (flat_map-cons item_line the_tree (map a_node r.nodes))) ∙ sym (flat_map-append item_line (map a_proof r.lines) (the_tree ∷ map a_node r.nodes))
     ∙ sym (flat_map-map (λ line. line) item_line (items r)) in
     record {
       limits = limits;
       text = e ∙ append_assoc (front ++ above) (item_line the_tree) below ∙ append_assoc front above (item_line the_tree ++ below) ∙ (λ i. headings i ++ body i)
-          ∙ append_assoc heading_line second (flat_map (λ line. line) (map item_line (items r)))
-          ∙ ap (λ (text : List ℕ). heading_line ++ text) (sym (flat_map-cons (λ line. line) second (map item_line (items r))))
-          ∙ sym (flat_map-cons (λ line. line) heading_line (second ∷ map item_line (items r)));
+          ∙ append_assoc heading second (flat_map (λ line. line) (map item_line (items r)))
+          ∙ ap (λ (text : List ℕ). heading ++ text) (sym (flat_map-cons (λ line. line) second (map item_line (items r))))
+          ∙ sym (flat_map-cons (λ line. line) heading (second ∷ map item_line (items r)));
     }

@@ -4,6 +4,8 @@ use Rattle.std.specs.List.{flat_map}
 use Rattle.plaintext.specs.Plain.{numeral, line_of}
 use Rattle.prooflog.specs.declared.evidence.Evidence.{Evidence}
 use Rattle.prooflog.specs.declared.evidence.Evidence.TheVariants.{Schedule, Refutation}
+use Rattle.prooflog.specs.declared.refutation.Version.{Version}
+use Rattle.prooflog.specs.declared.refutation.Version.TheVariants.{One, Two}
 use Rattle.prooflog.specs.declared.step.WrittenStep.{WrittenStep}
 use Rattle.prooflog.specs.Steps.{written, step_line, IsSchedule}
 use Rattle.prooflog.specs.Refutations.{ClaimedRefutation, item_line, items, IsRefutation}
@@ -13,9 +15,10 @@ pub data Written : Type 0 where
   as_schedule : List WrittenStep → Written
   as_refutation : ClaimedRefutation → Written
 
--- The first line of each evidence is `evidence 1`.
-abbrev pub heading_line : List ℕ
-heading_line = line_of (codes "evidence" ∷ codes "1" ∷ [])
+-- The first line of an evidence is `evidence 1`, or `evidence 2`.
+abbrev pub heading_line : Version → List ℕ
+heading_line One = line_of (codes "evidence" ∷ codes "1" ∷ [])
+heading_line Two = line_of (codes "evidence" ∷ codes "2" ∷ [])
 
 -- The second line of a schedule is `schedule`.
 abbrev pub schedule_line : List ℕ
@@ -25,10 +28,10 @@ schedule_line = line_of (codes "schedule" ∷ [])
 abbrev pub refutation_line : ℕ → ℕ → List ℕ
 refutation_line variables clauses = line_of (codes "refutation" ∷ numeral variables ∷ numeral clauses ∷ [])
 
--- After the two headings each step of a schedule and each item of a refutation has its line.
+-- After the two headings each step of a schedule and each item of a refutation has its line. Schedules have version 1 alone.
 abbrev pub written_lines : Written → List (List ℕ)
-written_lines (as_schedule ss) = heading_line ∷ schedule_line ∷ map step_line ss
-written_lines (as_refutation r) = heading_line ∷ refutation_line r.variables r.clauses ∷ map item_line (items r)
+written_lines (as_schedule ss) = heading_line One ∷ schedule_line ∷ map step_line ss
+written_lines (as_refutation r) = heading_line r.version ∷ refutation_line r.variables r.clauses ∷ map item_line (items r)
 
 -- An evidence is written so.
 abbrev pub written_of : Evidence → Written

@@ -14,6 +14,8 @@ use Rattle.prooflog.specs.declared.proof_line.Unread.TheVariants as unread
 use Rattle.prooflog.specs.declared.ahead.Part.{Part}
 use Rattle.prooflog.specs.declared.reader.Kind.{Kind}
 use Rattle.prooflog.specs.declared.reader.Kind.TheVariants.{Schedule, Refutation}
+use Rattle.prooflog.specs.declared.refutation.Version.{Version}
+use Rattle.prooflog.specs.declared.refutation.Version.TheVariants.{One}
 use Rattle.prooflog.specs.declared.step.WrittenStep.{WrittenStep}
 use Rattle.prooflog.specs.declared.step.WrittenStep.TheVariants.{Issue, Match, See}
 use Rattle.prooflog.specs.Refutations.{proof_words, is_line_in_range, item_line, a_proof, the_tree}
@@ -72,12 +74,12 @@ HasFaultAfter above bytes fault =
     (before : List (List ℕ)) × (line : List ℕ) × IsFirstFaultyLine (λ front. CanGoOn (above ++ front)) bytes before line × IsWhy fault (above ++ before) line
 
 -- the lines above the proof lines of a refutation
-abbrev pub opening : ℕ → ℕ → List (List ℕ)
-opening variables clauses = heading_line ∷ refutation_line variables clauses ∷ []
+abbrev pub opening : Version → ℕ → ℕ → List (List ℕ)
+opening version variables clauses = heading_line version ∷ refutation_line variables clauses ∷ []
 
 -- the lines above the nodes of a refutation
-abbrev pub above_tree : ℕ → ℕ → List ProofLine → List (List ℕ)
-above_tree variables clauses lines = opening variables clauses ++ map item_line (map a_proof lines ++ the_tree ∷ [])
+abbrev pub above_tree : Version → ℕ → ℕ → List ProofLine → List (List ℕ)
+above_tree version variables clauses lines = opening version variables clauses ++ map item_line (map a_proof lines ++ the_tree ∷ [])
 
 -- what stands above the nodes is within the limits
 pub record FitsAbove (variables clauses : ℕ) (lines : List ProofLine) : Type 0 where
@@ -116,5 +118,5 @@ AreParts bytes parts = (place : ℕ) (part : Option Part) → slice_get parts pl
 
 -- the text begins with the two headings of this kind of evidence
 abbrev pub IsOpened : List ℕ → Kind → List ℕ → Type 0
-IsOpened bytes Schedule rest = text_lines bytes ≡ (heading_line ∷ schedule_line ∷ []) ++ text_lines rest
-IsOpened bytes (Refutation v c) rest = (text_lines bytes ≡ opening v c ++ text_lines rest) × (v ≤ 2147483647) × (c ≤ 2147483647)
+IsOpened bytes Schedule rest = text_lines bytes ≡ (heading_line One ∷ schedule_line ∷ []) ++ text_lines rest
+IsOpened bytes (Refutation version v c) rest = (text_lines bytes ≡ opening version v c ++ text_lines rest) × (v ≤ 2147483647) × (c ≤ 2147483647)

@@ -6,10 +6,12 @@ use Rattle.clauses.specs.Clauses.{Literal, rises, is_within}
 use Rattle.refutations.specs.Proofs.{ProofLine, is_tree, are_numbers, are_numbered}
 use Rattle.refutations.specs.declared.tree.Node.{Node}
 use Rattle.refutations.specs.declared.tree.Node.TheVariants.{Split, Leaf}
+use Rattle.prooflog.specs.declared.refutation.Version.{Version}
 
 -- A refutation is said to refute a formula with so many variables and clauses, by these proof lines, and by the tree of these nodes, which
--- stand in preorder.
+-- stand in preorder. Its version says whether it may have lines that aren't needed: one of version 2 may not.
 pub record ClaimedRefutation : Type 0 where
+  pub version : Version
   pub variables : ℕ
   pub clauses : ℕ
   pub lines : List ProofLine

@@ -1,7 +1,7 @@
 //! The text of an evidence: read, written, and what is wrong with a text that is none. The text of a formula: written.
 //!
 //! An evidence is a schedule, the steps of a run, or a refutation, proof lines and a tree over a
-//! formula. Its text is the line `evidence 1`, a line for the kind of evidence, and then a line for
+//! formula. Its text is a line with its version, a line for the kind of evidence, and then a line for
 //! each step, or for each proof line and node. Ranks count from 0, the numbers of calls, variables
 //! and clauses in a text from 1. `specs/Grammar.antt` defines the text, `specs/Fault.antt` what is
 //! wrong with bytes that are none, `specs/FormulaText.antt` the text of a formula.
@@ -27,7 +27,7 @@ pub use fault::EvidenceFault;
 pub use formula_text::write_formula;
 pub use laws::{depths_are_of_the_tree, one_fault, one_value, text_has_no_fault};
 pub use reader::{read_evidence, read_evidence_in};
-pub use refutation::{MOST_DEPTH, MOST_LINES, MOST_NODES, MakeRefutationFault, Refutation};
+pub use refutation::{MOST_DEPTH, MOST_LINES, MOST_NODES, MakeRefutationFault, Refutation, Version};
 pub use schedule::Schedule;
 pub use step::{find_word, put_find};
 pub use writer::{put_hints, put_literals, write_evidence};

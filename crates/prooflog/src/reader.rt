@@ -1,15 +1,17 @@
 //! The reader.
 
-ghost use Rattle.std.specs.Prelude.{◌≡◌, ◌+◌, ◌++◌, ◌∷◌, [], length, map, IfOk, IfErr};
+ghost use Rattle.std.specs.Prelude.{◌≡◌, ◌≢◌, ◌+◌, ◌++◌, ◌∷◌, [], codes, length, map, true, false, IfNone, IfSome, IfOk, IfErr};
 ghost use Rattle.plaintext.specs.Plain.{text_lines};
 ghost use Rattle.prooflog.specs.Steps.{IsSchedule, written, step_line};
 ghost use Rattle.prooflog.specs.Grammar.{IsEvidenceText, heading_line, schedule_line};
+ghost use Rattle.prooflog.specs.declared.refutation.Version.TheVariants.{One};
 ghost use Rattle.prooflog.specs.Fault.{HasEvidenceFault};
 ghost use Rattle.prooflog.specs.Reading.{HasFaultAfter, IsOpened, LinesSoFar};
 
 use crate::ahead::{Ahead, lines_ahead, no_lines};
 use crate::evidence::Evidence;
 use crate::fault::EvidenceFault;
+use crate::refutation::Version;
 use crate::refutation_reader::{counts_of, read_refutation};
 use crate::schedule::{MOST_STEPS, Schedule};
 use crate::step::{step_in_range, step_of};
@@ -23,7 +25,7 @@ use std::thread::Threads;
 fn read_steps(alloc: Global, bytes: &[u8]) -> Result<Schedule, EvidenceFault>
     ensures limits { IfOk result (λ steps. IsSchedule steps) }
     ensures found { IfOk result (λ steps. text_lines bytes.now ≡ map step_line (map written steps) ++ [] ∷ []) }
-    ensures fault { IfErr result (λ fault. HasFaultAfter (heading_line ∷ schedule_line ∷ []) bytes.now fault) }
+    ensures fault { IfErr result (λ fault. HasFaultAfter (heading_line One ∷ schedule_line ∷ []) bytes.now fault) }
 {
     let mut steps: Vec<Step> = Vec::new(alloc);
     let mut number: u32 = 3;
@@ -54,7 +56,11 @@ pub enum Kind {
     /// Steps.
     Schedule,
     /// Proof lines and a tree, for a formula with these counts.
-    Refutation { variables: u32, clauses: u32 },
+    Refutation {
+        version: Version,
+        variables: u32,
+        clauses: u32,
+    },
 }
 
 /// The kind of an evidence's text, and what follows its first two lines.
@@ -62,6 +68,31 @@ pub enum Kind {
 struct Opening<'a> {
     kind: Kind,
     rest: &'a [u8],
+}
+
+/// The version that an evidence's first line tells, which stands here without its LF.
+fn version_of(line: &[u8]) -> Option<Version>
+    ensures none { IfNone result ((version : Version) → heading_line version ≢ line.now ++ 10 ∷ []) }
+    ensures some { IfSome result (λ version. heading_line version ≡ line.now ++ 10 ∷ []) }
+{
+    if is_word(line, "evidence 1") {
+        return Some(Version::One);
+    }
+    if is_word(line, "evidence 2") {
+        return Some(Version::Two);
+    }
+    None
+}
+
+/// Whether an evidence of this version is a schedule, as its second line says. Schedules have version 1 alone.
+fn is_schedule(version: Version, line: &[u8]) -> bool
+    ensures yes { result ≡ true → (version ≡ Version.One) × (line.now ≡ codes "schedule") }
+    ensures no { result ≡ false → version ≡ Version.One → line.now ≢ codes "schedule" }
+{
+    match version {
+        Version::One => is_word(line, "schedule"),
+        Version::Two => false,
+    }
 }
 
 /// The opening of a text, or the fault of the first or second line.
@@ -72,13 +103,13 @@ fn opening_of(bytes: &[u8]) -> Result<Opening<'_>, EvidenceFault>
     let Some((heading, rest)) = next_line(bytes) else {
         return Err(EvidenceFault::Syntax { line: 1 });
     };
-    if !is_word(heading, "evidence 1") {
+    let Some(version) = version_of(heading) else {
         return Err(EvidenceFault::Syntax { line: 1 });
-    }
+    };
     let Some((kind, rest)) = next_line(rest) else {
         return Err(EvidenceFault::Syntax { line: 2 });
     };
-    if is_word(kind, "schedule") {
+    if is_schedule(version, kind) {
         return Ok(Opening {
             kind: Kind::Schedule,
             rest,
@@ -91,7 +122,11 @@ fn opening_of(bytes: &[u8]) -> Result<Opening<'_>, EvidenceFault>
         return Err(EvidenceFault::Range { line: 2 });
     }
     Ok(Opening {
-        kind: Kind::Refutation { variables, clauses },
+        kind: Kind::Refutation {
+            version,
+            variables,
+            clauses,
+        },
         rest,
     })
 }
@@ -113,12 +148,14 @@ fn read_opened<'a>(
             Ok(schedule) => Ok(Evidence::Schedule(schedule)),
             Err(fault) => Err(fault),
         },
-        Kind::Refutation { variables, clauses } => {
-            match read_refutation(alloc, opening.rest, variables, clauses, before) {
-                Ok(refutation) => Ok(Evidence::Refutation(refutation)),
-                Err(fault) => Err(fault),
-            }
-        }
+        Kind::Refutation {
+            version,
+            variables,
+            clauses,
+        } => match read_refutation(alloc, opening.rest, version, variables, clauses, before) {
+            Ok(refutation) => Ok(Evidence::Refutation(refutation)),
+            Err(fault) => Err(fault),
+        },
     }
 }
 

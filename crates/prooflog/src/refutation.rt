@@ -19,11 +19,21 @@ pub const MOST_NODES: usize = 65_536;
 /// How deep a node of the tree may stand; the root's depth is 0.
 pub const MOST_DEPTH: u32 = 64;
 
+/// Which rules a refutation is held to. Its text begins with the number.
+#[derive(Clone, Copy, PartialEq, Eq)]
+pub enum Version {
+    /// Lines that aren't needed may stand among the others.
+    One,
+    /// Each line is needed: a leaf of the tree names it, or a hint of a later line. The checker asks this, not the reader.
+    Two,
+}
+
 /// What is said to refute a formula: how many variables and clauses the formula has, each number
 /// from 0 to 2,147,483,647; at most 1,000,000 proof lines, numbered after the clauses; and a tree of
 /// at most 65,536 nodes, none deeper than 64.
 #[derive(Drop)]
 pub struct Refutation {
+    version: Version,
     variables: u32,
     clauses: u32,
     lines: Vec<Line>,
@@ -35,9 +45,9 @@ impl Model for Refutation {
 
     ghost Value = { ClaimedRefutation };
 
-    ghost view = { λ r. record { variables = r.variables; clauses = r.clauses; lines = r.lines.items; nodes = r.tree } };
+    ghost view = { λ r. record { version = r.version; variables = r.variables; clauses = r.clauses; lines = r.lines.items; nodes = r.tree } };
 
-    ghost invariant = { λ r. IsRefutation (record { variables = r.variables; clauses = r.clauses; lines = r.lines.items; nodes = r.tree }) };
+    ghost invariant = { λ r. IsRefutation (record { version = r.version; variables = r.variables; clauses = r.clauses; lines = r.lines.items; nodes = r.tree }) };
 }
 
 /// Why no refutation was made.
@@ -108,14 +118,15 @@ impl Refutation {
     /// The refutation of these parts, where they are within the limits.
     pub fn make(
         alloc: Global,
+        version: Version,
         variables: u32,
         clauses: u32,
         lines: Vec<Line>,
         tree: ProofTree,
     ) -> Result<Refutation, MakeRefutationFault>
-        ensures made { IfOk result (λ r. r ≡ record { variables = variables; clauses = clauses; lines = lines.items; nodes = tree }) }
+        ensures made { IfOk result (λ r. r ≡ record { version = version; variables = variables; clauses = clauses; lines = lines.items; nodes = tree }) }
         ensures limits { IfOk result (λ r. IsRefutation r) }
-        ensures too_large { result ≡ Err MakeRefutationFault.TooLarge → IsRefutation (record { variables = variables; clauses = clauses; lines = lines.items; nodes = tree }) → ⊥ }
+        ensures too_large { result ≡ Err MakeRefutationFault.TooLarge → IsRefutation (record { version = version; variables = variables; clauses = clauses; lines = lines.items; nodes = tree }) → ⊥ }
     {
         if variables > LARGEST_NUMBER || clauses > LARGEST_NUMBER {
             return Err(MakeRefutationFault::TooLarge);
@@ -130,6 +141,7 @@ impl Refutation {
             return Err(MakeRefutationFault::TooLarge);
         }
         Ok(Refutation {
+            version,
             variables,
             clauses,
             lines,
@@ -139,20 +151,29 @@ impl Refutation {
 
     /// The refutation of parts that are known to be within the limits.
     pub(crate) fn of_checked(
+        version: Version,
         variables: u32,
         clauses: u32,
         lines: Vec<Line>,
         tree: ProofTree,
     ) -> Refutation
-        requires { IsRefutation (record { variables = variables; clauses = clauses; lines = lines.items; nodes = tree }) }
-        ensures { result ≡ record { variables = variables; clauses = clauses; lines = lines.items; nodes = tree } }
+        requires { IsRefutation (record { version = version; variables = variables; clauses = clauses; lines = lines.items; nodes = tree }) }
+        ensures { result ≡ record { version = version; variables = variables; clauses = clauses; lines = lines.items; nodes = tree } }
     {
         Refutation {
+            version,
             variables,
             clauses,
             lines,
             tree,
         }
+    }
+
+    /// Which rules it is held to.
+    pub fn version(&self) -> Version
+        ensures { result ≡ self.now.version }
+    {
+        self.version
     }
 
     /// How many variables the formula is said to have, from 0 to 2,147,483,647.

@@ -12,7 +12,7 @@ use crate::ahead::Ahead;
 use crate::fault::EvidenceFault;
 use crate::node::node_of;
 use crate::proof_line::{Unread, proof_line_of};
-use crate::refutation::{MOST_DEPTH, MOST_LINES, MOST_NODES, Refutation, push_children};
+use crate::refutation::{MOST_DEPTH, MOST_LINES, MOST_NODES, Refutation, Version, push_children};
 use crate::words::cut_word;
 use plaintext::{is_word, next_line, number_of};
 use refutations::{Line, Node, ProofTree, is_numbered};
@@ -54,7 +54,7 @@ fn read_lines<'a>(
     ensures cut { IfOk result (λ found. text_lines bytes.now ≡ map item_line (map a_proof found.0.items ++ the_tree ∷ []) ++ text_lines found.1.now) }
     ensures in_range { IfOk result (λ found. IsTrue (list_all is_line_in_range found.0.items)) }
     ensures few { IfOk result (λ found. length found.0.items ≤ 1000000) }
-    ensures fault { IfErr result (λ fault. (v c : ℕ) → v ≤ 2147483647 → c ≤ 2147483647 → HasFaultAfter (opening v c) bytes.now fault) }
+    ensures fault { IfErr result (λ fault. (version : Version) (v c : ℕ) → v ≤ 2147483647 → c ≤ 2147483647 → HasFaultAfter (opening version v c) bytes.now fault) }
 {
     let Ahead {
         mut lines,
@@ -97,7 +97,7 @@ fn read_nodes(alloc: Global, bytes: &[u8], first: u32) -> Result<Vec<Node>, Evid
     ensures small { IfOk result (λ nodes. IsSmall [] nodes.items) }
     ensures numbered { IfOk result (λ nodes. IsTrue (are_numbered nodes.items)) }
     ensures tree { IfOk result (λ nodes. IsTrue (is_tree nodes.items)) }
-    ensures fault { IfErr result (λ fault. (v c : ℕ) (lines : List ProofLine) → FitsAbove v c lines → first ≡ length lines + 4 → HasFaultAfter (above_tree v c lines) bytes.now fault) }
+    ensures fault { IfErr result (λ fault. (version : Version) (v c : ℕ) (lines : List ProofLine) → FitsAbove v c lines → first ≡ length lines + 4 → HasFaultAfter (above_tree version v c lines) bytes.now fault) }
 {
     let mut nodes: Vec<Node> = Vec::new(alloc);
     let mut waiting: Vec<u32> = Vec::new(alloc);
@@ -132,6 +132,7 @@ fn read_nodes(alloc: Global, bytes: &[u8], first: u32) -> Result<Vec<Node>, Evid
 pub fn read_refutation<'a>(
     alloc: Global,
     bytes: &'a [u8],
+    version: Version,
     variables: u32,
     clauses: u32,
     before: Ahead<'a>,
@@ -139,10 +140,10 @@ pub fn read_refutation<'a>(
     requires variables { variables ≤ 2147483647 }
     requires clauses { clauses ≤ 2147483647 }
     requires before { LinesSoFar bytes.now before.rest.now (3 + length before.lines.items) before.lines.items }
-    ensures counts { IfOk result (λ r. (r.variables ≡ variables) × (r.clauses ≡ clauses)) }
+    ensures counts { IfOk result (λ r. (r.version ≡ version) × (r.variables ≡ variables) × (r.clauses ≡ clauses)) }
     ensures limits { IfOk result (λ r. IsRefutation r) }
     ensures cut { IfOk result (λ r. text_lines bytes.now ≡ to_end (map item_line (items r))) }
-    ensures fault { IfErr result (λ fault. HasFaultAfter (opening variables clauses) bytes.now fault) }
+    ensures fault { IfErr result (λ fault. HasFaultAfter (opening version variables clauses) bytes.now fault) }
 {
     let (lines, rest) = match read_lines(alloc, bytes, before) {
         Ok(found) => found,
@@ -153,7 +154,7 @@ pub fn read_refutation<'a>(
         Err(fault) => return Err(fault),
     };
     match ProofTree::make(nodes) {
-        Ok(tree) => Ok(Refutation::of_checked(variables, clauses, lines, tree)),
+        Ok(tree) => Ok(Refutation::of_checked(version, variables, clauses, lines, tree)),
         Err(_nodes) => unreachable!(),
     }
 }

@@ -6,11 +6,11 @@ ghost use Rattle.plaintext.specs.Plain.{numeral, spaced};
 ghost use Rattle.refutations.specs.Proofs.{ProofLine};
 ghost use Rattle.prooflog.specs.Steps.{step_line, written, IsSchedule};
 ghost use Rattle.prooflog.specs.Refutations.{literal_word, item_line, a_proof, a_node};
-ghost use Rattle.prooflog.specs.Grammar.{IsEvidenceText};
+ghost use Rattle.prooflog.specs.Grammar.{IsEvidenceText, heading_line};
 
 use crate::evidence::Evidence;
 use crate::node::put_node;
-use crate::refutation::Refutation;
+use crate::refutation::{Refutation, Version};
 use crate::schedule::Schedule;
 use crate::step::{put_step, written};
 use clauses::Lit;
@@ -104,12 +104,23 @@ fn put_nodes(out: &mut Vec<u8>, nodes: &[Node]) -> Result<(), AllocError>
     Ok(())
 }
 
+/// Writes the first line of an evidence of this version at the end.
+fn put_heading(out: &mut Vec<u8>, version: Version) -> Result<(), AllocError>
+    ensures { OnOk result (out.new.items ≡ out.old.items ++ heading_line version) }
+{
+    match version {
+        Version::One => out.extend_from_slice(b"evidence 1\n"),
+        Version::Two => out.extend_from_slice(b"evidence 2\n"),
+    }
+}
+
 /// The text of the refutation.
 fn write_refutation(alloc: Global, refutation: &Refutation) -> Result<Vec<u8>, AllocError>
     ensures { IfOk result (λ text. IsEvidenceText text.items (Evidence.Refutation refutation.now)) }
 {
     let mut out = Vec::new(alloc);
-    out.extend_from_slice(b"evidence 1\nrefutation ")?;
+    put_heading(&mut out, refutation.version())?;
+    out.extend_from_slice(b"refutation ")?;
     put_number(&mut out, refutation.variables())?;
     out.push(b' ')?;
     put_number(&mut out, refutation.clauses())?;

@@ -8,14 +8,14 @@ use Rattle.prooflog.proofs.refutation_reader.read_lines.Goals as goal
 pub returns-in-Err-Syntax-clause-fault : goal.returns-in-Err-Syntax-clause-fault
 returns-in-Err-Syntax-clause-fault c =
     let line = c.in-Some.line.now in
-    λ v clauses v_fits c_fits. lines_stop_syntax c.args.bytes.now c.loop-line.rest.now c.loop-line.number c.loop-line.lines.items c.loop-line.invariant (line ++ 10 ∷ []) (text_lines c.in-Some.after.now) c.in-Some.ensures.some v clauses v_fits c_fits
+    λ version v clauses v_fits c_fits. lines_stop_syntax c.args.bytes.now c.loop-line.rest.now c.loop-line.number c.loop-line.lines.items c.loop-line.invariant (line ++ 10 ∷ []) (text_lines c.in-Some.after.now) c.in-Some.ensures.some version v clauses v_fits c_fits
     (no_proof_line line (subst (IsUnread (words_of line)) c.in-Err-Syntax.field-0-is c.in-Err-Syntax.ensures.why)) (no_tree_line line (λ e. let t = c.is_word.ensures.1 e in let f = c.if-is_word.false in cc))
 
 pub returns-in-Err-Range-clause-fault : goal.returns-in-Err-Range-clause-fault
 returns-in-Err-Range-clause-fault c =
     let line = c.in-Some.line.now in
     let read = subst (IsUnread (words_of line)) c.in-Err-Range.field-0-is c.in-Err-Range.ensures.why in
-    λ v clauses v_fits c_fits. lines_stop_range c.args.bytes.now c.loop-line.rest.now c.loop-line.number c.loop-line.lines.items c.loop-line.invariant (line ++ 10 ∷ []) (text_lines c.in-Some.after.now) c.in-Some.ensures.some v clauses v_fits c_fits
+    λ version v clauses v_fits c_fits. lines_stop_range c.args.bytes.now c.loop-line.rest.now c.loop-line.number c.loop-line.lines.items c.loop-line.invariant (line ++ 10 ∷ []) (text_lines c.in-Some.after.now) c.in-Some.ensures.some version v clauses v_fits c_fits
     read.0 (proof_line_is line read.0 read.1) read.2
 
 pub returns-then-len-ge-MOST_LINES-clause-fault : goal.returns-then-len-ge-MOST_LINES-clause-fault
@@ -23,7 +23,7 @@ returns-then-len-ge-MOST_LINES-clause-fault c =
     let line = c.in-Some.line.now in
     let found = c.in-Ok.ensures.found in
     let full : 1000000 ≤ length c.loop-line.lines.items = grind (arith, common_steps, c.len.ensures, c.if-len-ge-MOST_LINES.true) in
-    λ v clauses v_fits c_fits. lines_stop_large c.args.bytes.now c.loop-line.rest.now c.loop-line.number c.loop-line.lines.items c.loop-line.invariant (line ++ 10 ∷ []) (text_lines c.in-Some.after.now) c.in-Some.ensures.some v clauses v_fits c_fits
+    λ version v clauses v_fits c_fits. lines_stop_large c.args.bytes.now c.loop-line.rest.now c.loop-line.number c.loop-line.lines.items c.loop-line.invariant (line ++ 10 ∷ []) (text_lines c.in-Some.after.now) c.in-Some.ensures.some version v clauses v_fits c_fits
     c.in-Ok.line (proof_line_is line c.in-Ok.line found.0) found.1 full
 
 pub loop-line-preserved : goal.loop-line-preserved

@@ -16,16 +16,16 @@ pub returns-in_default-node_of-clause-fault : goal.returns-in_default-node_of-cl
 returns-in_default-node_of-clause-fault c =
     let line = c.in-Some-next_line.line.now in
     let some : 0 < length c.loop-depth.waiting.items = omega (arith, ap length c.in-Some.ensures.items, length-append c.pop.new.self.items (c.in-Some.depth ∷ [])) in
-    λ v clauses lines fits placed. nodes_stop_syntax c.args.bytes.now c.loop-depth.rest.now c.args.first c.loop-depth.number c.loop-depth.nodes.items c.loop-depth.waiting.items c.loop-depth.invariant
-    (line ++ 10 ∷ []) (text_lines c.in-Some-next_line.after.now) c.in-Some-next_line.ensures.some v clauses lines fits placed some (no_node_line line c.in_default-node_of.ensures.none)
+    λ version v clauses lines fits placed. nodes_stop_syntax c.args.bytes.now c.loop-depth.rest.now c.args.first c.loop-depth.number c.loop-depth.nodes.items c.loop-depth.waiting.items c.loop-depth.invariant
+    (line ++ 10 ∷ []) (text_lines c.in-Some-next_line.after.now) c.in-Some-next_line.ensures.some version v clauses lines fits placed some (no_node_line line c.in_default-node_of.ensures.none)
 
 pub returns-then-not-is_numbered-clause-fault : goal.returns-then-not-is_numbered-clause-fault
 returns-then-not-is_numbered-clause-fault c =
     let line = c.in-Some-next_line.line.now in
     let read = c.in-Some-node_of.ensures.some in
     let some : 0 < length c.loop-depth.waiting.items = omega (arith, ap length c.in-Some.ensures.items, length-append c.pop.new.self.items (c.in-Some.depth ∷ [])) in
-    λ v clauses lines fits placed. nodes_stop_range c.args.bytes.now c.loop-depth.rest.now c.args.first c.loop-depth.number c.loop-depth.nodes.items c.loop-depth.waiting.items c.loop-depth.invariant
-    (line ++ 10 ∷ []) (text_lines c.in-Some-next_line.after.now) c.in-Some-next_line.ensures.some v clauses lines fits placed some read.0 (node_line_of line read.0 read.1)
+    λ version v clauses lines fits placed. nodes_stop_range c.args.bytes.now c.loop-depth.rest.now c.args.first c.loop-depth.number c.loop-depth.nodes.items c.loop-depth.waiting.items c.loop-depth.invariant
+    (line ++ 10 ∷ []) (text_lines c.in-Some-next_line.after.now) c.in-Some-next_line.ensures.some version v clauses lines fits placed some read.0 (node_line_of line read.0 read.1)
     (over_node read.0 c.in-Some-node_of.node read.2 (λ numbered. let known = c.is_numbered.ensures in let f = c.if-not-is_numbered.true in cc))
 
 pub returns-then-is_beyond-clause-fault : goal.returns-then-is_beyond-clause-fault
@@ -38,8 +38,8 @@ returns-then-is_beyond-clause-fault c =
       | inl h ↦ inl (grind (arith, common_steps, c.len.ensures, h))
       | inr h ↦ inr h
     ] in
-    λ v clauses lines fits placed. nodes_stop_large c.args.bytes.now c.loop-depth.rest.now c.args.first c.loop-depth.number c.loop-depth.nodes.items c.loop-depth.waiting.items c.loop-depth.invariant
-    (line ++ 10 ∷ []) (text_lines c.in-Some-next_line.after.now) c.in-Some-next_line.ensures.some v clauses lines fits placed c.pop.new.self.items c.in-Some.depth c.in-Some.ensures.items
+    λ version v clauses lines fits placed. nodes_stop_large c.args.bytes.now c.loop-depth.rest.now c.args.first c.loop-depth.number c.loop-depth.nodes.items c.loop-depth.waiting.items c.loop-depth.invariant
+    (line ++ 10 ∷ []) (text_lines c.in-Some-next_line.after.now) c.in-Some-next_line.ensures.some version v clauses lines fits placed c.pop.new.self.items c.in-Some.depth c.in-Some.ensures.items
     read.0 (node_line_of line read.0 read.1) (ap (λ node. is_number (number_of node)) (sym same) ∙ numbered) large
 
 pub loop-depth-preserved : goal.loop-depth-preserved
@@ -62,8 +62,8 @@ returns-then-not-is_empty-clause-fault c =
     let none : length c.loop-depth.waiting.items ≡ 0 = grind (arith, common_steps, ap length c.in_default.ensures.items, c.in_default.ensures.variant) in
     let left : 0 < length c.loop-depth.rest.now = grind (arith, common_steps, c.is_empty.ensures, c.if-not-is_empty.true) in
     let line = first_line c.loop-depth.rest.now left in
-    λ v clauses lines fits placed. nodes_stop_after c.args.bytes.now c.loop-depth.rest.now c.args.first c.loop-depth.number c.loop-depth.nodes.items c.loop-depth.waiting.items c.loop-depth.invariant
-    line.line line.after line.cut v clauses lines fits placed none line.some
+    λ version v clauses lines fits placed. nodes_stop_after c.args.bytes.now c.loop-depth.rest.now c.args.first c.loop-depth.number c.loop-depth.nodes.items c.loop-depth.waiting.items c.loop-depth.invariant
+    line.line line.after line.cut version v clauses lines fits placed none line.some
 
 pub returns-clause-cut : goal.returns-clause-cut
 returns-clause-cut c =

@@ -3,12 +3,14 @@ use Rattle.std.specs.Prelude.{codes}
 use Rattle.std.specs.List.{flat_map}
 use Rattle.plaintext.specs.Plain.{numeral}
 use Rattle.prooflog.specs.Refutations.{item_line, a_proof, a_node}
+use Rattle.prooflog.specs.Grammar.{heading_line}
 use Rattle.prooflog.proofs.Writings.{refutation_text}
 use Rattle.prooflog.proofs.writer.write_refutation.Goals as goal
 
 pub returns : goal.returns
 returns c =
-    let first = c.in_ok-extend_from_slice.ensures.items ∙ ap (λ (t : List ℕ). t ++ (codes "evidence 1" ++ 10 ∷ codes "refutation ")) c.new-out.ensures.items in
+    let heading = c.in_ok-put_heading.ensures ∙ (λ i. c.new-out.ensures.items i ++ heading_line (c.version.ensures i)) in
+    let first = c.in_ok-extend_from_slice.ensures.items ∙ ap (λ (t : List ℕ). t ++ codes "refutation ") heading in
     let variables = c.in_ok-put_number.ensures.written ∙ (λ i. first i ++ numeral (c.variables.ensures.same i)) in
     let space = c.in_ok-push.ensures.items ∙ ap (λ (t : List ℕ). t ++ 32 ∷ []) variables in
     let clauses = c.in_ok-put_number-2.ensures.written ∙ (λ i. space i ++ numeral (c.clauses.ensures.same i)) in
