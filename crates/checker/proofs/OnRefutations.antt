@@ -24,7 +24,10 @@ use Rattle.checker.specs.declared.reason.Reason.{Reason}
 use Rattle.checker.specs.declared.reason.Reason.TheVariants as reasons
 use Rattle.checker.specs.declared.reason.Verdict.{Verdict}
 use Rattle.checker.specs.declared.reason.Verdict.TheVariants as verdicts
-use Rattle.checker.specs.Verdicts.{HasFormula, HasCounts, IsRefutedBy, IsUnrefuted}
+use Rattle.trimming.specs.Needed.{Needed}
+use Rattle.trimming.proofs.MarkLaws.{one_unneeded, needed_have_none}
+use Rattle.prooflog.specs.declared.refutation.Version.TheVariants.{Two}
+use Rattle.checker.specs.Verdicts.{HasFormula, HasCounts, IsRefutedBy, IsUnneeded, IsUnrefuted}
 
 -- what each verdict says of a program and a refutation
 abbrev pub OnRefutation : Verdict → MpiProgram → ClaimedRefutation → Type 0
@@ -57,10 +60,15 @@ derived_has_no_fault f lines found derived first =
 abbrev refused : Reason → Verdict
 refused reason = verdicts.Refused reason
 
+abbrev AtNeeded : ClaimedRefutation → Verdict → Type 0
+AtNeeded claim v =
+    ((number : ℕ) × IsUnneeded number claim × (v ≡ refused (reasons.Unneeded number)))
+    ⊎ ((claim.version ≡ Two → Needed claim.clauses claim.lines claim.nodes) × (v ≡ verdicts.NoDeadlock))
+
 abbrev AtTree : Conjunction → ClaimedRefutation → Verdict → Type 0
 AtTree f claim v =
     ((fault : TreeFault) × HasTreeFault f claim.lines claim.nodes fault × (v ≡ refused (reasons.Tree fault)))
-    ⊎ (AcceptsTree f claim.lines claim.nodes × (v ≡ verdicts.NoDeadlock))
+    ⊎ (AcceptsTree f claim.lines claim.nodes × AtNeeded claim v)
 
 abbrev AtLines : Conjunction → ClaimedRefutation → Verdict → Type 0
 AtLines f claim v =
@@ -89,7 +97,7 @@ past_limits : (p : MpiProgram) (claim : ClaimedRefutation) (v : Verdict) → Has
 past_limits p claim v within at = inr (within.few_pairs, inr (within.few_events, inr (within.few_clauses, at)))
 
 point : (p : MpiProgram) (claim : ClaimedRefutation) (v : Verdict) → OnRefutation v p claim → AtPairs p claim v
-point p claim verdicts.NoDeadlock is = past_limits p claim verdicts.NoDeadlock is.counts.formula (inr (is.counts, inr (is.accepted.lines_derived, inr (is.accepted.tree, refl))))
+point p claim verdicts.NoDeadlock is = past_limits p claim verdicts.NoDeadlock is.counts.formula (inr (is.counts, inr (is.accepted.lines_derived, inr (is.accepted.tree, inr (is.needed, refl)))))
 point p claim verdicts.Deadlock is = absurd is
 point p claim (verdicts.Refused (reasons.Pairs pairing.TooMany)) is = inl (is, refl)
 point p claim (verdicts.Refused (reasons.Pairs pairing.Memory)) is = absurd is
@@ -100,6 +108,8 @@ point p claim (verdicts.Refused reasons.Counts) is = past_limits p claim (refuse
 point p claim (verdicts.Refused (reasons.Line found)) is = past_limits p claim (refused (reasons.Line found)) is.0.formula (inr (is.0, inl (found, is.1, refl)))
 point p claim (verdicts.Refused (reasons.Tree fault)) is =
     past_limits p claim (refused (reasons.Tree fault)) is.0.formula (inr (is.0, inr (is.1.0, inl (fault, is.1.1, refl))))
+point p claim (verdicts.Refused (reasons.Unneeded number)) is =
+    past_limits p claim (refused (reasons.Unneeded number)) is.0.formula (inr (is.0, inr (is.1.0, inr (is.1.1, inl (number, is.1.2, refl)))))
 point p claim (verdicts.Refused reasons.Memory) is = absurd is
 point p claim (verdicts.Refused (reasons.Read fault)) is = absurd is
 point p claim (verdicts.Refused (reasons.Resolve fault)) is = absurd is
@@ -117,12 +127,19 @@ here_or_below Here Past One Other v w reached apart below (inl a) (inr b) = absu
 here_or_below Here Past One Other v w reached apart below (inr a) (inl b) = absurd (apart b.0 a.0)
 here_or_below Here Past One Other v w reached apart below (inr a) (inr b) = below a.1 b.1
 
+at_needed : (claim : ClaimedRefutation) (v w : Verdict) → AtNeeded claim v → AtNeeded claim w → v ≡ w
+at_needed claim v w (inl a) (inl b) =
+    a.2 ∙ ap (λ (n : ℕ). refused (reasons.Unneeded n)) (one_unneeded claim.clauses claim.lines claim.nodes a.0 b.0 a.1.1 b.1.1) ∙ sym b.2
+at_needed claim v w (inl a) (inr b) = absurd (needed_have_none claim.clauses claim.lines claim.nodes a.0 (b.0 a.1.0) a.1.1)
+at_needed claim v w (inr a) (inl b) = absurd (needed_have_none claim.clauses claim.lines claim.nodes b.0 (a.0 b.1.0) b.1.1)
+at_needed claim v w (inr a) (inr b) = a.1 ∙ sym b.1
+
 at_tree : (f : Conjunction) (claim : ClaimedRefutation) (v w : Verdict) → AtTree f claim v → AtTree f claim w → v ≡ w
 at_tree f claim v w (inl a) (inl b) =
     a.2 ∙ ap (λ (x : TreeFault). refused (reasons.Tree x)) (one_tree_fault f claim.lines claim.nodes a.0 b.0 a.1 b.1) ∙ sym b.2
 at_tree f claim v w (inl a) (inr b) = absurd (accepted_has_no_fault f claim.lines claim.nodes a.0 b.0 a.1)
 at_tree f claim v w (inr a) (inl b) = absurd (accepted_has_no_fault f claim.lines claim.nodes b.0 a.0 b.1)
-at_tree f claim v w (inr a) (inr b) = a.1 ∙ sym b.1
+at_tree f claim v w (inr a) (inr b) = at_needed claim v w a.1 b.1
 
 at_lines : (f : Conjunction) (claim : ClaimedRefutation) (v w : Verdict) → AtLines f claim v → AtLines f claim w → v ≡ w
 at_lines f claim v w (inl a) (inl b) = a.2 ∙ ap (λ (x : FaultyLine). refused (reasons.Line x)) (one_first f claim.lines a.0 b.0 a.1 b.1) ∙ sym b.2

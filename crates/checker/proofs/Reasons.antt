@@ -16,6 +16,8 @@ use Rattle.refutations.specs.declared.tree_check.TreeFault.TheVariants as tree
 use Rattle.refutations.specs.Proofs.{ProofLine}
 use Rattle.refutations.specs.Refutations.{Accepts, AreDerived}
 use Rattle.refutations.specs.Trees.{HasTreeFault}
+use Rattle.trimming.specs.Needed.{Needed}
+use Rattle.prooflog.specs.declared.refutation.Version.TheVariants.{Two}
 use Rattle.checker.specs.declared.reason.Reason.{Reason}
 use Rattle.checker.specs.declared.reason.Reason.TheVariants as reasons
 use Rattle.checker.specs.declared.reason.NoRun.TheVariants as runs
@@ -33,6 +35,7 @@ is_no_run program evidence (reasons.Encode fault) is = absurd (let never = is.0 
 is_no_run program evidence reasons.Counts is = absurd (let never = is.0 in cc)
 is_no_run program evidence (reasons.Line found) is = absurd (let never = is.0 in cc)
 is_no_run program evidence (reasons.Tree fault) is = absurd (let never = is.0 in cc)
+is_no_run program evidence (reasons.Unneeded number) is = absurd (let never = is.0 in cc)
 is_no_run program evidence (reasons.Replay at) is = absurd (let never = is.0 in cc)
 is_no_run program evidence (reasons.NotStuck end) is = absurd (let never = is.0 in cc)
 
@@ -54,6 +57,7 @@ unshown_is_no_run program evidence p steps (reasons.Encode fault) text schedule 
 unshown_is_no_run program evidence p steps reasons.Counts text schedule why = absurd why
 unshown_is_no_run program evidence p steps (reasons.Line found) text schedule why = absurd why
 unshown_is_no_run program evidence p steps (reasons.Tree fault) text schedule why = absurd why
+unshown_is_no_run program evidence p steps (reasons.Unneeded number) text schedule why = absurd why
 
 memory_is_no_run : (program evidence : List ℕ) (reason : Reason) → reason ≡ reasons.Memory → IsNoRun program evidence (runs.Refused reason)
 memory_is_no_run program evidence reason e = subst (λ (r : Reason). IsNoRun program evidence (runs.Refused r)) (sym e) (tt, refl)
@@ -70,6 +74,7 @@ unrefuted_is_refused program evidence p claim (reasons.Encode fault) text refuta
 unrefuted_is_refused program evidence p claim reasons.Counts text refutation why = record { p = p; claim = claim; text = text; refutation = refutation; holds = why }
 unrefuted_is_refused program evidence p claim (reasons.Line found) text refutation why = record { p = p; claim = claim; text = text; refutation = refutation; holds = why }
 unrefuted_is_refused program evidence p claim (reasons.Tree fault) text refutation why = record { p = p; claim = claim; text = text; refutation = refutation; holds = why }
+unrefuted_is_refused program evidence p claim (reasons.Unneeded number) text refutation why = record { p = p; claim = claim; text = text; refutation = refutation; holds = why }
 unrefuted_is_refused program evidence p claim reasons.Memory text refutation why = tt
 unrefuted_is_refused program evidence p claim (reasons.Read fault) text refutation why = absurd why
 unrefuted_is_refused program evidence p claim (reasons.Resolve fault) text refutation why = absurd why
@@ -95,6 +100,7 @@ no_formula p claim (reasons.Evidence fault) why = absurd why
 no_formula p claim reasons.Counts why = absurd why
 no_formula p claim (reasons.Line found) why = absurd why
 no_formula p claim (reasons.Tree fault) why = absurd why
+no_formula p claim (reasons.Unneeded number) why = absurd why
 no_formula p claim (reasons.Replay at) why = absurd why
 no_formula p claim (reasons.NotStuck end) why = absurd why
 
@@ -108,6 +114,8 @@ unaccepted_is_unrefuted program evidence f claim of (reasons.Line found) why =
     (of.is.counts, subst (λ (g : Conjunction). IsUnaccepted (reasons.Line found) g claim) of.is.formula why)
 unaccepted_is_unrefuted program evidence f claim of (reasons.Tree fault) why =
     (of.is.counts, subst (λ (g : Conjunction). IsUnaccepted (reasons.Tree fault) g claim) of.is.formula why)
+unaccepted_is_unrefuted program evidence f claim of (reasons.Unneeded number) why =
+    (of.is.counts, subst (λ (g : Conjunction). IsUnaccepted (reasons.Unneeded number) g claim) of.is.formula why)
 unaccepted_is_unrefuted program evidence f claim of reasons.Memory why = absurd why
 unaccepted_is_unrefuted program evidence f claim of (reasons.Read fault) why = absurd why
 unaccepted_is_unrefuted program evidence f claim of (reasons.Resolve fault) why = absurd why
@@ -124,8 +132,8 @@ why_unaccepted program evidence f claim reason of (inr why) =
     unrefuted_is_refused program evidence of.p claim reason of.text of.refutation (unaccepted_is_unrefuted program evidence f claim of reason why)
 
 -- a claim that is accepted refutes the program
-pub accepted_refute : (program evidence : List ℕ) (f : Conjunction) (claim : ClaimedRefutation) → IsClaimOf program evidence f claim → Accepts f claim.lines claim.nodes → AreRefuted program evidence f claim
-accepted_refute program evidence f claim of accepts = record {
+pub accepted_refute : (program evidence : List ℕ) (f : Conjunction) (claim : ClaimedRefutation) → IsClaimOf program evidence f claim → Accepts f claim.lines claim.nodes → (claim.version ≡ Two → Needed claim.clauses claim.lines claim.nodes) → AreRefuted program evidence f claim
+accepted_refute program evidence f claim of accepts needed = record {
   p = of.p;
   text = of.text;
   refutation = of.refutation;
@@ -133,6 +141,7 @@ accepted_refute program evidence f claim of accepts = record {
   refuted = record {
     counts = of.is.counts;
     accepted = subst (λ (g : Conjunction). Accepts g claim.lines claim.nodes) of.is.formula accepts;
+    needed = needed;
   };
 }
 

@@ -16,9 +16,11 @@ use Rattle.semantics.specs.declared.state.Step.{Step}
 use Rattle.semantics.specs.declared.schedule.End.TheVariants as ends
 use Rattle.semantics.specs.Machine.{IsStuckRun, IsFinishedRun, IsLiveRun, StopsAt}
 use Rattle.refutations.specs.Refutations.{Accepts, AreDerived, IsFirstFaulty}
-use Rattle.refutations.specs.Trees.{HasTreeFault}
+use Rattle.refutations.specs.Trees.{AcceptsTree, HasTreeFault}
+use Rattle.trimming.specs.Needed.{Needed, IsFirstUnneeded}
 use Rattle.prooflog.specs.declared.evidence.Evidence.TheVariants.{Schedule, Refutation}
 use Rattle.prooflog.specs.declared.fault.EvidenceFault.TheVariants as proving
+use Rattle.prooflog.specs.declared.refutation.Version.TheVariants.{Two}
 use Rattle.prooflog.specs.Refutations.{ClaimedRefutation}
 use Rattle.prooflog.specs.Grammar.{IsEvidenceText}
 use Rattle.prooflog.specs.Fault.{HasEvidenceFault}
@@ -90,10 +92,12 @@ pub record HasCounts (p : MpiProgram) (claim : ClaimedRefutation) : Type 0 where
   pub variables : claim.variables ≡ (formula_of p).variables
   pub clauses : claim.clauses ≡ length (formula_of p).clauses
 
--- the refutation has the counts of the program's formula, and its lines and its tree are accepted for that formula
+-- the refutation has the counts of the program's formula, and its lines and its tree are accepted for that formula; one of version 2 has
+-- no line that is not needed
 pub record IsRefutedBy (p : MpiProgram) (claim : ClaimedRefutation) : Type 0 where
   pub counts : HasCounts p claim
   pub accepted : Accepts (formula_of p) claim.lines claim.nodes
+  pub needed : claim.version ≡ Two → Needed claim.clauses claim.lines claim.nodes
 
 -- the program's text has a value, the evidence's text is a refutation's, and it refutes the program
 abbrev pub Refutes : List ℕ → List ℕ → Type 0
@@ -107,20 +111,27 @@ pub record AreRefuted (program evidence : List ℕ) (f : Conjunction) (claim : C
   pub formula : f ≡ formula_of p
   pub refuted : IsRefutedBy p claim
 
--- why a refutation isn't accepted for a formula: its first line that isn't derived, else the first node that isn't accepted
+-- this is the first line of a refutation of version 2 that is not needed
+abbrev pub IsUnneeded : ℕ → ClaimedRefutation → Type 0
+IsUnneeded number claim = (claim.version ≡ Two) × IsFirstUnneeded claim.clauses claim.lines claim.nodes number
+
+-- why a refutation isn't accepted for a formula: its first line that isn't derived, else the first node that isn't accepted, else, in
+-- version 2, the first line that isn't needed
 abbrev pub IsUnaccepted : Reason → Conjunction → ClaimedRefutation → Type 0
 IsUnaccepted (reasons.Line found) f claim = IsFirstFaulty f claim.lines 0 found
 IsUnaccepted (reasons.Tree fault) f claim = AreDerived f claim.lines × HasTreeFault f claim.lines claim.nodes fault
+IsUnaccepted (reasons.Unneeded number) f claim = AreDerived f claim.lines × AcceptsTree f claim.lines claim.nodes × IsUnneeded number claim
 IsUnaccepted _ f claim = ⊥
 
 -- Why a refutation is refused for a program, in this order: the program's formula is beyond a limit; the counts are not the
--- formula's; a line isn't derived; a node of the tree isn't accepted.
+-- formula's; a line isn't derived; a node of the tree isn't accepted; the refutation has version 2, and a line isn't needed.
 abbrev pub IsUnrefuted : Reason → MpiProgram → ClaimedRefutation → Type 0
 IsUnrefuted (reasons.Pairs fault) p claim = HasNoFormula (reasons.Pairs fault) p
 IsUnrefuted (reasons.Encode fault) p claim = HasNoFormula (reasons.Encode fault) p
 IsUnrefuted reasons.Counts p claim = HasFormula p × (HasCounts p claim → ⊥)
 IsUnrefuted (reasons.Line found) p claim = HasCounts p claim × IsUnaccepted (reasons.Line found) (formula_of p) claim
 IsUnrefuted (reasons.Tree fault) p claim = HasCounts p claim × IsUnaccepted (reasons.Tree fault) (formula_of p) claim
+IsUnrefuted (reasons.Unneeded number) p claim = HasCounts p claim × IsUnaccepted (reasons.Unneeded number) (formula_of p) claim
 IsUnrefuted _ p claim = ⊥
 
 -- ---- schedules of a program
@@ -147,6 +158,7 @@ IsReason program evidence (reasons.Encode fault) = OfRefutation program evidence
 IsReason program evidence reasons.Counts = OfRefutation program evidence (IsUnrefuted reasons.Counts)
 IsReason program evidence (reasons.Line found) = OfRefutation program evidence (IsUnrefuted (reasons.Line found))
 IsReason program evidence (reasons.Tree fault) = OfRefutation program evidence (IsUnrefuted (reasons.Tree fault))
+IsReason program evidence (reasons.Unneeded number) = OfRefutation program evidence (IsUnrefuted (reasons.Unneeded number))
 IsReason program evidence (reasons.Replay at) = OfSchedule program evidence (IsUnshown (reasons.Replay at))
 IsReason program evidence (reasons.NotStuck end) = OfSchedule program evidence (IsUnshown (reasons.NotStuck end))
 
@@ -190,4 +202,5 @@ is_of_refutation (reasons.Encode fault) = true
 is_of_refutation reasons.Counts = true
 is_of_refutation (reasons.Line found) = true
 is_of_refutation (reasons.Tree fault) = true
+is_of_refutation (reasons.Unneeded number) = true
 is_of_refutation reason = false

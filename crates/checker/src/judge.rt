@@ -4,7 +4,8 @@ ghost use Rattle.std.specs.Prelude.{◌≡◌, ◌≢◌, ◌⊎◌, ◌<◌, �
 ghost use Rattle.pieces.specs.Pieces.{Answers};
 ghost use Rattle.refutations.specs.Refutations.{Accepts};
 ghost use Rattle.checker.specs.Parts.{IsClaim, IsClaimOf, has_counts};
-ghost use Rattle.checker.specs.Verdicts.{AreRefuted, IsNeverStuck, Shows, Refutes, Judges, IsUnaccepted, IsUnrefuted};
+ghost use Rattle.trimming.specs.Needed.{Needed};
+ghost use Rattle.checker.specs.Verdicts.{AreRefuted, IsNeverStuck, Shows, Refutes, Judges, IsUnaccepted, IsUnneeded, IsUnrefuted};
 
 use crate::formula::formula_of;
 use crate::reason::{Reason, Verdict};
@@ -12,10 +13,11 @@ use crate::texts::{Texts, check_stuck, texts_in};
 use callorder::Program;
 use clauses::Formula;
 use pieces::{LinesFault, PieceGate, check_all, check_pieces};
-use prooflog::{Evidence, Refutation};
+use prooflog::{Evidence, Refutation, Version};
 use refutations::check_tree;
-use std::alloc::Global;
+use std::alloc::{AllocError, Global};
 use std::thread::Threads;
+use trimming::first_unneeded;
 
 /// A refutation with the counts of a program's formula, and that formula.
 #[derive(Drop)]
@@ -95,10 +97,29 @@ fn claim_of<R: Threads + Sync>(
     }
 }
 
+/// Whether each line is needed, where the refutation has version 2.
+fn check_needed(alloc: Global, refutation: &Refutation) -> Result<(), Reason>
+    ensures needed { IfOk result (λ done. refutation.now.version ≡ Version.Two → Needed refutation.now.clauses refutation.now.lines refutation.now.nodes) }
+    ensures reason { IfErr result (λ reason. (reason ≡ Reason.Memory) ⊎ ((number : ℕ) × (reason ≡ Reason.Unneeded number) × IsUnneeded number refutation.now)) }
+{
+    match refutation.version() {
+        Version::One => Ok(()),
+        Version::Two => {
+            let (lines, tree) = (refutation.lines(), refutation.tree());
+            match first_unneeded(alloc, refutation.clauses(), lines, tree) {
+                Ok(None) => Ok(()),
+                Ok(Some(number)) => Err(Reason::Unneeded { number }),
+                Err(AllocError) => Err(Reason::Memory),
+            }
+        }
+    }
+}
+
 /// Whether a claim is accepted whose lines were checked with this answer.
 fn check_claim(alloc: Global, claim: &Claim, lines: Result<(), LinesFault>) -> Result<(), Reason>
     requires { Answers claim.now.formula claim.now.refutation.lines lines }
     ensures accepted { IfOk result (λ done. Accepts claim.now.formula claim.now.refutation.lines claim.now.refutation.nodes) }
+    ensures needed { IfOk result (λ done. claim.now.refutation.version ≡ Version.Two → Needed claim.now.refutation.clauses claim.now.refutation.lines claim.now.refutation.nodes) }
     ensures reason { IfErr result (λ reason. (reason ≡ Reason.Memory) ⊎ IsUnaccepted reason claim.now.formula claim.now.refutation) }
 {
     match lines {
@@ -108,7 +129,7 @@ fn check_claim(alloc: Global, claim: &Claim, lines: Result<(), LinesFault>) -> R
     }
     let refutation = &claim.refutation;
     match check_tree(alloc, &claim.formula, refutation.lines(), refutation.tree()) {
-        Ok(()) => Ok(()),
+        Ok(()) => check_needed(alloc, refutation),
         Err(fault) => Err(Reason::from(fault)),
     }
 }

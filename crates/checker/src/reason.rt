@@ -55,6 +55,9 @@ pub enum Reason {
     /// The first node of the refutation's tree that isn't accepted.
     #[error("{0}")]
     Tree(TreeFault),
+    /// The first line that isn't needed of a refutation of version 2, whose lines and tree are accepted.
+    #[error("proof line {number} unneeded")]
+    Unneeded { number: usize },
     /// The first step of the schedule, counted from 1, that isn't enabled.
     #[error("step {at} not enabled")]
     Replay { at: usize },

@@ -225,3 +225,32 @@ pub all_needed : (flags : List Bool) → ((j : ℕ) → j < length flags → sli
 all_needed [] each = refl
 all_needed (true ∷ flags) each = all_needed flags (λ j h. each (suc j) (omega (arith, h)))
 all_needed (false ∷ flags) each = let no : Some false ≡ Some true = each 0 (omega arith) in absurd (cc)
+
+flag_at : (flags : List Bool) (place : ℕ) (b : Bool) → list_all (λ flag. flag) flags ≡ true → slice_get flags place ≡ Some b → b ≡ true
+flag_at [] place b all at = absurd (cc)
+flag_at (true ∷ flags) zero b all at = cc
+flag_at (true ∷ flags) (suc place) b all at = flag_at flags place b all at
+flag_at (false ∷ flags) place b all at = absurd (cc)
+
+-- where each line is needed there is no first one that isn't
+pub needed_have_none : (clauses : ℕ) (lines : List ProofLine) (nodes : List Node) (number : ℕ) → Needed clauses lines nodes → IsFirstUnneeded clauses lines nodes number → ⊥
+needed_have_none clauses lines nodes number all w =
+    let never : false ≡ true = flag_at (needed nodes (clauses + 1) lines) w.place false all w.unneeded in
+    cc
+
+one_place : (clauses : ℕ) (lines : List ProofLine) (nodes : List Node) (a b : ℕ) (v : IsFirstUnneeded clauses lines nodes a) (w : IsFirstUnneeded clauses lines nodes b) → v.place < w.place → ⊥
+one_place clauses lines nodes a b v w h =
+    let both : Some false ≡ Some true = sym v.unneeded ∙ w.before v.place h in
+    cc
+
+-- there is one first line that isn't needed
+pub one_unneeded : (clauses : ℕ) (lines : List ProofLine) (nodes : List Node) (a b : ℕ) → IsFirstUnneeded clauses lines nodes a → IsFirstUnneeded clauses lines nodes b → a ≡ b
+one_unneeded clauses lines nodes a b v w =
+    elim (cases_lt v.place w.place) [
+      | inl less ↦ absurd (one_place clauses lines nodes a b v w less)
+      | inr no_less ↦
+          elim (cases_lt w.place v.place) [
+            | inl more ↦ absurd (one_place clauses lines nodes b a w v more)
+            | inr no_more ↦ omega (arith, v.numbered, w.numbered, no_less, no_more)
+          ]
+    ]
