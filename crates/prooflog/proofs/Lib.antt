@@ -15,3 +15,4 @@ pub mod Headings
 pub mod TreeDepths
 pub mod Writings
 mod FormulaTexts
+pub mod Trims

@@ -5,3 +5,4 @@ pub mod Fault
 pub mod Reading
 pub mod Depths
 pub mod FormulaText
+pub mod Trims

@@ -1,10 +1,11 @@
 -- What is renumbered keeps its limits and its shape.
-use Rattle.std.proofs.Common.{◌≡◌, ℕ, ◌≤◌, Bool, true, false, ◌&&◌, nat_le, IsTrue, List, [], ◌∷◌, map, refl, ap, ◌∙◌, arith}
-use Rattle.std.proofs.lemmas.Bool.{and_parts, and_from, leb-true, true-leb}
+use Rattle.std.proofs.Common.{◌≡◌, ℕ, ◌≤◌, Bool, true, false, ◌&&◌, nat_le, IsTrue, List, [], ◌∷◌, map, length, refl, ap, ◌∙◌, arith}
+use Rattle.std.specs.List.{list_all}
+use Rattle.std.proofs.lemmas.Bool.{and_parts, and_from, leb-true, le-leb}
 use Rattle.refutations.specs.declared.tree.Node.{Node}
 use Rattle.refutations.specs.declared.tree.Node.TheVariants.{Split, Leaf}
 use Rattle.refutations.specs.Proofs.{is_number, are_numbers, are_numbered, are_trees, missing_after}
-use Rattle.trimming.specs.Needed.{renumber, renumbered_node}
+use Rattle.trimming.specs.Needed.{kept, renumber, renumbered_node}
 use Rattle.trimming.proofs.Counting.{renumber_most, renumber_least}
 
 number_renumbered : (clauses : ℕ) (flags : List Bool) (n : ℕ) → IsTrue (is_number n) → IsTrue (is_number (renumber clauses flags n))
@@ -13,8 +14,8 @@ number_renumbered clauses flags n h =
     let most = leb-true n 2147483647 parts.1 in
     let least = leb-true 1 n parts.0 in
     and_from (nat_le 1 (renumber clauses flags n)) (nat_le (renumber clauses flags n) 2147483647)
-    (true-leb 1 (renumber clauses flags n) (renumber_least clauses flags n least))
-    (true-leb (renumber clauses flags n) 2147483647 (omega (arith, most, renumber_most clauses flags n)))
+    (le-leb 1 (renumber clauses flags n) (renumber_least clauses flags n least))
+    (le-leb (renumber clauses flags n) 2147483647 (omega (arith, most, renumber_most clauses flags n)))
 
 pub numbers_renumbered : (clauses : ℕ) (flags : List Bool) (numbers : List ℕ) → IsTrue (are_numbers numbers) → IsTrue (are_numbers (map (renumber clauses flags) numbers))
 numbers_renumbered clauses flags [] h = h
@@ -35,3 +36,18 @@ pub trees_renumbered : (new : ℕ → ℕ) (missing : ℕ) (nodes : List Node) �
 trees_renumbered new missing [] = refl
 trees_renumbered new missing (Split v ∷ nodes) = ap (λ (b : Bool). _ && b) (trees_renumbered new (missing_after missing (Split v)) nodes)
 trees_renumbered new missing (Leaf k ∷ nodes) = ap (λ (b : Bool). _ && b) (trees_renumbered new (missing_after missing (Leaf k)) nodes)
+
+-- no more lines are kept than there are, and each of them passes what all pass
+pub length_kept : {X : Type 0} (flags : List Bool) (xs : List X) → length (kept flags xs) ≤ length xs
+length_kept [] xs = omega arith
+length_kept (flag ∷ flags) [] = omega arith
+length_kept (true ∷ flags) (x ∷ xs) = omega (arith, length_kept flags xs)
+length_kept (false ∷ flags) (x ∷ xs) = omega (arith, length_kept flags xs)
+
+pub kept_pass : {X : Type 0} (test : X → Bool) (flags : List Bool) (xs : List X) → list_all test xs ≡ true → list_all test (kept flags xs) ≡ true
+kept_pass test [] xs all = refl
+kept_pass test (flag ∷ flags) [] all = refl
+kept_pass test (true ∷ flags) (x ∷ xs) all =
+    let parts = and_parts (test x) (list_all test xs) all in
+    and_from (test x) (list_all test (kept flags xs)) parts.0 (kept_pass test flags xs parts.1)
+kept_pass test (false ∷ flags) (x ∷ xs) all = kept_pass test flags xs (and_parts (test x) (list_all test xs) all).1
