@@ -13,6 +13,7 @@ use Rattle.refutations.specs.Derivations.{clauses_before, clause_numbered}
 use Rattle.refutations.specs.Proofs.{ProofLine, is_number, is_tree, are_numbered}
 use Rattle.refutations.specs.Refutations.{AreDerived, Accepts}
 use Rattle.refutations.specs.Trees.{Refutes}
+use Rattle.prooflog.specs.declared.refutation.Version.TheVariants.{One}
 use Rattle.prooflog.specs.Refutations.{ClaimedRefutation, IsRefutation, is_line_in_range, is_depth, depths}
 use Rattle.prooflog.proofs.TreeDepths.{depths_are}
 use Rattle.trees.specs.declared.tree.Kind.TheVariants.{Leaf}
@@ -33,7 +34,7 @@ leaves_numbered f log nodes numbers few_clauses few_lines refuted place is =
     let r = refuted place is in
     number_named (clauses_before f log) (get_or numbers place 0) r.clause (omega (arith, few_clauses, few_lines, length-append f.clauses (map (λ (l : ProofLine). l.literals) log), length-map log (λ (l : ProofLine). l.literals))) r.named
 
-pub within_limits : (state : TreeState) (clauses : ℕ) (log : List ProofLine) (nodes : List Node) (numbers : List ℕ) (tree : Tree) → IsGrown state → clauses ≤ 4000000 → length log ≤ 1000000 → IsTrue (list_all is_line_in_range log) → preorder tree ≡ nodes → IsBelow state.nodes numbers tree 0 → IsTrue (is_tree nodes) → IsTrue (are_numbered nodes) → IsRefutation (record { variables = state.variables; clauses = clauses; lines = log; nodes = nodes })
+pub within_limits : (state : TreeState) (clauses : ℕ) (log : List ProofLine) (nodes : List Node) (numbers : List ℕ) (tree : Tree) → IsGrown state → clauses ≤ 4000000 → length log ≤ 1000000 → IsTrue (list_all is_line_in_range log) → preorder tree ≡ nodes → IsBelow state.nodes numbers tree 0 → IsTrue (is_tree nodes) → IsTrue (are_numbered nodes) → IsRefutation (record { version = One; variables = state.variables; clauses = clauses; lines = log; nodes = nodes })
 within_limits state clauses log nodes numbers tree grown few_clauses few_lines in_range are below tree_is numbered =
     let root : 0 ≡ length (path_at state.nodes 0) = sym (ap length (splits_sound state.variables state.nodes grown.grows).0) in (
       record {
@@ -83,10 +84,10 @@ one_more_in_range log place line at all here =
     (ap (λ (l : ProofLine). list_all is_line_in_range (l ∷ [])) (get_or_from_slice_get log place line line at) ∙ and_from (is_line_in_range line) true here refl)
 
 -- the same for counts and lines that are these
-pub within_limits_of : (state : TreeState) (variables clauses : ℕ) (log lines : List ProofLine) (nodes : List Node) → variables ≡ state.variables → lines ≡ log → IsGrown state → clauses ≤ 4000000 → length log ≤ 1000000 → IsTrue (list_all is_line_in_range log) → (numbers : List ℕ) → (tree : Tree) × (preorder tree ≡ nodes) × IsBelow state.nodes numbers tree 0 → IsTrue (is_tree nodes) → IsTrue (are_numbered nodes) → IsRefutation (record { variables = variables; clauses = clauses; lines = lines; nodes = nodes })
+pub within_limits_of : (state : TreeState) (variables clauses : ℕ) (log lines : List ProofLine) (nodes : List Node) → variables ≡ state.variables → lines ≡ log → IsGrown state → clauses ≤ 4000000 → length log ≤ 1000000 → IsTrue (list_all is_line_in_range log) → (numbers : List ℕ) → (tree : Tree) × (preorder tree ≡ nodes) × IsBelow state.nodes numbers tree 0 → IsTrue (is_tree nodes) → IsTrue (are_numbered nodes) → IsRefutation (record { version = One; variables = variables; clauses = clauses; lines = lines; nodes = nodes })
 within_limits_of state variables clauses log lines nodes one two grown few_clauses few_lines in_range numbers below tree_is numbered =
-    subst (λ (v : ℕ). IsRefutation (record { variables = v; clauses = clauses; lines = lines; nodes = nodes })) (sym one)
-    (subst (λ (ls : List ProofLine). IsRefutation (record { variables = state.variables; clauses = clauses; lines = ls; nodes = nodes })) (sym two)
+    subst (λ (v : ℕ). IsRefutation (record { version = One; variables = v; clauses = clauses; lines = lines; nodes = nodes })) (sym one)
+    (subst (λ (ls : List ProofLine). IsRefutation (record { version = One; variables = state.variables; clauses = clauses; lines = ls; nodes = nodes })) (sym two)
     (within_limits state clauses log nodes numbers below.0 grown few_clauses few_lines in_range below.1 below.2 tree_is numbered))
 
 -- the same nodes under another name

@@ -12,6 +12,7 @@ use Rattle.refutations.specs.Derivations.{clauses_before}
 use Rattle.refutations.specs.Proofs.{ProofLine}
 use Rattle.refutations.specs.Refutations.{AreDerived, Accepts}
 use Rattle.refutations.specs.Trees.{IsRefuted}
+use Rattle.prooflog.specs.declared.refutation.Version.TheVariants.{One}
 use Rattle.prooflog.specs.Refutations.{ClaimedRefutation}
 use Rattle.prooflog.specs.declared.evidence.Evidence.{Evidence}
 use Rattle.prooflog.specs.declared.evidence.Evidence.TheVariants.{Schedule, Refutation}
@@ -282,10 +283,12 @@ after_found k worker steps (Err found.NotStuck) = noted k (found_item worker ste
 abbrev pub IsTreeOf : List TreeNode → List ℕ → List Node → Type 0
 IsTreeOf nodes numbers claimed = (tree : Tree) × (preorder tree ≡ claimed) × IsBelow nodes numbers tree 0
 
--- all leaves are closed and nothing was found, and the claim is the log with the tree, which refute the formula
+-- all leaves are closed and nothing was found, and the claim is the log with the tree, which refute the formula; it may have lines that
+-- are not needed
 pub record IsRefutationOf (h : Held) (claim : ClaimedRefutation) : Type 0 where
   pub none_found : IsNone h.schedule
   pub none_open : (leaf : ℕ) → IsOpen h leaf → ⊥
+  pub version : claim.version ≡ One
   pub variables : claim.variables ≡ h.formula.variables
   pub clauses : claim.clauses ≡ length h.formula.clauses
   pub lines : claim.lines ≡ h.log

@@ -12,7 +12,7 @@ ghost use Rattle.pool.specs.States.{IsTreeOf};
 use callorder::Program;
 use clauses::Formula;
 use pages::Log;
-use prooflog::{MakeRefutationFault, Refutation, Schedule};
+use prooflog::{MakeRefutationFault, Refutation, Schedule, Version};
 use refutations::Line;
 use semantics::Step;
 use std::alloc::{AllocError, Global};
@@ -80,6 +80,7 @@ pub(crate) fn refutation_of(
     requires many { length closed.now ≡ length tree.now.nodes }
     requires derived { AreDerived formula.now log.now }
     requires refuted { AreLeavesRefuted tree.now.nodes (clauses_before formula.now log.now) closed.now }
+    ensures version { IfOk result (λ claim. claim.version ≡ Version.One) }
     ensures variables { IfOk result (λ claim. claim.variables ≡ formula.now.variables) }
     ensures clauses { IfOk result (λ claim. claim.clauses ≡ length formula.now.clauses) }
     ensures lines { IfOk result (λ claim. claim.lines ≡ log.now) }
@@ -91,7 +92,7 @@ pub(crate) fn refutation_of(
     let _numbered = nodes.nodes();
     let lines = lines_of(alloc, log)?;
     let clauses = formula.clauses().len() as u32;
-    match Refutation::make(alloc, formula.variables(), clauses, lines, nodes) {
+    match Refutation::make(alloc, Version::One, formula.variables(), clauses, lines, nodes) {
         Ok(refutation) => Ok(refutation),
         Err(MakeRefutationFault::Memory) => Err(AllocError),
         Err(MakeRefutationFault::TooLarge) => unreachable!(),

@@ -3,6 +3,7 @@
 ghost use Rattle.std.specs.Prelude.{◌≡◌, ◌↔◌, ◌≤◌, ◌<◌, ◌+◌, ◌-◌, ◌++◌, ◌∷◌, [], None, Some, ℕ, length, map, replicate, IfOk, IfErr, OnOk, OnErr, IsTrue, IsSome, IsOk, Err};
 ghost use Rattle.std.specs.Option.{option_map};
 ghost use Rattle.trees.specs.Trees.{HasNoRoom, IsLeaf, path_at, split_at};
+ghost use Rattle.prooflog.specs.declared.refutation.Version.TheVariants.{One};
 ghost use Rattle.pool.specs.Counts.{open_count};
 ghost use Rattle.pool.specs.Reasons.{IsSmallest};
 ghost use Rattle.pool.specs.States.{opening, noted, with_places, next_number, first_of, leave_item, IsOpen, IsClosedBy, IsVariable, IsPublished, published, IsFetched, fetched, IsClosed, closed, IsSplit, after_split, IsFound, after_found, IsTreeOf, IsAssembled, IsUndecided, IsSound};
@@ -311,6 +312,7 @@ impl Pool {
 
     fn refutation(&self, alloc: Global) -> Result<Refutation, AllocError>
         requires { (leaf : ℕ) → IsOpen self.now.held leaf → ⊥ }
+        ensures version { IfOk result (λ claim. claim.version ≡ One) }
         ensures variables { IfOk result (λ claim. claim.variables ≡ self.now.held.formula.variables) }
         ensures clauses { IfOk result (λ claim. claim.clauses ≡ length self.now.held.formula.clauses) }
         ensures lines { IfOk result (λ claim. claim.lines ≡ self.now.held.log) }

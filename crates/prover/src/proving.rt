@@ -1,6 +1,7 @@
 //! The search for an answer.
 
 ghost use Rattle.std.specs.Prelude.{◌≡◌, ℕ, List, IfErr, IfNone, IfOk, IfSome};
+ghost use Rattle.callorder.specs.Programs.{MpiProgram};
 ghost use Rattle.callorder.specs.Resolving.{IsTextOf};
 ghost use Rattle.checker.specs.Verdicts.{HasFormula};
 ghost use Rattle.prover.specs.Answers.{Answers, FinishesIfUnknown, HasNoFormulaText};
@@ -16,7 +17,7 @@ use callorder::Program;
 use checker::{Reason, formula_of, program_of};
 use encode::Encoded;
 use pool::{AssembleFault, Pool, Why, schedule_of_run};
-use prooflog::{Evidence, write_evidence};
+use prooflog::{Evidence, TrimFault, trim, write_evidence};
 use settings::Options;
 use std::alloc::{AllocError, Global};
 use std::sync::Wait;
@@ -38,6 +39,28 @@ fn told(alloc: Global, program: &Program, evidence: &Evidence) -> Answer
     }
 }
 
+/// The evidence without lines that aren't needed. One that can't be trimmed, such as a schedule, stays as it is.
+fn trimmed(alloc: Global, evidence: Evidence) -> Result<Evidence, AllocError>
+    ensures { IfOk result (λ trimmed. (p : MpiProgram) → IsEvidenceOn p evidence → IsEvidenceOn p trimmed) }
+{
+    match trim(alloc, &evidence) {
+        Ok(trimmed) => Ok(trimmed),
+        Err(TrimFault::Memory) => Err(AllocError),
+        Err(TrimFault::Number | TrimFault::NotRefutation) => Ok(evidence),
+    }
+}
+
+/// The answer of what a pool assembled.
+fn told_trimmed(alloc: Global, pool: &Pool, evidence: Evidence) -> Answer
+    requires { IsEvidenceOn pool.now.held.program evidence }
+    ensures { (text : List ℕ) → IsTextOf text pool.now.held.program → Answers text result }
+{
+    match trimmed(alloc, evidence) {
+        Ok(evidence) => told(alloc, pool.program(), &evidence),
+        Err(AllocError) => Answer::Unknown(smallest_with(pool.status().why, Why::Memory)),
+    }
+}
+
 /// The reason that counts beside those that are noted at the end of a search, in which memory may have been wanting.
 fn unnoted(was_short: bool) -> Why
     ensures { result ≡ unnoted was_short }
@@ -53,7 +76,7 @@ fn answer_of(alloc: Global, pool: &Pool, was_short: bool) -> Answer
     ensures undecided { IsUndecided pool.now.held → IsUnknownFor pool.now.held.reasons was_short result }
 {
     match pool.assemble(alloc) {
-        Ok(evidence) => told(alloc, pool.program(), &evidence),
+        Ok(evidence) => told_trimmed(alloc, pool, evidence),
         Err(AssembleFault::Memory) => {
             Answer::Unknown(smallest_with(pool.status().why, Why::Memory))
         }

@@ -26,6 +26,7 @@ returns-in-Ok-refutation-clause-evidence c =
       none_open = λ leaf now_open.
           let is = subst (λ (k : Kept). IsOpen k.held leaf) (sym c.self.view_is) now_open in
           omega (arith, c.if-self-gt0.false, c.self.invariant.1, open_counts c.self.inside.tree.nodes c.self.inside.closed.items leaf is.0 is.1);
+      version = c.in-Ok-refutation.ensures.version;
       variables = c.in-Ok-refutation.ensures.variables;
       clauses = c.in-Ok-refutation.ensures.clauses;
       lines = c.in-Ok-refutation.ensures.lines;

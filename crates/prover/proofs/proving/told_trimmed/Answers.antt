@@ -1,0 +1,12 @@
+use Rattle.std.proofs.Common.{sym, subst}
+use Rattle.callorder.specs.Programs.{MpiProgram}
+use Rattle.callorder.specs.Resolving.{IsTextOf}
+use Rattle.prover.specs.Searches.{IsEvidenceOn}
+use Rattle.prover.proofs.proving.told_trimmed.Goals as goal
+
+pub told-requires : goal.told-requires
+told-requires c =
+    subst (λ (p : MpiProgram). IsEvidenceOn p c.in-Ok.evidence) (sym c.program.ensures) (c.in-Ok.ensures c.args.pool.now.held.program c.requires)
+
+pub returns-in-Ok : goal.returns-in-Ok
+returns-in-Ok c = λ text is_text. c.told.ensures.answer text (subst (IsTextOf text) (sym c.program.ensures) is_text)
