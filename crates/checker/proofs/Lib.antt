@@ -2,3 +2,4 @@ pub mod Headlines
 mod OnRefutations
 pub mod OneVerdicts
 pub mod Reasons
+pub mod Shorter

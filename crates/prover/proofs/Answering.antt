@@ -10,7 +10,8 @@ use Rattle.prooflog.specs.Grammar.{IsEvidenceText}
 use Rattle.prooflog.specs.declared.evidence.Evidence.{Evidence}
 use Rattle.prooflog.specs.declared.evidence.Evidence.TheVariants.{Schedule, Refutation}
 use Rattle.prooflog.specs.declared.refutation.Version.TheVariants.{One, Two}
-use Rattle.prooflog.specs.Trims.{EachKeepsAccepted, IsTrimmed, KeepsAccepted, trimmed_of}
+use Rattle.prooflog.specs.Trims.{IsTrimmed}
+use Rattle.checker.proofs.Shorter.{refuted_trimmed}
 use Rattle.checker.specs.Verdicts.{IsNeverStuck, IsRefutedBy, Refutes, HasFormula}
 use Rattle.checker.proofs.Headlines.{refuted_are_never_stuck}
 use Rattle.pool.specs.States.{Held, IsAssembled}
@@ -41,22 +42,10 @@ assembled held (Refutation claim) over is =
       needed = λ two. let never : One ≡ Two = sym is.version ∙ two in absurd (cc);
     }
 
--- what is trimmed refutes what it did, and each of its lines is needed
-refuted_trimmed : (p : MpiProgram) (claim : ClaimedRefutation) → KeepsAccepted claim (trimmed_of claim) → IsRefutedBy p claim → IsRefutedBy p (trimmed_of claim)
-refuted_trimmed p claim keeps by =
-    let now = keeps (formula_of p) (sym by.counts.variables) (sym by.counts.clauses) by.accepted in
-    record {
-      counts = record { formula = by.counts.formula; variables = by.counts.variables; clauses = by.counts.clauses };
-      accepted = now.0;
-      needed = λ two. now.1;
-    }
-
-pub evidence_trimmed : (p : MpiProgram) (evidence trimmed : Evidence) → IsTrimmed evidence trimmed → EachKeepsAccepted evidence trimmed → IsEvidenceOn p evidence → IsEvidenceOn p trimmed
-evidence_trimmed p evidence trimmed is keeps on =
-    let claim = is.0 in
-    let kept : KeepsAccepted claim (trimmed_of claim) =
-        subst (λ (e : Evidence). EachKeepsAccepted e (Refutation (trimmed_of claim))) is.1 (subst (λ (e : Evidence). EachKeepsAccepted evidence e) is.2 keeps) in
-    subst (λ (e : Evidence). IsEvidenceOn p e) (sym is.2) (refuted_trimmed p claim kept (subst (λ (e : Evidence). IsEvidenceOn p e) is.1 on))
+-- what is trimmed is an evidence still
+pub evidence_trimmed : (p : MpiProgram) (evidence trimmed : Evidence) → IsTrimmed evidence trimmed → IsEvidenceOn p evidence → IsEvidenceOn p trimmed
+evidence_trimmed p evidence trimmed is on =
+    subst (λ (e : Evidence). IsEvidenceOn p e) (sym is.2) (refuted_trimmed p is.0 (subst (λ (e : Evidence). IsEvidenceOn p e) is.1 on))
 
 -- any answer to a program that can finish
 pub finishes : (budget : ℕ) (text : List ℕ) (answer : Answer) → (0 < budget → CanFinish text) → FinishesIfUnknown budget text answer

@@ -1,2 +1,3 @@
 pub mod Explanations
 pub mod Exports
+pub mod Trimming

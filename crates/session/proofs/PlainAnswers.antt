@@ -2,7 +2,7 @@
 use Rattle.std.proofs.Common.{◌≡◌, inl, inr, true, false, List, [], ◌∷◌, Some, None, codes, subst}
 use Rattle.clap.specs.Words.{Text, fault_of}
 use Rattle.command_line.specs.CommandLine.{command_line}
-use Rattle.command_line.specs.Requests.{AskFor, Task, number_of, to_check, to_encode, to_explain, to_export, to_prove, to_replay}
+use Rattle.command_line.specs.Requests.{AskFor, Task, number_of, to_check, to_encode, to_explain, to_export, to_prove, to_replay, to_trim}
 use Rattle.command_line.proofs.OptionWords.{option_words_are_read}
 use Rattle.command_line.proofs.PieceWords.{pieces_are_free}
 use Rattle.command_line.proofs.PlainFaults.{plain_words_are_faultless}
@@ -47,6 +47,12 @@ plain_words_are_answered = record {
   export = λ name p e file fp fe ffile.
       answered (name ∷ codes "export" ∷ p ∷ e ∷ codes "--out" ∷ file ∷ []) (to_export p e file) (plain_words_are_faultless.export name p e file fp fe ffile)
       (λ task. plain_words_are_read.export name p e file task fp fe ffile);
+  trim = λ name e file fe ffile.
+      answered (name ∷ codes "trim" ∷ e ∷ codes "--out" ∷ file ∷ []) (to_trim e file false) (plain_words_are_faultless.trim name e file fe ffile)
+      (λ task. plain_words_are_read.trim name e file task fe ffile);
+  trim_as_json = λ name e file fe ffile.
+      answered (name ∷ codes "trim" ∷ e ∷ codes "--out" ∷ file ∷ codes "--json" ∷ []) (to_trim e file true) (plain_words_are_faultless.trim_as_json name e file fe ffile)
+      (λ task. plain_words_are_read.trim_as_json name e file task fe ffile);
   prove = λ name p fp.
       answered (name ∷ codes "prove" ∷ p ∷ []) (to_prove p None 4 4 1000000 false false) (plain_words_are_faultless.prove name p fp)
       (λ task. plain_words_are_read.prove name p task fp);

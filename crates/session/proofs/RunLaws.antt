@@ -15,15 +15,21 @@ use Rattle.prover.specs.Telling.{told_run}
 use Rattle.prover.specs.declared.steps.Replayed.{Replayed}
 use Rattle.prover.specs.declared.steps.Replayed.TheVariants as replays
 use Rattle.command_line.specs.CommandLine.{version_line}
-use Rattle.command_line.specs.Requests.{AskFor, Task, to_check, to_encode, to_explain, to_export, to_prove, to_replay}
-use Rattle.session.specs.Deadlocks.{ReadFilesAreNotBlamed, AskToCheck, AskToProve, AskToReplay, CheckedDeadlockIsPrinted, CheckedDeadlockIsShown, CheckedSafetyIsPrinted, CheckedSafetyIsTrue, EncodedFormulaIsPrinted, ExportedAnswerIsPrinted, ExportedProofIsWritten, ExportedSafetyIsTrue, IsRightlyTold, ProvedDeadlockIsPrinted, ProvedDeadlockIsShown, ProvedSafetyIsPrinted, ProvedSafetyIsTrue, ProvedUnknownFinishes, RefutedIsChecked, ReplayedDeadlockIsShown, ReplayedRunIsPrinted, ShownDeadlockIsChecked, ShownDeadlockIsReplayed, TellsDeadlock, TellsSafety, ToldDeadlockIsShown, WrittenDeadlockIsShown, WrittenSafetyIsRefuted}
+use Rattle.command_line.specs.Requests.{AskFor, Task, to_check, to_encode, to_explain, to_export, to_prove, to_replay, to_trim}
+use Rattle.session.specs.Deadlocks.{ReadFilesAreNotBlamed, AskToCheck, AskToProve, AskToReplay, CheckedDeadlockIsPrinted, CheckedDeadlockIsShown, CheckedSafetyIsPrinted, CheckedSafetyIsTrue, EncodedFormulaIsPrinted, ExportedAnswerIsPrinted, ExportedProofIsWritten, ExportedSafetyIsTrue, IsRightlyTold, ProvedDeadlockIsPrinted, ProvedDeadlockIsShown, ProvedSafetyIsPrinted, ProvedSafetyIsTrue, ProvedUnknownFinishes, RefutedIsChecked, ReplayedDeadlockIsShown, ReplayedRunIsPrinted, ShownDeadlockIsChecked, ShownDeadlockIsReplayed, TellsDeadlock, TellsSafety, ToldDeadlockIsShown, TrimmedRefutationIsWritten, WrittenDeadlockIsShown, WrittenSafetyIsRefuted}
 use Rattle.session.specs.Endings.{Complains, Ends, EndsFollowed, EndsUnasked, Explains, FailsEarly, IsFollowed, Prints, PrintsAlone, SessionEnds, TaskEnds}
-use Rattle.session.specs.Lines.{IsLine, deadlock_line, early_line, memory_line, no_deadlock_line, told_of_answer, told_of_verdict, told_status}
-use Rattle.session.specs.Pages.{FilesTold, HasTextOfFormula, IsProgram, IsChecked, IsEither, IsEncoded, IsExplained, IsExported, IsExportedTo, IsExportFile, IsProveFile, IsProved, IsReplayPage, IsReplayed}
+use Rattle.session.specs.Lines.{IsLine, deadlock_line, early_line, line_text, lines_words, memory_line, no_deadlock_line, told_of_answer, told_of_untrimmed, told_of_verdict, told_status}
+use Rattle.session.specs.Pages.{FilesTold, HasTextOfFormula, IsProgram, IsChecked, IsEither, IsEncoded, IsExplained, IsExported, IsExportedTo, IsExportFile, IsProveFile, IsProved, IsReplayPage, IsReplayed, IsTrimFile, IsTrimmed, IsWritten}
+use Rattle.files.specs.Contents.{AreAll}
+use Rattle.reports.specs.Trimming.{Shortens}
+use Rattle.reports.specs.declared.trimmed.Shortened.{Shortened}
+use Rattle.reports.specs.declared.trimmed.Untrimmed.{Untrimmed}
+use Rattle.reports.specs.declared.trimmed.Untrimmed.TheVariants as untrimmed
+use Rattle.reports.proofs.Shorter.{shortened_refutes}
 use Rattle.session.specs.declared.page.Want.{Want}
 use Rattle.session.specs.declared.page.Want.TheVariants as want
 use Rattle.session.specs.declared.told.Told.TheVariants as told
-use Rattle.session.proofs.DeadlockLines.{PageTells, PageTellsSafety, deadlock_page, deadlock_printed, deadlock_untold, dimacs_untold, formula_untold, help_untold, line_tells, one_told, safe_line, safety_page, safety_untold, stuck_line, unknown_page, unknown_untold, version_untold, zero_told}
+use Rattle.session.proofs.DeadlockLines.{PageTells, PageTellsSafety, deadlock_page, deadlock_printed, deadlock_untold, dimacs_untold, formula_untold, help_untold, line_tells, lines_untold, one_told, safe_line, safety_page, safety_untold, stuck_line, unknown_page, unknown_untold, version_untold, zero_told}
 use Rattle.session.proofs.Deadlocks.{all_are, check_never, check_shows, explained_shows, exported_checked, exported_proof, file_refutes, file_shows, held_as_read, prove_finishes, prove_never, prove_shows, read_as_held, read_shows, refused_above, refused_differs, replayed_shows, safe_differs}
 use Rattle.session.proofs.TaskEnds.{task_ends}
 
@@ -422,6 +428,56 @@ exported = record {
       );
 }
 
+-- ---- trim
+
+module _ (words : List Text) (e out : Text) (as_json : Bool) (tells : FilesTold) (before after : List ℕ → Option (List ℕ)) (old new told_old told_new : Option (List ℕ)) (status : ℕ) where
+  trim_ends : AskFor words (to_trim e out as_json) → SessionEnds words tells before after old new told_old told_new status
+      → Ends (IsTrimmed tells.writes before after e out as_json) (IsTrimFile tells.reads e out before after) want.Refused as_json before after old new told_old told_new status ⊎ FailsEarly old new told_old told_new status
+  trim_ends asks ends = ended (task_ends words tells before after old new told_old told_new status (to_trim e out as_json) asks ends)
+
+-- why a refutation was not trimmed has a status above 2
+untrimmed_above : (why : Untrimmed) → 2 < told_status (told_of_untrimmed why)
+untrimmed_above untrimmed.Memory = omega arith
+untrimmed_above (untrimmed.Evidence fault) = refused_above (reasons.Evidence fault)
+untrimmed_above untrimmed.Number = omega arith
+untrimmed_above untrimmed.NotRefutation = omega arith
+
+trimmed_page : (tells : Bool) (before after : List ℕ → Option (List ℕ)) (e out : List ℕ) (as_json : Bool) (text : List ℕ) (status : ℕ) → IsTrimmed tells before after e out as_json text status → status < 3
+    → (evidence : List ℕ) × AreAll (before e) evidence × ((s : Shortened) × Shortens evidence s × IsWritten tells before after (Some out) s.text.items
+    × (text ≡ line_text as_json (lines_words s.before s.after) 0) × (status ≡ 0))
+trimmed_page tells before after e out as_json text status (evidence, all, inl shorter) low = (evidence, all, shorter)
+trimmed_page tells before after e out as_json text status (evidence, all, inr (why, is, same, line)) low =
+    absurd (omega (arith, low, line.3, untrimmed_above why))
+
+trimmed_untold : (tells : Bool) (before after : List ℕ → Option (List ℕ)) (e out : List ℕ) (as_json : Bool) (text : List ℕ) (status : ℕ) → IsTrimmed tells before after e out as_json text status → PageTells text status → ⊥
+trimmed_untold tells before after e out as_json text status (evidence, all, inl shorter) says =
+    lines_untold as_json shorter.0.before shorter.0.after text status shorter.3 shorter.4 says
+trimmed_untold tells before after e out as_json text status (evidence, all, inr (why, is, same, line)) says =
+    let told_is = line_tells (told_of_untrimmed why) as_json text status line says in
+    omega (arith, untrimmed_above why, ap told_status told_is)
+
+pub trimmed : TrimmedRefutationIsWritten
+trimmed = record {
+  written = λ words e out as_json reads before after evidence old new told_old told_new status asks held ends zero.
+      let page = page_printed 0 (omega arith) (IsTrimmed true before after e out as_json) (IsTrimFile reads e out before after) want.Refused as_json before after old new told_old told_new status
+      (trim_ends words e out as_json (record { writes = true; reads = reads }) before after old new told_old told_new status asks ends) zero in
+      let is = trimmed_page true before after e out as_json page.0 0 page.1 (omega arith) in
+      let s = is.2.0 in
+      let shortens : Shortens evidence s = subst (λ (bytes : List ℕ). Shortens bytes s) (read_as_held (before e) evidence is.0 held is.1) is.2.1 in
+      (
+        s,
+        shortens,
+        is.2.2 refl,
+        λ program refutes. shortened_refutes program evidence s shortens refutes,
+        subst (λ (text : List ℕ). PrintsAlone old new told_old told_new text 0 status) is.2.3 page.2,
+        );
+  never_stuck = λ words e out as_json tells before after old new told_old told_new status asks ends one.
+      let page = page_printed 1 (omega arith) (IsTrimmed tells.writes before after e out as_json) (IsTrimFile tells.reads e out before after) want.Refused as_json before after old new told_old told_new status
+      (trim_ends words e out as_json tells before after old new told_old told_new status asks ends) one in
+      let is = trimmed_page tells.writes before after e out as_json page.0 1 page.1 (omega arith) in
+      omega (arith, is.2.4);
+}
+
 -- ---- any words
 
 -- the page of `encode` tells no deadlock
@@ -486,6 +542,10 @@ asked_told words tells before after old new told_old told_new status (to_export 
 asked_told words tells before after old new told_old told_new status (to_encode p dimacs) asks ends says =
     let page = deadlock_page (IsEncoded dimacs (before p)) (IsProgram tells.reads p) want.Refused false before after old new told_old told_new status ends.1 says in
     absurd (encoded_untold dimacs (before p) page.0 page.1 page.2 page.3)
+
+asked_told words tells before after old new told_old told_new status (to_trim e out as_json) asks ends says =
+    let page = deadlock_page (IsTrimmed tells.writes before after e out as_json) (IsTrimFile tells.reads e out before after) want.Refused as_json before after old new told_old told_new status ends.1 says in
+    absurd (trimmed_untold tells.writes before after e out as_json page.0 page.1 page.2 page.3)
 
 explained_untold : (kind : ErrorKind) (old new told_old told_new : Option (List ℕ)) (status : ℕ) → Explains kind old new told_old told_new status
     → TellsDeadlock old new status → ⊥

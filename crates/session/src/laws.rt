@@ -21,6 +21,7 @@ ghost use Rattle.session.specs.Deadlocks.{
   ShownDeadlockIsChecked,
   ShownDeadlockIsReplayed,
   ToldDeadlockIsShown,
+  TrimmedRefutationIsWritten,
   WrittenDeadlockIsShown,
   WrittenSafetyIsRefuted,
 };
@@ -142,6 +143,13 @@ pub fn exported_answer_is_printed()
 /// the DIMACS format where they ask for that; and none ends with the status 1.
 pub fn encoded_formula_is_printed()
     ensures { EncodedFormulaIsPrinted }
+{}
+
+/// Where words ask to trim a refutation, and the run ended with the status 0, the file that they name holds afterwards the refutation without
+/// the lines that aren't needed, which refutes each program that the evidence refutes, and the numbers of lines before and after were
+/// printed; and none ends with the status 1.
+pub fn trimmed_refutation_is_written()
+    ensures { TrimmedRefutationIsWritten }
 {}
 
 /// Where any run printed the line of a deadlock or ended with the status 1, its words ask to prove, check,

@@ -16,7 +16,7 @@ pub use laws::{
     proved_deadlock_is_printed, proved_deadlock_is_shown, proved_safety_is_printed,
     proved_safety_is_true, proved_unknown_finishes, read_files_are_not_blamed, refuted_is_checked,
     replayed_deadlock_is_shown, replayed_run_is_printed, shown_deadlock_is_checked,
-    shown_deadlock_is_replayed, told_deadlock_is_shown, written_deadlock_is_shown,
-    written_safety_is_refuted,
+    shown_deadlock_is_replayed, told_deadlock_is_shown, trimmed_refutation_is_written,
+    written_deadlock_is_shown, written_safety_is_refuted,
 };
 pub use run::session;

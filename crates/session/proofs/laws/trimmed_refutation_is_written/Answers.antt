@@ -1,0 +1,5 @@
+use Rattle.session.proofs.RunLaws.{trimmed}
+use Rattle.session.proofs.laws.trimmed_refutation_is_written.Goals as goal
+
+pub returns : goal.returns
+returns c = trimmed
