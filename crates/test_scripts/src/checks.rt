@@ -15,6 +15,7 @@ use refutations::{
 };
 use std::alloc::{AllocError, Global};
 use std::thread::Threads;
+use trimming::first_unneeded;
 
 /// A formula, and the lines that are taken in.
 #[derive(Drop)]
@@ -106,6 +107,7 @@ fn asked<R: Threads + Sync>(
         "check_in_turn" => checked_in_turn(alloc, formula, words, out)?,
         "check_tree" => checked_tree(alloc, formula, lines, words, out)?,
         "accepts" => put_accepted(alloc, formula, lines, words, out)?,
+        "unneeded" => put_unneeded(alloc, formula, lines, words, out)?,
         "check_pieces" => checked_pieces(rt, alloc, formula, lines, number(words)?, out)?,
         "check_piece" => checked_piece(alloc, formula, lines, words, out)?,
         _ => return Err(Trouble::Script("no such call")),
@@ -203,6 +205,22 @@ fn checked_tree(
 ) -> Result<(), Trouble> {
     let tree = tree(alloc, words)?;
     put_done(out, check_tree(alloc, formula, lines, &tree))?;
+    Ok(())
+}
+
+/// Writes the number of the first line that isn't needed beside a tree.
+fn put_unneeded(
+    alloc: Global,
+    formula: &Formula,
+    lines: &[Line],
+    words: &str,
+    out: &mut String,
+) -> Result<(), Trouble> {
+    let tree = tree(alloc, words)?;
+    match first_unneeded(alloc, formula.len() as u32, lines, &tree)? {
+        Some(number) => put_number(out, number)?,
+        None => put_word(out, "none")?,
+    }
     Ok(())
 }
 

@@ -6,7 +6,9 @@ use crate::telling::{put_done, put_number, put_text, put_word};
 use clauses::Lit;
 use cubes::CubeFault;
 use pieces::LinesFault;
-use prooflog::{Evidence, EvidenceFault, read_evidence, read_evidence_in, write_evidence};
+use prooflog::{
+    Evidence, EvidenceFault, TrimFault, read_evidence, read_evidence_in, trim, write_evidence,
+};
 use refutations::{LineFault, MakeLineFault, TreeFault};
 use std::alloc::{AllocError, Global};
 use std::str;
@@ -26,6 +28,7 @@ pub fn judge<R: Threads + Sync>(
         let answer = match name {
             "read" => read(alloc, words, &mut given),
             "read_in" => read_in(rt, alloc, words, &mut given),
+            "trim" => trimmed(alloc, words, &mut given),
             "text" => put_fault(words, &mut given),
             _ => Err(Trouble::Script("no such call")),
         };
@@ -41,6 +44,7 @@ fn put_fault(words: &str, out: &mut String) -> Result<(), Trouble> {
         "TreeFault::Memory" => put_done(out, Err(TreeFault::Memory))?,
         "LinesFault::Memory" => put_done(out, Err(LinesFault::Memory))?,
         "MakeLineFault::Memory" => put_done(out, Err(MakeLineFault::Memory))?,
+        "TrimFault::Memory" => put_done(out, Err(TrimFault::Memory))?,
         "CubeFault::Memory" => put_done(out, Err(CubeFault::Memory))?,
         "SplitFault::Memory" => put_done(out, Err(SplitFault::Memory))?,
         "size_of Lit" => put_number(out, size_of::<Lit>())?,
@@ -85,6 +89,22 @@ fn read_in<R: Threads + Sync>(
     let read = read_evidence_in(rt, alloc, text.as_bytes(), parts as usize);
     put_read(alloc, &text, &read, out)?;
     Ok(())
+}
+
+/// Reads such a text, and writes that of the refutation without the lines that aren't needed.
+fn trimmed(alloc: Global, words: &str, out: &mut String) -> Result<(), Trouble> {
+    let text = words.replace(alloc, '/', "\n")?;
+    match read_evidence(alloc, text.as_bytes()) {
+        Ok(evidence) => put_trimmed(alloc, &evidence, out),
+        Err(fault) => Ok(write!(out, "{fault}")?),
+    }
+}
+
+fn put_trimmed(alloc: Global, evidence: &Evidence, out: &mut String) -> Result<(), Trouble> {
+    match trim(alloc, evidence) {
+        Ok(trimmed) => put_evidence(alloc, &trimmed, out),
+        Err(fault) => Ok(write!(out, "{fault}")?),
+    }
 }
 
 /// The text of an evidence.
