@@ -10,7 +10,7 @@ use Rattle.refutations.specs.Proofs.{ProofLine, are_numbers, are_numbered, is_tr
 use Rattle.refutations.specs.Refutations.{Accepts}
 use Rattle.trimming.specs.Needed.{Needed, needed, kept, renumber, renumbered_line, renumbered_node, new_number, trimmed_lines, trimmed_nodes}
 use Rattle.trimming.proofs.Ranges.{numbers_renumbered, nodes_renumbered, trees_renumbered, length_kept, kept_pass}
-use Rattle.trimming.proofs.Trimmed.{trimmed_are_accepted, trimmed_are_needed}
+use Rattle.trimming.proofs.TrimLaws.{trimmed_are_accepted, trimmed_are_needed}
 use Rattle.prooflog.specs.Refutations.{ClaimedRefutation, IsRefutation, is_line_in_range, is_depth, depths}
 use Rattle.prooflog.specs.Trims.{trimmed_of, KeepsAccepted}
 

@@ -19,7 +19,7 @@ mod refutation;
 mod refutation_reader;
 mod schedule;
 mod step;
-mod trim;
+mod trims;
 mod words;
 mod writer;
 
@@ -31,5 +31,5 @@ pub use reader::{read_evidence, read_evidence_in};
 pub use refutation::{MOST_DEPTH, MOST_LINES, MOST_NODES, MakeRefutationFault, Refutation, Version};
 pub use schedule::Schedule;
 pub use step::{find_word, put_find};
-pub use trim::{TrimFault, trim};
+pub use trims::{TrimFault, trim};
 pub use writer::{put_hints, put_literals, write_evidence};

@@ -6,8 +6,8 @@ use Rattle.prooflog.specs.declared.evidence.Evidence.{Evidence}
 use Rattle.prooflog.specs.declared.evidence.Evidence.TheVariants.{Schedule, Refutation}
 use Rattle.prooflog.specs.declared.fault.EvidenceFault.{EvidenceFault}
 use Rattle.prooflog.specs.declared.fault.EvidenceFault.TheVariants as reading
-use Rattle.prooflog.specs.declared.trim.TrimFault.{TrimFault}
-use Rattle.prooflog.specs.declared.trim.TrimFault.TheVariants as trims
+use Rattle.prooflog.specs.declared.trims.TrimFault.{TrimFault}
+use Rattle.prooflog.specs.declared.trims.TrimFault.TheVariants as trims
 use Rattle.prooflog.specs.Refutations.{ClaimedRefutation}
 use Rattle.prooflog.specs.Grammar.{IsEvidenceText}
 use Rattle.prooflog.specs.Fault.{HasEvidenceFault}

@@ -1,4 +1,4 @@
-pub mod Trimmed
+pub mod TrimLaws
 pub mod MarkLaws
 pub mod Counting
 pub mod Ranges

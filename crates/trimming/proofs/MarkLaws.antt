@@ -181,6 +181,11 @@ drop_line [] place x at = absurd (cc)
 drop_line (y ∷ xs) zero x at = let same : x ≡ y = cc in ap (λ (z : _). z ∷ xs) (sym same)
 drop_line (y ∷ xs) (suc place) x at = drop_line xs place x at
 
+line_there : {X : Type 0} (xs : List X) (place : ℕ) → place < length xs → (x : X) × (slice_get xs place ≡ Some x)
+line_there [] place h = absurd (omega arith)
+line_there (x ∷ xs) zero h = (x, refl)
+line_there (x ∷ xs) (suc place) h = line_there xs place (omega (arith, h))
+
 marked_one_more : (clauses : ℕ) (lines : List ProofLine) (nodes : List Node) (marks now : List Bool) (place : ℕ) (line : ProofLine) (flag : Bool) → AreMarked clauses lines nodes marks (suc place) → slice_get lines place ≡ Some line → slice_get marks place ≡ Some flag
     → length now ≡ length marks → drop place now ≡ drop place marks
     → ((j : ℕ) (b : Bool) → j < place → slice_get marks j ≡ Some b → slice_get now j ≡ Some (b || (flag && list_any (λ n. n == clauses + 1 + j) line.hints)))
@@ -191,10 +196,10 @@ marked_one_more clauses lines nodes marks now place line flag w at is size dropp
     let next : clauses + 1 + suc place ≡ clauses + 1 + place + 1 = omega arith in
     let lines_are : drop place lines ≡ line ∷ rest = drop_line lines place line at in
     let flag_is : flag ≡ (names_leaf nodes (clauses + 1 + place) || is_hinted (clauses + 1 + place) rest later) =
-        let both : Some flag ≡ Some (names_leaf nodes (clauses + 1 + place) || is_hinted (clauses + 1 + place) rest later) = sym is ∙ w.before place (omega arith) in cc in
+    let both : Some flag ≡ Some (names_leaf nodes (clauses + 1 + place) || is_hinted (clauses + 1 + place) rest later) = sym is ∙ w.before place (omega arith) in cc in
     let needed_are : needed nodes (clauses + 1 + place) (line ∷ rest) ≡ flag ∷ later =
-        ap (λ (n : ℕ). (names_leaf nodes (clauses + 1 + place) || is_hinted (clauses + 1 + place) rest (needed nodes n rest)) ∷ needed nodes n rest) (sym next)
-        ∙ ap (λ (b : Bool). b ∷ later) (sym flag_is) in
+    ap (λ (n : ℕ). (names_leaf nodes (clauses + 1 + place) || is_hinted (clauses + 1 + place) rest (needed nodes n rest)) ∷ needed nodes n rest) (sym next)
+    ∙ ap (λ (b : Bool). b ∷ later) (sym flag_is) in
     record {
       size = size ∙ w.size;
       before = λ j h.
@@ -210,9 +215,15 @@ marked_needed clauses lines nodes marks place line w at is =
     marked_one_more clauses lines nodes marks (mark_all clauses place marks line.hints) place line true w at is (length-mark_all clauses place line.hints marks) (drop-mark_all clauses place line.hints marks)
     (λ j b h there. get-mark_all clauses place j line.hints marks b h there)
 
-pub marked_unneeded : (clauses : ℕ) (lines : List ProofLine) (nodes : List Node) (marks : List Bool) (place : ℕ) (line : ProofLine) → AreMarked clauses lines nodes marks (suc place) → slice_get lines place ≡ Some line → slice_get marks place ≡ Some false → AreMarked clauses lines nodes marks place
+marked_unneeded : (clauses : ℕ) (lines : List ProofLine) (nodes : List Node) (marks : List Bool) (place : ℕ) (line : ProofLine) → AreMarked clauses lines nodes marks (suc place) → slice_get lines place ≡ Some line → slice_get marks place ≡ Some false → AreMarked clauses lines nodes marks place
 marked_unneeded clauses lines nodes marks place line w at is =
     marked_one_more clauses lines nodes marks marks place line false w at is refl refl (λ j b h there. there ∙ ap Some (sym (or_nothing b)))
+
+-- the same of the line that stands there
+pub marked_unneeded_at : (clauses : ℕ) (lines : List ProofLine) (nodes : List Node) (marks : List Bool) (place : ℕ) → AreMarked clauses lines nodes marks (suc place) → place < length lines → slice_get marks place ≡ Some false → AreMarked clauses lines nodes marks place
+marked_unneeded_at clauses lines nodes marks place w below is =
+    let there = line_there lines place below in
+    marked_unneeded clauses lines nodes marks place there.0 w there.1 is
 
 pub marked_all : (clauses : ℕ) (lines : List ProofLine) (nodes : List Node) (marks : List Bool) → AreMarked clauses lines nodes marks 0 → marks ≡ needed nodes (clauses + 1) lines
 marked_all clauses lines nodes marks w =

@@ -1,5 +1,5 @@
 -- What is renumbered keeps its limits and its shape.
-use Rattle.std.proofs.Common.{◌≡◌, ℕ, ◌≤◌, Bool, true, false, ◌&&◌, nat_le, IsTrue, List, [], ◌∷◌, map, length, refl, ap, ◌∙◌, arith}
+use Rattle.std.proofs.Common.{◌≡◌, ℕ, ◌≤◌, Bool, true, false, ◌&&◌, nat_le, nat_lt, IsTrue, List, [], ◌∷◌, map, length, refl, ap, ◌∙◌, arith}
 use Rattle.std.specs.List.{list_all}
 use Rattle.std.proofs.lemmas.Bool.{and_parts, and_from, leb-true, le-leb}
 use Rattle.refutations.specs.declared.tree.Node.{Node}
@@ -34,8 +34,8 @@ nodes_renumbered clauses flags (Leaf k ∷ nodes) h =
 
 pub trees_renumbered : (new : ℕ → ℕ) (missing : ℕ) (nodes : List Node) → are_trees missing (map (renumbered_node new) nodes) ≡ are_trees missing nodes
 trees_renumbered new missing [] = refl
-trees_renumbered new missing (Split v ∷ nodes) = ap (λ (b : Bool). _ && b) (trees_renumbered new (missing_after missing (Split v)) nodes)
-trees_renumbered new missing (Leaf k ∷ nodes) = ap (λ (b : Bool). _ && b) (trees_renumbered new (missing_after missing (Leaf k)) nodes)
+trees_renumbered new missing (Split v ∷ nodes) = ap (λ (b : Bool). nat_lt 0 missing && b) (trees_renumbered new (missing_after missing (Split v)) nodes)
+trees_renumbered new missing (Leaf k ∷ nodes) = ap (λ (b : Bool). nat_lt 0 missing && b) (trees_renumbered new (missing_after missing (Leaf k)) nodes)
 
 -- no more lines are kept than there are, and each of them passes what all pass
 pub length_kept : {X : Type 0} (flags : List Bool) (xs : List X) → length (kept flags xs) ≤ length xs

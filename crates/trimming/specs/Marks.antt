@@ -26,7 +26,7 @@ mark_leaves clauses below marks (Leaf k ∷ nodes) = mark_leaves clauses below (
 pub record AreMarked (clauses : ℕ) (lines : List ProofLine) (nodes : List Node) (marks : List Bool) (place : ℕ) : Type 0 where
   pub size : length marks ≡ length lines
   pub before : (earlier : ℕ) → earlier < place
-    → slice_get marks earlier ≡ Some (names_leaf nodes (clauses + 1 + earlier) || is_hinted (clauses + 1 + earlier) (drop place lines) (needed nodes (clauses + 1 + place) (drop place lines)))
+      → slice_get marks earlier ≡ Some (names_leaf nodes (clauses + 1 + earlier) || is_hinted (clauses + 1 + earlier) (drop place lines) (needed nodes (clauses + 1 + place) (drop place lines)))
   pub from : drop place marks ≡ needed nodes (clauses + 1 + place) (drop place lines)
 
 -- how many flags are true before each place, and at the end, beside so many before

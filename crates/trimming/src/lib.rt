@@ -9,9 +9,9 @@ mod laws;
 mod marks;
 mod names;
 mod renumbering;
-mod trim;
+mod trims;
 mod unneeded;
 
 pub use laws::{trimmed_are_accepted, trimmed_are_needed};
-pub use trim::{TrimFault, Trimmed, trim};
+pub use trims::{TrimFault, Trimmed, trim};
 pub use unneeded::first_unneeded;

@@ -13,6 +13,12 @@ fn is_named(count: usize, number: u32) -> bool
     1 <= number && number as usize <= count
 }
 
+fn are_all_named(count: usize, numbers: &[u32]) -> bool
+    ensures { result ≡ list_all (is_named count) numbers.now }
+{
+    numbers.iter().all(|number| is_named(count, *number))
+}
+
 fn is_named_leaf(count: usize, node: &Node) -> bool
     ensures { result ≡ is_named_leaf count node.now }
 {
@@ -22,13 +28,19 @@ fn is_named_leaf(count: usize, node: &Node) -> bool
     }
 }
 
+fn are_named_leaves(count: usize, nodes: &[Node]) -> bool
+    ensures { result ≡ list_all (is_named_leaf count) nodes.now }
+{
+    nodes.iter().all(|node| is_named_leaf(count, node))
+}
+
 /// Whether each hint names a clause or an earlier line.
 fn name_earlier(clauses: u32, lines: &[Line]) -> bool
     ensures { result ≡ name_earlier clauses lines.now }
 {
     for (place, line) in lines.iter().enumerate() {
         let count = clauses as usize + place;
-        if !line.hints().iter().all(|hint| is_named(count, *hint)) {
+        if !are_all_named(count, line.hints()) {
             return false;
         }
     }
@@ -41,5 +53,5 @@ pub fn are_named(clauses: u32, lines: &[Line], nodes: &[Node]) -> bool
     ensures { result ≡ are_named clauses lines.now nodes.now }
 {
     let count = clauses as usize + lines.len();
-    name_earlier(clauses, lines) && nodes.iter().all(|node| is_named_leaf(count, node))
+    name_earlier(clauses, lines) && are_named_leaves(count, nodes)
 }

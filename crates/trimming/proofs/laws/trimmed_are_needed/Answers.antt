@@ -1,4 +1,4 @@
-use Rattle.trimming.proofs.Trimmed as trimmed
+use Rattle.trimming.proofs.TrimLaws as trimmed
 use Rattle.trimming.proofs.laws.trimmed_are_needed.Goals as goal
 
 pub returns : goal.returns

@@ -51,7 +51,7 @@ leaf_needed nodes number (x ∷ lines) (suc j) below named =
     let same : number + suc j ≡ number + 1 + j = omega arith in
     leaf_needed nodes (number + 1) lines j (omega (arith, below)) (subst (λ (z : ℕ). names_leaf nodes z ≡ true) same named)
 
-length_needed : (nodes : List Node) (number : ℕ) (lines : List ProofLine) → length (needed nodes number lines) ≡ length lines
+pub length_needed : (nodes : List Node) (number : ℕ) (lines : List ProofLine) → length (needed nodes number lines) ≡ length lines
 length_needed nodes number [] = refl
 length_needed nodes number (x ∷ lines) = ap suc (length_needed nodes (number + 1) lines)
 
@@ -360,3 +360,17 @@ trimmed_are_needed clauses lines nodes =
     let at : clauses + 1 + j ≡ clauses + j + 1 = omega arith in
     renumber_line clauses flags (clauses + 1 + j) j at ∙ (let sum : clauses + count_first j flags + 1 ≡ clauses + 1 + count_first j flags = omega arith in sum)) in
     ap (list_all (λ flag. flag)) same ∙ all_true (map (renumbered_line new) (kept flags lines))
+
+-- ---- the same of lists that are these
+
+pub accepted_as : (clauses : ℕ) (lines made : List ProofLine) (nodes made_nodes : List Node) → made ≡ trimmed_lines clauses lines nodes → made_nodes ≡ trimmed_nodes clauses lines nodes
+    → (f : Conjunction) → length f.clauses ≡ clauses → Accepts f lines nodes → Accepts f made made_nodes
+accepted_as clauses lines made nodes made_nodes is are f count accepts =
+    let now = subst (λ (c : ℕ). Accepts f (trimmed_lines c lines nodes) (trimmed_nodes c lines nodes)) count (trimmed_are_accepted f lines nodes accepts) in
+    subst (λ (ns : List Node). Accepts f made ns) (sym are) (subst (λ (ls : List ProofLine). Accepts f ls (trimmed_nodes clauses lines nodes)) (sym is) now)
+
+pub needed_as : (clauses : ℕ) (lines made : List ProofLine) (nodes made_nodes : List Node) → made ≡ trimmed_lines clauses lines nodes → made_nodes ≡ trimmed_nodes clauses lines nodes
+    → Needed clauses made made_nodes
+needed_as clauses lines made nodes made_nodes is are =
+    subst (λ (ns : List Node). Needed clauses made ns) (sym are)
+    (subst (λ (ls : List ProofLine). Needed clauses ls (trimmed_nodes clauses lines nodes)) (sym is) (trimmed_are_needed clauses lines nodes))

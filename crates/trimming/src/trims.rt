@@ -9,7 +9,7 @@ use crate::marks::needed_lines;
 use crate::names::are_named;
 use crate::renumbering::Renumbering;
 use refutations::{Line, ProofTree};
-use std::alloc::Global;
+use std::alloc::{AllocError, Global};
 use thiserror::Error;
 
 /// Why no refutation was trimmed.
@@ -21,6 +21,17 @@ pub enum TrimFault {
     /// A hint names neither a clause nor an earlier line, or a leaf names neither a clause nor a line.
     #[error("number")]
     Number,
+}
+
+impl From<AllocError> for TrimFault {
+    ghost use Rattle.std.specs.Prelude.{◌≡◌};
+    ghost use Rattle.trimming.specs.declared.trims.TrimFault.{TrimFault};
+
+    ghost from_gives = { λ _ fault. fault ≡ TrimFault.Memory };
+
+    fn from(_error: AllocError) -> TrimFault {
+        TrimFault::Memory
+    }
 }
 
 /// Lines that are all needed, and their tree.
