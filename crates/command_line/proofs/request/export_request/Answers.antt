@@ -2,8 +2,8 @@ use Rattle.std.proofs.Common.{◌∙◌, ap, refl, option_map}
 use Rattle.command_line.proofs.CommandLines.{given_by_rows}
 use Rattle.command_line.proofs.request.export_request.Goals as goal
 
-pub returns-in_ok-get_str-3 : goal.returns-in_ok-get_str-3
-returns-in_ok-get_str-3 c =
+pub returns : goal.returns
+returns c =
     let m = c.args.matches.now in
     record {
       command = refl;

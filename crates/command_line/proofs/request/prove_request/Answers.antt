@@ -3,8 +3,8 @@ use Rattle.std.specs.Str.Parse.{ParsesUnsigned, ExplainsUnsignedError, HasUnsign
 use Rattle.command_line.proofs.CommandLines.{given_by_rows, number_by_rows_as}
 use Rattle.command_line.proofs.request.prove_request.Goals as goal
 
-pub returns-in_ok-make : goal.returns-in_ok-make
-returns-in_ok-make c =
+pub returns : goal.returns
+returns c =
     let m = c.args.matches.now in
     let made = c.in_ok-make.ensures.given in
     record {
