@@ -14,7 +14,7 @@ use Rattle.command_line.specs.CommandLine.{command_line}
 use Rattle.command_line.specs.UsualWords.{PlainWordsAreFaultless, SpellsPieces, begins_with_hyphen}
 use Rattle.command_line.proofs.OptionWords.{pieces_last, pieces_walk}
 use Rattle.command_line.proofs.PieceWords.{pieces_are_free, pieces_pass}
-use Rattle.command_line.proofs.PlainWords.{after_free, check_rules, check_walk, encode_rules, encode_walk, encode_word, explain_rules, explain_walk, export_out, export_out_walk, export_rules, export_walk, free_met, no_dashes, no_long, no_short, out_walk, prove_out, prove_rules, prove_walk, prove_word, replay_rules, replay_walk, start, two_words, walked_free}
+use Rattle.command_line.proofs.PlainWords.{after_free, check_rules, check_walk, encode_rules, encode_walk, encode_word, explain_rules, explain_walk, export_out, export_out_walk, export_rules, export_walk, free_met, no_dashes, no_long, no_short, out_walk, prove_out, prove_rules, prove_walk, prove_word, replay_rules, replay_walk, start, trim_out, trim_out_walk, trim_rules, trim_walk, trim_word, two_words, walked_free}
 
 -- ---- one free word
 
@@ -72,6 +72,9 @@ explain_shape = shape_in (find (λ s. answers_to (codes "explain") (label_of s))
 
 abbrev export_shape : Shape
 export_shape = shape_in (find (λ s. answers_to (codes "export") (label_of s)) (built command_line).subs)
+
+abbrev trim_shape : Shape
+trim_shape = shape_in (find (λ s. answers_to (codes "trim") (label_of s)) (built command_line).subs)
 
 abbrev prove_shape : Shape
 prove_shape = shape_in (find (λ s. answers_to (codes "prove") (label_of s)) (built command_line).subs)
@@ -182,6 +185,42 @@ export_leaf p e file fp fe ff =
     ap₂ (λ (a b : Kinds). or_else a b) (export_first p fp)
     (ap₂ (λ (a b : Kinds). or_else a b) (export_second p e fp fe) (ap₂ (λ (a b : Kinds). or_else a (or_else b [])) third fourth)) in
     leaf_by_walk export_shape (p ∷ e ∷ codes "--out" ∷ file ∷ []) (export_out p e file) turns (export_out_walk p e file fp fe ff)
+
+trim_first : (e : Text) → begins_with_hyphen e ≡ false → turn_fault trim_shape [] start e ≡ []
+unfolding clap_on_literals
+trim_first e fe = turn_at_rest trim_shape start e fe
+
+trim_second : (e : Text) → begins_with_hyphen e ≡ false → turn_fault trim_shape [] (walked trim_rules [] start e) (codes "--out") ≡ []
+unfolding clap_on_literals
+trim_second e fe = ap (λ (w : Walk). turn_fault trim_shape [] w (codes "--out")) (trim_walk e fe)
+
+trim_third : (e file : Text) → begins_with_hyphen e ≡ false → begins_with_hyphen file ≡ false
+    → turn_fault trim_shape [] (walked trim_rules [] (walked trim_rules [] start e) (codes "--out")) file ≡ []
+unfolding clap_on_literals
+trim_third e file fe ff =
+    ap (λ (w : Walk). turn_fault trim_shape [] (walked trim_rules [] w (codes "--out")) file) (trim_walk e fe)
+    ∙ turn_at_rest trim_shape (walked trim_rules [] (trim_word e) (codes "--out")) file ff
+
+trim_leaf : (e file : Text) → begins_with_hyphen e ≡ false → begins_with_hyphen file ≡ false
+    → leaf_fault trim_shape (e ∷ codes "--out" ∷ file ∷ []) ≡ []
+unfolding clap_on_literals
+trim_leaf e file fe ff =
+    let turns : walk_fault trim_shape [] start (e ∷ codes "--out" ∷ file ∷ []) ≡ [] =
+    ap₂ (λ (a b : Kinds). or_else a b) (trim_first e fe)
+    (ap₂ (λ (a b : Kinds). or_else a (or_else b [])) (trim_second e fe) (trim_third e file fe ff)) in
+    leaf_by_walk trim_shape (e ∷ codes "--out" ∷ file ∷ []) (trim_out e file) turns (trim_out_walk e file fe ff)
+
+trim_json_leaf : (e file : Text) → begins_with_hyphen e ≡ false → begins_with_hyphen file ≡ false
+    → leaf_fault trim_shape (e ∷ codes "--out" ∷ file ∷ codes "--json" ∷ []) ≡ []
+unfolding clap_on_literals
+trim_json_leaf e file fe ff =
+    let fourth : turn_fault trim_shape [] (walked trim_rules [] (walked trim_rules [] (walked trim_rules [] start e) (codes "--out")) file) (codes "--json") ≡ [] =
+    ap (λ (w : Walk). turn_fault trim_shape [] w (codes "--json")) (trim_out_walk e file fe ff) in
+    let turns : walk_fault trim_shape [] start (e ∷ codes "--out" ∷ file ∷ codes "--json" ∷ []) ≡ [] =
+    ap₂ (λ (a b : Kinds). or_else a b) (trim_first e fe)
+    (ap₂ (λ (a b : Kinds). or_else a b) (trim_second e fe) (ap₂ (λ (a b : Kinds). or_else a (or_else b [])) (trim_third e file fe ff) fourth)) in
+    leaf_by_walk trim_shape (e ∷ codes "--out" ∷ file ∷ codes "--json" ∷ []) (walked trim_rules [] (trim_out e file) (codes "--json")) turns
+    (ap (λ (w : Walk). walked trim_rules [] w (codes "--json")) (trim_out_walk e file fe ff))
 
 replay_leaf : (p e : Text) → begins_with_hyphen p ≡ false → begins_with_hyphen e ≡ false → leaf_fault replay_shape (p ∷ e ∷ []) ≡ []
 unfolding clap_on_literals
@@ -296,6 +335,17 @@ pub export_faultless : (name p e file : Text) → begins_with_hyphen p ≡ false
 unfolding clap_on_literals
 export_faultless name p e file fp fe ff = ap (whole_fault (codes "export" ∷ p ∷ e ∷ codes "--out" ∷ file ∷ [])) (export_leaf p e file fp fe ff)
 
+pub trim_faultless : (name e file : Text) → begins_with_hyphen e ≡ false → begins_with_hyphen file ≡ false
+    → fault_of command_line (name ∷ codes "trim" ∷ e ∷ codes "--out" ∷ file ∷ []) ≡ []
+unfolding clap_on_literals
+trim_faultless name e file fe ff = ap (whole_fault (codes "trim" ∷ e ∷ codes "--out" ∷ file ∷ [])) (trim_leaf e file fe ff)
+
+pub trim_json_faultless : (name e file : Text) → begins_with_hyphen e ≡ false → begins_with_hyphen file ≡ false
+    → fault_of command_line (name ∷ codes "trim" ∷ e ∷ codes "--out" ∷ file ∷ codes "--json" ∷ []) ≡ []
+unfolding clap_on_literals
+trim_json_faultless name e file fe ff =
+    ap (whole_fault (codes "trim" ∷ e ∷ codes "--out" ∷ file ∷ codes "--json" ∷ [])) (trim_json_leaf e file fe ff)
+
 pub explain_faultless : (name p e : Text) → begins_with_hyphen p ≡ false → begins_with_hyphen e ≡ false
     → fault_of command_line (name ∷ codes "explain" ∷ p ∷ e ∷ []) ≡ []
 unfolding clap_on_literals
@@ -339,6 +389,8 @@ plain_words_are_faultless = record {
   encode = encode_faultless;
   encode_dimacs = encode_dimacs_faultless;
   export = export_faultless;
+  trim = trim_faultless;
+  trim_as_json = trim_json_faultless;
   explain = explain_faultless;
   explain_dot = explain_dot_faultless;
   prove = prove_faultless;

@@ -9,7 +9,7 @@ use Rattle.clap.specs.Walk.{Held, Step, Walk, after_step, answers_to, finished, 
 use Rattle.clap.specs.Simple.{label_of}
 use Rattle.clap.proofs.OnLiterals.{clap_on_literals}
 use Rattle.command_line.specs.CommandLine.{command_line}
-use Rattle.command_line.specs.Requests.{Makes, NamesTask, Task, to_check, to_encode, to_explain, to_export, to_prove, to_replay}
+use Rattle.command_line.specs.Requests.{Makes, NamesTask, Task, to_check, to_encode, to_explain, to_export, to_prove, to_replay, to_trim}
 use Rattle.command_line.specs.UsualWords.{PlainWordsAreRead, begins_with_hyphen}
 use Rattle.command_line.proofs.ReadTasks.{is_read, read}
 use Rattle.command_line.proofs.SecondWords.{at}
@@ -82,6 +82,9 @@ explain_rules = rules_in (find (λ s. answers_to (codes "explain") (label_of s))
 abbrev pub export_rules : List Rule
 export_rules = rules_in (find (λ s. answers_to (codes "export") (label_of s)) (built command_line).subs)
 
+abbrev pub trim_rules : List Rule
+trim_rules = rules_in (find (λ s. answers_to (codes "trim") (label_of s)) (built command_line).subs)
+
 abbrev pub prove_rules : List Rule
 prove_rules = rules_in (find (λ s. answers_to (codes "prove") (label_of s)) (built command_line).subs)
 
@@ -147,6 +150,24 @@ out_walk program file p f =
     ap (λ (w : Walk). walked prove_rules [] (walked prove_rules [] w (codes "--out")) file) (prove_walk program p)
     ∙ walked_free prove_rules (walked prove_rules [] (prove_word program) (codes "--out")) file refl refl f
 
+-- the walk after an evidence's name
+abbrev pub trim_word : Text → Walk
+trim_word evidence = after_free trim_rules start evidence
+
+pub trim_walk : (evidence : Text) → begins_with_hyphen evidence ≡ false → walked trim_rules [] start evidence ≡ trim_word evidence
+trim_walk evidence e = walked_free trim_rules start evidence refl refl e
+
+-- the walk after `--out` and a file's name too
+abbrev pub trim_out : Text → Text → Walk
+trim_out evidence file = after_free trim_rules (walked trim_rules [] (trim_word evidence) (codes "--out")) file
+
+pub trim_out_walk : (evidence file : Text) → begins_with_hyphen evidence ≡ false → begins_with_hyphen file ≡ false
+    → fold (walked trim_rules []) start (evidence ∷ codes "--out" ∷ file ∷ []) ≡ trim_out evidence file
+unfolding clap_on_literals
+trim_out_walk evidence file e f =
+    ap (λ (w : Walk). walked trim_rules [] (walked trim_rules [] w (codes "--out")) file) (trim_walk evidence e)
+    ∙ walked_free trim_rules (walked trim_rules [] (trim_word evidence) (codes "--out")) file refl refl f
+
 -- the task that words make, by where their walk ends
 pub read_by : (command : Text) (rules : List Rule) (words : List Text) (w : Walk) (task goal : Task) → fold (walked rules []) start words ≡ w
     → Makes command (finished rules (fold (walked rules []) start words).held) task → read command (finished rules w.held) ≡ goal → task ≡ goal
@@ -186,6 +207,14 @@ of_explain_dot p e = refl
 of_export : (p e file : Text) → read (codes "export") (finished export_rules (export_out p e file).held) ≡ to_export p e file
 unfolding clap_on_literals
 of_export p e file = refl
+
+of_trim : (e file : Text) → read (codes "trim") (finished trim_rules (trim_out e file).held) ≡ to_trim e file false
+unfolding clap_on_literals
+of_trim e file = refl
+
+of_trim_json : (e file : Text) → read (codes "trim") (finished trim_rules (walked trim_rules [] (trim_out e file) (codes "--json")).held) ≡ to_trim e file true
+unfolding clap_on_literals
+of_trim_json e file = refl
 
 of_prove : (p : Text) → read (codes "prove") (finished prove_rules (prove_word p).held) ≡ to_prove p None 4 4 1000000 false false
 unfolding clap_on_literals
@@ -228,6 +257,11 @@ made_export : (name : Text) (words : List Text) (task : Task) → NamesTask (nam
 unfolding clap_on_literals
 made_export name words task asks = at name (codes "export") words task refl asks
 
+made_trim : (name : Text) (words : List Text) (task : Task) → NamesTask (name ∷ codes "trim" ∷ words) task
+    → Makes (codes "trim") (finished trim_rules (fold (walked trim_rules []) start words).held) task
+unfolding clap_on_literals
+made_trim name words task asks = at name (codes "trim") words task refl asks
+
 pub made_prove : (name : Text) (words : List Text) (task : Task) → NamesTask (name ∷ codes "prove" ∷ words) task
     → Makes (codes "prove") (finished prove_rules (fold (walked prove_rules []) start words).held) task
 unfolding clap_on_literals
@@ -259,6 +293,12 @@ plain_words_are_read = record {
   export = λ name p e file task fp fe ffile asks.
       read_by (codes "export") export_rules (p ∷ e ∷ codes "--out" ∷ file ∷ []) (export_out p e file) task (to_export p e file) (export_out_walk p e file fp fe ffile)
       (made_export name (p ∷ e ∷ codes "--out" ∷ file ∷ []) task asks.named) (of_export p e file);
+  trim = λ name e file task fe ffile asks.
+      read_by (codes "trim") trim_rules (e ∷ codes "--out" ∷ file ∷ []) (trim_out e file) task (to_trim e file false) (trim_out_walk e file fe ffile)
+      (made_trim name (e ∷ codes "--out" ∷ file ∷ []) task asks.named) (of_trim e file);
+  trim_as_json = λ name e file task fe ffile asks.
+      read_by (codes "trim") trim_rules (e ∷ codes "--out" ∷ file ∷ codes "--json" ∷ []) (walked trim_rules [] (trim_out e file) (codes "--json")) task (to_trim e file true) (ap (λ (w : Walk). walked trim_rules [] w (codes "--json")) (trim_out_walk e file fe ffile))
+      (made_trim name (e ∷ codes "--out" ∷ file ∷ codes "--json" ∷ []) task asks.named) (of_trim_json e file);
   prove = λ name p task fp asks.
       read_by (codes "prove") prove_rules (p ∷ []) (prove_word p) task (to_prove p None 4 4 1000000 false false) (prove_walk p fp)
       (made_prove name (p ∷ []) task asks.named) (of_prove p);

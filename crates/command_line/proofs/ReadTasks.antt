@@ -5,7 +5,7 @@ use Rattle.std.specs.Str.{bytes_eq}
 use Rattle.clap.specs.Words.{Row, Text, first_of, one_of, subcommand_of}
 use Rattle.clap.proofs.OnLiterals.{clap_on_literals}
 use Rattle.command_line.specs.CommandLine.{command_line}
-use Rattle.command_line.specs.Requests.{Makes, MakesSome, OneTaskIsAsked, Reads, Task, is_true, number_of, to_check, to_encode, to_explain, to_export, to_prove, to_replay}
+use Rattle.command_line.specs.Requests.{Makes, MakesSome, OneTaskIsAsked, Reads, Task, is_true, number_of, to_check, to_encode, to_explain, to_export, to_prove, to_replay, to_trim}
 
 abbrev text_in : Option Text → Text
 text_in o = unwrap_or o []
@@ -29,7 +29,9 @@ read name rows =
     then to_encode (text_in (first_of (codes "PROGRAM") rows)) (is_true (one_of (codes "dimacs") rows))
     else (if bytes_eq name (codes "explain")
     then to_explain (text_in (first_of (codes "PROGRAM") rows)) (text_in (first_of (codes "EVIDENCE") rows)) (is_true (one_of (codes "dot") rows))
-    else to_export (text_in (first_of (codes "PROGRAM") rows)) (text_in (first_of (codes "EVIDENCE") rows)) (text_in (first_of (codes "out") rows))))))
+    else (if bytes_eq name (codes "export")
+    then to_export (text_in (first_of (codes "PROGRAM") rows)) (text_in (first_of (codes "EVIDENCE") rows)) (text_in (first_of (codes "out") rows))
+    else to_trim (text_in (first_of (codes "EVIDENCE") rows)) (text_in (first_of (codes "out") rows)) (is_true (one_of (codes "json") rows)))))))
 
 given : (o : Option Text) (text : Text) → o ≡ Some text → text ≡ text_in o
 given o text e = sym (ap text_in e)
@@ -60,6 +62,9 @@ is_read name rows (to_explain p e graph) makes =
 is_read name rows (to_export p e out) makes =
     let v = makes.values in
     (λ i. to_export (given _ p v.0 i) (given _ e v.1 i) (given _ out v.2 i)) ∙ ap (λ (n : Text). read n rows) (sym makes.command)
+is_read name rows (to_trim e out json) makes =
+    let v = makes.values in
+    (λ i. to_trim (given _ e v.0 i) (given _ out v.1 i) (v.2 i)) ∙ ap (λ (n : Text). read n rows) (sym makes.command)
 
 same : (found : Option (Text × List Row)) (one other : Task) → MakesSome found one → MakesSome found other → one ≡ other
 same None one other first second = absurd first

@@ -178,6 +178,10 @@ at_export : (w : Text) (rest : List Text) (task : Task) → NamesTask (w ∷ cod
 unfolding clap_on_literals
 at_export w rest task asks = (at w (codes "export") rest task refl asks).command
 
+at_trim : (w : Text) (rest : List Text) (task : Task) → NamesTask (w ∷ codes "trim" ∷ rest) task → codes "trim" ≡ command_of task
+unfolding clap_on_literals
+at_trim w rest task asks = (at w (codes "trim") rest task refl asks).command
+
 at_help : (w : Text) (rest : List Text) (task : Task) → NamesTask (w ∷ codes "help" ∷ rest) task → codes "help" ≡ command_of task
 unfolding clap_on_literals
 at_help w rest task asks = (at w (codes "help") rest task refl asks).command
@@ -195,8 +199,8 @@ at_dashes w (word ∷ rest) task asks sound =
 
 unmet_by : (word : Text) → bytes_eq (codes "prove") word ≡ false → bytes_eq (codes "check") word ≡ false → bytes_eq (codes "replay") word ≡ false
     → bytes_eq (codes "encode") word ≡ false → bytes_eq (codes "explain") word ≡ false → bytes_eq (codes "export") word ≡ false
-    → bytes_eq (codes "help") word ≡ false → subcommand_met names idle word ≡ None
-unmet_by word a b c d x o e = rw (a, b, c, d, x, o, e) refl
+    → bytes_eq (codes "trim") word ≡ false → bytes_eq (codes "help") word ≡ false → subcommand_met names idle word ≡ None
+unmet_by word a b c d x o t e = rw (a, b, c, d, x, o, t, e) refl
 
 turn_none : (w word : Text) (rest : List Text) → fault_of command_line (w ∷ word ∷ rest) ≡ [] → turn_fault top names (walk_from nothing_held) word ≡ []
 unfolding walk_fault
@@ -224,14 +228,20 @@ command_is_second (w ∷ word ∷ rest) task asks sound = ap Some (by_name (byte
 
     by_help : (b : Bool) → bytes_eq (codes "help") word ≡ b → bytes_eq (codes "prove") word ≡ false → bytes_eq (codes "check") word ≡ false
         → bytes_eq (codes "replay") word ≡ false → bytes_eq (codes "encode") word ≡ false → bytes_eq (codes "explain") word ≡ false
+        → bytes_eq (codes "export") word ≡ false → bytes_eq (codes "trim") word ≡ false → word ≡ command_of task
+    by_help true e p c r n x o t = sym (is _ e) ∙ at_help w rest task (asked _ (is _ e))
+    by_help false e p c r n x o t = by_dashes (bytes_eq word dashes) refl (unmet_by word p c r n x o t e)
+
+    by_trim : (b : Bool) → bytes_eq (codes "trim") word ≡ b → bytes_eq (codes "prove") word ≡ false → bytes_eq (codes "check") word ≡ false
+        → bytes_eq (codes "replay") word ≡ false → bytes_eq (codes "encode") word ≡ false → bytes_eq (codes "explain") word ≡ false
         → bytes_eq (codes "export") word ≡ false → word ≡ command_of task
-    by_help true e p c r n x o = sym (is _ e) ∙ at_help w rest task (asked _ (is _ e))
-    by_help false e p c r n x o = by_dashes (bytes_eq word dashes) refl (unmet_by word p c r n x o e)
+    by_trim true e p c r n x o = sym (is _ e) ∙ at_trim w rest task (asked _ (is _ e))
+    by_trim false e p c r n x o = by_help (bytes_eq (codes "help") word) refl p c r n x o e
 
     by_export : (b : Bool) → bytes_eq (codes "export") word ≡ b → bytes_eq (codes "prove") word ≡ false → bytes_eq (codes "check") word ≡ false
         → bytes_eq (codes "replay") word ≡ false → bytes_eq (codes "encode") word ≡ false → bytes_eq (codes "explain") word ≡ false → word ≡ command_of task
     by_export true e p c r n x = sym (is _ e) ∙ at_export w rest task (asked _ (is _ e))
-    by_export false e p c r n x = by_help (bytes_eq (codes "help") word) refl p c r n x e
+    by_export false e p c r n x = by_trim (bytes_eq (codes "trim") word) refl p c r n x e
 
     by_explain : (b : Bool) → bytes_eq (codes "explain") word ≡ b → bytes_eq (codes "prove") word ≡ false → bytes_eq (codes "check") word ≡ false
         → bytes_eq (codes "replay") word ≡ false → bytes_eq (codes "encode") word ≡ false → word ≡ command_of task

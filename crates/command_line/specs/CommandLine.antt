@@ -74,6 +74,10 @@ proof_rule = record out_rule { required = true }
 abbrev pub export_app : App
 export_app = with_rule (with_rule (with_rule (new_app (codes "export")) program_rule) evidence_rule) proof_rule
 
+-- the command `trim`
+abbrev pub trim_app : App
+trim_app = with_rule (with_rule (with_rule (new_app (codes "trim")) evidence_rule) proof_rule) json_rule
+
 -- `--progress`, which takes no value
 abbrev pub progress_rule : Rule
 progress_rule = record (option_rule (codes "progress")) { action = Some SetTrue }
@@ -103,10 +107,11 @@ wants_subcommand a = record a { top = record a.top { subcommand_required = true 
 abbrev pub with_version : App → App
 with_version a = record a { top = record a.top { has_version = true } }
 
--- the whole command line: one of the six commands, or a question for help or for the version
+-- the whole command line: one of the seven commands, or a question for help or for the version
 abbrev pub command_line : App
 command_line =
     with_subcommand
+    (with_subcommand
     (with_subcommand
     (with_subcommand
     (with_subcommand
@@ -116,7 +121,8 @@ command_line =
     replay_app.top)
     encode_app.top)
     explain_app.top)
-    export_app.top
+    export_app.top)
+    trim_app.top
 
 -- the argument has this rule, and is of its own command alone
 pub record IsRuled (a : Arg) (rule : Rule) : Type 0 where

@@ -10,7 +10,8 @@ use Rattle.command_line.specs.declared.request.Request.TheVariants as ask
 -- What may be asked for: to prove a program, with the file for the evidence, where one is named, the numbers of workers, the depth and the
 -- budget, whether the progress is told, and whether the answer is a JSON object; to check a program by an evidence, in so many pieces, with
 -- the answer as a JSON object or not; to replay an evidence on a program; to encode a program, in the DIMACS format or not; to explain what an
--- evidence shows of a program, by a graph or not; and to export the proof that an evidence makes of a program, to a file.
+-- evidence shows of a program, by a graph or not; to export the proof that an evidence makes of a program, to a file; and to trim an evidence,
+-- to a file, with the answer as a JSON object or not.
 pub data Task : Type 0 where
   to_prove : Text → Option Text → ℕ → ℕ → ℕ → Bool → Bool → Task
   to_check : Text → Text → ℕ → Bool → Task
@@ -18,6 +19,7 @@ pub data Task : Type 0 where
   to_encode : Text → Bool → Task
   to_explain : Text → Text → Bool → Task
   to_export : Text → Text → Text → Task
+  to_trim : Text → Text → Bool → Task
 
 -- what a request asks for
 abbrev pub task_of : Request → Task
@@ -28,6 +30,7 @@ task_of (ask.Replay program evidence) = to_replay program.now evidence.now
 task_of (ask.Encode program dimacs) = to_encode program.now dimacs
 task_of (ask.Explain program evidence graph) = to_explain program.now evidence.now graph
 task_of (ask.Export program evidence out) = to_export program.now evidence.now out.now
+task_of (ask.Trim evidence out json) = to_trim evidence.now out.now json
 
 -- the word of a task's command
 abbrev pub command_of : Task → Text
@@ -37,6 +40,7 @@ command_of (to_replay program evidence) = codes "replay"
 command_of (to_encode program dimacs) = codes "encode"
 command_of (to_explain program evidence graph) = codes "explain"
 command_of (to_export program evidence out) = codes "export"
+command_of (to_trim evidence out json) = codes "trim"
 
 -- ---- what the words after a command give
 
@@ -75,6 +79,8 @@ HasValues rows (to_explain program evidence graph) =
     Gives rows (codes "PROGRAM") program × Gives rows (codes "EVIDENCE") evidence × Flags rows (codes "dot") graph
 HasValues rows (to_export program evidence out) =
     Gives rows (codes "PROGRAM") program × Gives rows (codes "EVIDENCE") evidence × Gives rows (codes "out") out
+HasValues rows (to_trim evidence out json) =
+    Gives rows (codes "EVIDENCE") evidence × Gives rows (codes "out") out × Flags rows (codes "json") json
 
 -- a command's name and its matches make this task
 pub record Makes (name : Text) (rows : List Row) (task : Task) : Type 0 where

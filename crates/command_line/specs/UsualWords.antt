@@ -4,7 +4,7 @@ use Rattle.std.specs.Str.Parse.{IsNumeral, digits_value}
 use Rattle.clap.specs.Words.{Text, fault_of}
 use Rattle.settings.specs.Ranges.{IsPieces}
 use Rattle.command_line.specs.CommandLine.{command_line}
-use Rattle.command_line.specs.Requests.{AskFor, Task, number_of, to_check, to_encode, to_explain, to_export, to_prove, to_replay}
+use Rattle.command_line.specs.Requests.{AskFor, Task, number_of, to_check, to_encode, to_explain, to_export, to_prove, to_replay, to_trim}
 
 -- the text's first byte is a hyphen
 abbrev pub begins_with_hyphen : Text → Bool
@@ -34,6 +34,10 @@ pub record PlainWordsAreRead : Type 0 where
       → AskFor (name ∷ codes "explain" ∷ p ∷ e ∷ codes "--dot" ∷ []) task → task ≡ to_explain p e true
   pub export : (name p e file : Text) (task : Task) → begins_with_hyphen p ≡ false → begins_with_hyphen e ≡ false → begins_with_hyphen file ≡ false
       → AskFor (name ∷ codes "export" ∷ p ∷ e ∷ codes "--out" ∷ file ∷ []) task → task ≡ to_export p e file
+  pub trim : (name e file : Text) (task : Task) → begins_with_hyphen e ≡ false → begins_with_hyphen file ≡ false
+      → AskFor (name ∷ codes "trim" ∷ e ∷ codes "--out" ∷ file ∷ []) task → task ≡ to_trim e file false
+  pub trim_as_json : (name e file : Text) (task : Task) → begins_with_hyphen e ≡ false → begins_with_hyphen file ≡ false
+      → AskFor (name ∷ codes "trim" ∷ e ∷ codes "--out" ∷ file ∷ codes "--json" ∷ []) task → task ≡ to_trim e file true
   pub prove : (name p : Text) (task : Task) → begins_with_hyphen p ≡ false
       → AskFor (name ∷ codes "prove" ∷ p ∷ []) task → task ≡ to_prove p None 4 4 1000000 false false
   pub prove_as_json : (name p : Text) (task : Task) → begins_with_hyphen p ≡ false
@@ -77,6 +81,10 @@ pub record PlainWordsAreFaultless : Type 0 where
   pub encode_dimacs : (name p : Text) → begins_with_hyphen p ≡ false → fault_of command_line (name ∷ codes "encode" ∷ p ∷ codes "--dimacs" ∷ []) ≡ []
   pub export : (name p e file : Text) → begins_with_hyphen p ≡ false → begins_with_hyphen e ≡ false → begins_with_hyphen file ≡ false
       → fault_of command_line (name ∷ codes "export" ∷ p ∷ e ∷ codes "--out" ∷ file ∷ []) ≡ []
+  pub trim : (name e file : Text) → begins_with_hyphen e ≡ false → begins_with_hyphen file ≡ false
+      → fault_of command_line (name ∷ codes "trim" ∷ e ∷ codes "--out" ∷ file ∷ []) ≡ []
+  pub trim_as_json : (name e file : Text) → begins_with_hyphen e ≡ false → begins_with_hyphen file ≡ false
+      → fault_of command_line (name ∷ codes "trim" ∷ e ∷ codes "--out" ∷ file ∷ codes "--json" ∷ []) ≡ []
   pub explain : (name p e : Text) → begins_with_hyphen p ≡ false → begins_with_hyphen e ≡ false
       → fault_of command_line (name ∷ codes "explain" ∷ p ∷ e ∷ []) ≡ []
   pub explain_dot : (name p e : Text) → begins_with_hyphen p ≡ false → begins_with_hyphen e ≡ false

@@ -85,6 +85,12 @@ pub fn proof<'a>(alloc: Global) -> Arg<'a>
     written(alloc, "Write the proof to this file").required(true)
 }
 
+pub fn trimmed<'a>(alloc: Global) -> Arg<'a>
+    ensures { IsRuled result proof_rule }
+{
+    written(alloc, "The file for the trimmed evidence").required(true)
+}
+
 pub fn out<'a>(alloc: Global) -> Arg<'a>
     ensures { IsRuled result out_rule }
 {

@@ -2,13 +2,14 @@
 
 ghost use Rattle.std.specs.Prelude.{◌≡◌, IfOk};
 ghost use Rattle.clap.specs.Words.{App, Rule, new_app, with_rule, with_subcommand};
-ghost use Rattle.command_line.specs.CommandLine.{IsRuled, IsShaped, check_app, command_line, encode_app, explain_app, export_app, prove_app, replay_app, version_line};
+ghost use Rattle.command_line.specs.CommandLine.{IsRuled, IsShaped, check_app, command_line, encode_app, explain_app, export_app, prove_app, replay_app, trim_app, version_line};
 
 use crate::arguments::{
-    budget, depth, dimacs, dot, evidence, json, out, pieces, program, progress, proof, workers,
+    budget, depth, dimacs, dot, evidence, json, out, pieces, program, progress, proof, trimmed,
+    workers,
 };
 use crate::help_ends::{
-    CHECK_END, ENCODE_END, EXPLAIN_END, EXPORT_END, HELP_END, PROVE_END, REPLAY_END,
+    CHECK_END, ENCODE_END, EXPLAIN_END, EXPORT_END, HELP_END, PROVE_END, REPLAY_END, TRIM_END,
 };
 use clap::Arg;
 use clap::builder::Command;
@@ -60,7 +61,8 @@ pub fn command<'a>(alloc: Global) -> Result<Command<'a>, AllocError>
     let top = under(top, replay_command(alloc));
     let top = under(top, encode_command(alloc));
     let top = under(top, explain_command(alloc));
-    under(top, export_command(alloc))
+    let top = under(top, export_command(alloc));
+    under(top, trim_command(alloc))
 }
 
 fn prove_command<'a>(alloc: Global) -> Result<Command<'a>, AllocError>
@@ -143,4 +145,18 @@ fn export_command<'a>(alloc: Global) -> Result<Command<'a>, AllocError>
     let command = with(Ok(command), program(alloc));
     let command = with(command, evidence(alloc));
     with(command, proof(alloc))
+}
+
+fn trim_command<'a>(alloc: Global) -> Result<Command<'a>, AllocError>
+    ensures { IfOk result (λ c. IsShaped c trim_app) }
+{
+    let command = named(
+        alloc,
+        "trim",
+        "Writes a refutation without the lines that aren't needed",
+        TRIM_END,
+    );
+    let command = with(Ok(command), evidence(alloc));
+    let command = with(command, trimmed(alloc));
+    with(command, json(alloc))
 }

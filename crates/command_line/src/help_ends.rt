@@ -78,3 +78,11 @@ pub const EXPORT_END: &str = ending!(
   1  deadlock: there is no proof, and no file is written
   3  refused: the program or the evidence, with the reason"
 );
+
+/// Of `trim`.
+pub const TRIM_END: &str = ending!(
+    "trim program.evidence --out smaller.evidence",
+    "
+  0  the evidence is written, with as many lines as are printed
+  3  refused: the evidence, with the reason"
+);

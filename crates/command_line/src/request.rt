@@ -1,6 +1,6 @@
 //! What the words of a command line ask for.
 
-ghost use Rattle.std.specs.Prelude.{◌≡◌, ◌⊎◌, IfErr, IfOk, IfSome, map, string_bytes};
+ghost use Rattle.std.specs.Prelude.{◌≡◌, ◌⊎◌, IfErr, IfOk, IfSome, codes, map, string_bytes};
 ghost use Rattle.clap.specs.Words.{IsAmong, fault_of, found_of, kind_of, rows_of, subcommand_rows_of};
 ghost use Rattle.command_line.specs.CommandLine.{command_line};
 ghost use Rattle.command_line.specs.Requests.{AskFor, Flags, Makes, MakesSome, task_of};
@@ -54,6 +54,12 @@ pub enum Request<'a> {
         evidence: &'a str,
         out: &'a str,
     },
+    /// Write a refutation without the lines that aren't needed to the file `out`.
+    Trim {
+        evidence: &'a str,
+        out: &'a str,
+        json: bool,
+    },
 }
 
 /// What the words ask for. The first word is the program's own name. An error is a fault of usage, a
@@ -92,58 +98,100 @@ fn requested<'a>(subcommand: (&'a str, &ArgMatches<'a>)) -> Option<Request<'a>>
         Makes subcommand.entry.0.now (rows_of (found_of subcommand.entry.1.now)) (task_of request)) }
 {
     let (name, matches) = subcommand;
-    let program = matches.get_str(PROGRAM)?;
     match name {
-        "prove" => {
-            let workers = matches.get_one::<u32>(WORKERS)?;
-            let depth = matches.get_one::<u32>(DEPTH)?;
-            let budget = matches.get_one::<u32>(BUDGET)?;
-            Some(Request::Prove {
-                program,
-                out: matches.get_str(OUT),
-                options: Options::make(workers, depth, budget)?,
-                progress: is_set(matches, PROGRESS),
-                json: is_set(matches, JSON),
-            })
-        }
-        "check" => {
-            let evidence = matches.get_str(EVIDENCE)?;
-            let pieces = matches.get_one::<u32>(PIECES)?;
-            Some(Request::Check {
-                program,
-                evidence,
-                pieces: Pieces::make(pieces)?,
-                json: is_set(matches, JSON),
-            })
-        }
-        "replay" => Some(Request::Replay {
-            program,
-            evidence: matches.get_str(EVIDENCE)?,
-        }),
-        "encode" => {
-            let dimacs = is_set(matches, DIMACS);
-            Some(Request::Encode { program, dimacs })
-        }
-        "explain" => {
-            let evidence = matches.get_str(EVIDENCE)?;
-            let graph = is_set(matches, DOT);
-            Some(Request::Explain {
-                program,
-                evidence,
-                graph,
-            })
-        }
-        "export" => {
-            let evidence = matches.get_str(EVIDENCE)?;
-            let out = matches.get_str(OUT)?;
-            Some(Request::Export {
-                program,
-                evidence,
-                out,
-            })
-        }
+        "prove" => prove_request(matches),
+        "check" => check_request(matches),
+        "replay" => replay_request(matches),
+        "encode" => encode_request(matches),
+        "explain" => explain_request(matches),
+        "export" => export_request(matches),
+        "trim" => trim_request(matches),
         _ => None,
     }
+}
+
+/// The request of the matches of `prove`.
+fn prove_request<'a>(matches: &ArgMatches<'a>) -> Option<Request<'a>>
+    ensures { IfSome result (λ request. Makes (codes "prove") (rows_of (found_of matches.now)) (task_of request)) }
+{
+    let workers = matches.get_one::<u32>(WORKERS)?;
+    let depth = matches.get_one::<u32>(DEPTH)?;
+    let budget = matches.get_one::<u32>(BUDGET)?;
+    Some(Request::Prove {
+        program: matches.get_str(PROGRAM)?,
+        out: matches.get_str(OUT),
+        options: Options::make(workers, depth, budget)?,
+        progress: is_set(matches, PROGRESS),
+        json: is_set(matches, JSON),
+    })
+}
+
+/// The request of the matches of `check`.
+fn check_request<'a>(matches: &ArgMatches<'a>) -> Option<Request<'a>>
+    ensures { IfSome result (λ request. Makes (codes "check") (rows_of (found_of matches.now)) (task_of request)) }
+{
+    let program = matches.get_str(PROGRAM)?;
+    let pieces = matches.get_one::<u32>(PIECES)?;
+    Some(Request::Check {
+        program,
+        evidence: matches.get_str(EVIDENCE)?,
+        pieces: Pieces::make(pieces)?,
+        json: is_set(matches, JSON),
+    })
+}
+
+/// The request of the matches of `replay`.
+fn replay_request<'a>(matches: &ArgMatches<'a>) -> Option<Request<'a>>
+    ensures { IfSome result (λ request. Makes (codes "replay") (rows_of (found_of matches.now)) (task_of request)) }
+{
+    Some(Request::Replay {
+        program: matches.get_str(PROGRAM)?,
+        evidence: matches.get_str(EVIDENCE)?,
+    })
+}
+
+/// The request of the matches of `encode`.
+fn encode_request<'a>(matches: &ArgMatches<'a>) -> Option<Request<'a>>
+    ensures { IfSome result (λ request. Makes (codes "encode") (rows_of (found_of matches.now)) (task_of request)) }
+{
+    Some(Request::Encode {
+        program: matches.get_str(PROGRAM)?,
+        dimacs: is_set(matches, DIMACS),
+    })
+}
+
+/// The request of the matches of `explain`.
+fn explain_request<'a>(matches: &ArgMatches<'a>) -> Option<Request<'a>>
+    ensures { IfSome result (λ request. Makes (codes "explain") (rows_of (found_of matches.now)) (task_of request)) }
+{
+    Some(Request::Explain {
+        program: matches.get_str(PROGRAM)?,
+        evidence: matches.get_str(EVIDENCE)?,
+        graph: is_set(matches, DOT),
+    })
+}
+
+/// The request of the matches of `export`.
+fn export_request<'a>(matches: &ArgMatches<'a>) -> Option<Request<'a>>
+    ensures { IfSome result (λ request. Makes (codes "export") (rows_of (found_of matches.now)) (task_of request)) }
+{
+    Some(Request::Export {
+        program: matches.get_str(PROGRAM)?,
+        evidence: matches.get_str(EVIDENCE)?,
+        out: matches.get_str(OUT)?,
+    })
+}
+
+/// The request of the matches of `trim`.
+fn trim_request<'a>(matches: &ArgMatches<'a>) -> Option<Request<'a>>
+    ensures { IfSome result (λ request. Makes (codes "trim") (rows_of (found_of matches.now)) (task_of request)) }
+{
+    let out = matches.get_str(OUT)?;
+    Some(Request::Trim {
+        evidence: matches.get_str(EVIDENCE)?,
+        out,
+        json: is_set(matches, JSON),
+    })
 }
 
 /// Whether the words set a flag.

@@ -15,4 +15,5 @@ returns c =
     let three = c.under-top-3.ensures _ _ two c.replay_command.ensures in
     let four = c.under-top-4.ensures _ _ three c.encode_command.ensures in
     let five = c.under-top-5.ensures _ _ four c.explain_command.ensures in
-    c.under.ensures _ _ five c.export_command.ensures
+    let six = c.under-top-6.ensures _ _ five c.export_command.ensures in
+    c.under.ensures _ _ six c.trim_command.ensures
