@@ -92,7 +92,14 @@ pub(crate) fn refutation_of(
     let _numbered = nodes.nodes();
     let lines = lines_of(alloc, log)?;
     let clauses = formula.clauses().len() as u32;
-    match Refutation::make(alloc, Version::One, formula.variables(), clauses, lines, nodes) {
+    match Refutation::make(
+        alloc,
+        Version::One,
+        formula.variables(),
+        clauses,
+        lines,
+        nodes,
+    ) {
         Ok(refutation) => Ok(refutation),
         Err(MakeRefutationFault::Memory) => Err(AllocError),
         Err(MakeRefutationFault::TooLarge) => unreachable!(),

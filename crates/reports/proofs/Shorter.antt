@@ -16,7 +16,7 @@ claim_of other (Schedule steps) = other
 pub shortened_refutes : ShortenedRefute
 shortened_refutes program evidence s shortens refutes =
     let same : refutes.claim ≡ shortens.claim =
-        (λ i. claim_of refutes.claim (one_value evidence (Refutation refutes.claim) (Refutation shortens.claim) refutes.refutation shortens.refutation i)) in
+    (λ i. claim_of refutes.claim (one_value evidence (Refutation refutes.claim) (Refutation shortens.claim) refutes.refutation shortens.refutation i)) in
     record {
       p = refutes.p;
       claim = trimmed_of shortens.claim;

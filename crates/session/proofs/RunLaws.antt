@@ -463,14 +463,13 @@ trimmed = record {
       (trim_ends words e out as_json (record { writes = true; reads = reads }) before after old new told_old told_new status asks ends) zero in
       let is = trimmed_page true before after e out as_json page.0 0 page.1 (omega arith) in
       let s = is.2.0 in
-      let shortens : Shortens evidence s = subst (λ (bytes : List ℕ). Shortens bytes s) (read_as_held (before e) evidence is.0 held is.1) is.2.1 in
-      (
+      let shortens : Shortens evidence s = subst (λ (bytes : List ℕ). Shortens bytes s) (all_are (before e) is.0 evidence is.1 held) is.2.1 in (
         s,
         shortens,
         is.2.2 refl,
         λ program refutes. shortened_refutes program evidence s shortens refutes,
         subst (λ (text : List ℕ). PrintsAlone old new told_old told_new text 0 status) is.2.3 page.2,
-        );
+      );
   never_stuck = λ words e out as_json tells before after old new told_old told_new status asks ends one.
       let page = page_printed 1 (omega arith) (IsTrimmed tells.writes before after e out as_json) (IsTrimFile tells.reads e out before after) want.Refused as_json before after old new told_old told_new status
       (trim_ends words e out as_json tells before after old new told_old told_new status asks ends) one in
@@ -542,7 +541,6 @@ asked_told words tells before after old new told_old told_new status (to_export 
 asked_told words tells before after old new told_old told_new status (to_encode p dimacs) asks ends says =
     let page = deadlock_page (IsEncoded dimacs (before p)) (IsProgram tells.reads p) want.Refused false before after old new told_old told_new status ends.1 says in
     absurd (encoded_untold dimacs (before p) page.0 page.1 page.2 page.3)
-
 asked_told words tells before after old new told_old told_new status (to_trim e out as_json) asks ends says =
     let page = deadlock_page (IsTrimmed tells.writes before after e out as_json) (IsTrimFile tells.reads e out before after) want.Refused as_json before after old new told_old told_new status ends.1 says in
     absurd (trimmed_untold tells.writes before after e out as_json page.0 page.1 page.2 page.3)
