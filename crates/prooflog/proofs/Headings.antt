@@ -42,8 +42,7 @@ claim version v c = record { version = version; variables = v; clauses = c; line
 
 one_heading : (version : Version) → CanGoOn (heading_line version ∷ [])
 one_heading version =
-    let small : IsSmall [] (Leaf 1 ∷ []) = record { few_lines = omega arith; few_nodes = omega arith; shallow = refl } in
-    (
+    let small : IsSmall [] (Leaf 1 ∷ []) = record { few_lines = omega arith; few_nodes = omega arith; shallow = refl } in (
       as_refutation (claim version 0 0),
       (record { variables = omega arith; clauses = omega arith; lines = refl; numbered = refl; is_tree = refl }, small_front [] (Leaf 1 ∷ []) (1 - 2) (1 - 3) small),
       (refutation_line 0 0 ∷ to_end (map item_line (items (claim version 0 0))), refl),

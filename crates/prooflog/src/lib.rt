@@ -28,7 +28,9 @@ pub use fault::EvidenceFault;
 pub use formula_text::write_formula;
 pub use laws::{depths_are_of_the_tree, one_fault, one_value, text_has_no_fault};
 pub use reader::{read_evidence, read_evidence_in};
-pub use refutation::{MOST_DEPTH, MOST_LINES, MOST_NODES, MakeRefutationFault, Refutation, Version};
+pub use refutation::{
+    MOST_DEPTH, MOST_LINES, MOST_NODES, MakeRefutationFault, Refutation, Version,
+};
 pub use schedule::Schedule;
 pub use step::{find_word, put_find};
 pub use trims::{TrimFault, trim};
