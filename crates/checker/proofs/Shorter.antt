@@ -4,7 +4,7 @@ use Rattle.callorder.specs.Programs.{MpiProgram}
 use Rattle.formulas.specs.Numbering.{formula_of}
 use Rattle.prooflog.specs.Refutations.{ClaimedRefutation}
 use Rattle.prooflog.specs.Trims.{trimmed_of}
-use Rattle.prooflog.proofs.Trims.{keeps_accepted}
+use Rattle.prooflog.proofs.TrimLaws.{keeps_accepted}
 use Rattle.checker.specs.Verdicts.{IsRefutedBy}
 
 pub refuted_trimmed : (p : MpiProgram) (claim : ClaimedRefutation) → IsRefutedBy p claim → IsRefutedBy p (trimmed_of claim)

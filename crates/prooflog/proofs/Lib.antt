@@ -15,4 +15,4 @@ pub mod Headings
 pub mod TreeDepths
 pub mod Writings
 mod FormulaTexts
-pub mod Trims
+pub mod TrimLaws

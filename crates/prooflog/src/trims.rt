@@ -31,7 +31,13 @@ fn trimmed(alloc: Global, refutation: &Refutation) -> Result<Refutation, TrimFau
 {
     let (variables, clauses) = (refutation.variables(), refutation.clauses());
     match trimming::trim(alloc, clauses, refutation.lines(), refutation.tree()) {
-        Ok(kept) => Ok(Refutation::of_checked(Version::Two, variables, clauses, kept.lines, kept.tree)),
+        Ok(kept) => Ok(Refutation::of_checked(
+            Version::Two,
+            variables,
+            clauses,
+            kept.lines,
+            kept.tree,
+        )),
         Err(trimming::TrimFault::Memory) => Err(TrimFault::Memory),
         Err(trimming::TrimFault::Number) => Err(TrimFault::Number),
     }

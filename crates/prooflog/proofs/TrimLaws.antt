@@ -1,5 +1,5 @@
 -- What is trimmed is within the limits, and accepted where it was.
-use Rattle.std.proofs.Common.{◌≡◌, ℕ, ◌+◌, ◌≤◌, Bool, true, false, ◌&&◌, IsTrue, List, [], ◌∷◌, map, length, refl, sym, ap, ◌∙◌, subst, arith}
+use Rattle.std.proofs.Common.{◌≡◌, ℕ, ◌+◌, ◌≤◌, ◌⊎◌, inl, inr, Bool, true, false, ◌&&◌, Result, Ok, Err, IsTrue, List, [], ◌∷◌, map, length, refl, sym, ap, ◌∙◌, subst, arith}
 use Rattle.std.specs.List.{list_all}
 use Rattle.std.proofs.lemmas.Bool.{and_parts, and_from}
 use Rattle.std.proofs.lemmas.List.{length-map}
@@ -8,11 +8,14 @@ use Rattle.refutations.specs.declared.tree.Node.{Node}
 use Rattle.refutations.specs.declared.tree.Node.TheVariants.{Split, Leaf}
 use Rattle.refutations.specs.Proofs.{ProofLine, are_numbers, are_numbered, is_tree}
 use Rattle.refutations.specs.Refutations.{Accepts}
-use Rattle.trimming.specs.Needed.{Needed, needed, kept, renumber, renumbered_line, renumbered_node, new_number, trimmed_lines, trimmed_nodes}
+use Rattle.trimming.specs.Needed.{Needed, are_named, needed, kept, renumber, renumbered_line, renumbered_node, new_number, trimmed_lines, trimmed_nodes}
 use Rattle.trimming.proofs.Ranges.{numbers_renumbered, nodes_renumbered, trees_renumbered, length_kept, kept_pass}
 use Rattle.trimming.proofs.TrimLaws.{trimmed_are_accepted, trimmed_are_needed}
+use Rattle.prooflog.specs.declared.evidence.Evidence.{Evidence}
+use Rattle.prooflog.specs.declared.evidence.Evidence.TheVariants.{Refutation}
+use Rattle.prooflog.specs.declared.refutation.Version.TheVariants.{Two}
 use Rattle.prooflog.specs.Refutations.{ClaimedRefutation, IsRefutation, is_line_in_range, is_depth, depths}
-use Rattle.prooflog.specs.Trims.{trimmed_of, KeepsAccepted}
+use Rattle.prooflog.specs.Trims.{trimmed_of, EachKeepsAccepted, KeepsAccepted}
 
 line_in_range : (clauses : ℕ) (flags : List Bool) (line : ProofLine) → is_line_in_range line ≡ true → is_line_in_range (renumbered_line (renumber clauses flags) line) ≡ true
 line_in_range clauses flags line h =
@@ -52,8 +55,29 @@ trimmed_within r limits =
     )
 
 pub keeps_accepted : (claim : ClaimedRefutation) → KeepsAccepted claim (trimmed_of claim)
-keeps_accepted claim f variables clauses accepts =
-    (
-      subst (λ (c : ℕ). Accepts f (trimmed_lines c claim.lines claim.nodes) (trimmed_nodes c claim.lines claim.nodes)) clauses (trimmed_are_accepted f claim.lines claim.nodes accepts),
-      trimmed_are_needed claim.clauses claim.lines claim.nodes,
-    )
+keeps_accepted claim f variables clauses accepts = (
+  subst (λ (c : ℕ). Accepts f (trimmed_lines c claim.lines claim.nodes) (trimmed_nodes c claim.lines claim.nodes)) clauses (trimmed_are_accepted f claim.lines claim.nodes accepts),
+  trimmed_are_needed claim.clauses claim.lines claim.nodes,
+)
+
+-- ---- the same of parts that are these
+
+pub named_as : (r : ClaimedRefutation) (clauses : ℕ) (given : List ProofLine) (tree : List Node) → clauses ≡ r.clauses → given ≡ r.lines → tree ≡ r.nodes → are_named clauses given tree ≡ are_named r.clauses r.lines r.nodes
+named_as r clauses given tree one two three = λ i. are_named (one i) (two i) (three i)
+
+pub made_of_parts : (r : ClaimedRefutation) (variables clauses : ℕ) (given lines : List ProofLine) (tree nodes : List Node) → variables ≡ r.variables → clauses ≡ r.clauses → given ≡ r.lines → tree ≡ r.nodes
+    → lines ≡ trimmed_lines clauses given tree → nodes ≡ trimmed_nodes clauses given tree
+    → record { version = Two; variables = variables; clauses = clauses; lines = lines; nodes = nodes } ≡ trimmed_of r
+made_of_parts r variables clauses given lines tree nodes zero one two three is are =
+    let same_lines : lines ≡ trimmed_lines r.clauses r.lines r.nodes = is ∙ (λ i. trimmed_lines (one i) (two i) (three i)) in
+    let same_nodes : nodes ≡ trimmed_nodes r.clauses r.lines r.nodes = are ∙ (λ i. trimmed_nodes (one i) (two i) (three i)) in
+    λ i. record { version = Two; variables = zero i; clauses = one i; lines = same_lines i; nodes = same_nodes i }
+
+pub each_keeps_accepted : (evidence : Evidence) (claim trimmed : ClaimedRefutation) → evidence ≡ Refutation claim → trimmed ≡ trimmed_of claim → EachKeepsAccepted evidence (Refutation trimmed)
+each_keeps_accepted evidence claim trimmed is made =
+    subst (λ (e : Evidence). EachKeepsAccepted e (Refutation trimmed)) (sym is) (subst (λ (r : ClaimedRefutation). KeepsAccepted claim r) (sym made) (keeps_accepted claim))
+
+-- what succeeded didn't fail
+pub never_both : {X : Type 0} {E : Type 0} {a b : E} (r : Result X E) (x : X) → r ≡ Ok x → (r ≡ Err a) ⊎ (r ≡ Err b) → ⊥
+never_both r x ok (inl fails) = let both = sym ok ∙ fails in cc
+never_both r x ok (inr fails) = let both = sym ok ∙ fails in cc
