@@ -1,8 +1,9 @@
 -- Commands built up by rules, and what their matches give.
-use Rattle.std.specs.Prelude.{IfSome, unwrap_or}
+use Rattle.std.specs.Prelude.{unwrap_or}
 use Rattle.std.specs.Str.{bytes_eq}
-use Rattle.std.specs.Str.Parse.{ParsesBool, ParsesUnsigned}
+use Rattle.std.specs.Str.Parse.{ExplainsUnsignedError, HasUnsignedDigitsIfOk, ParsesBool, ParsesUnsigned}
 use Rattle.std.proofs.lemmas.Slice.Eq.{bytes_eq-Decides}
+use Rattle.std.specs.declared.num.ParseIntError.{ParseIntError}
 use Rattle.clap.specs.Matches.{ReadsOne}
 use Rattle.std.proofs.Common.{ℕ, ◌≡◌, ◌∙◌, ◌||◌, ap, ap₂, sym, refl, Bool, true, false, Option, Some, None, codes, option_map}
 use Rattle.std.specs.Borrow.{Bor}
@@ -12,8 +13,7 @@ use Rattle.clap.specs.declared.builder.command.Command.{Command}
 use Rattle.clap.specs.declared.parser.matches.ArgMatches.{ArgMatches}
 use Rattle.clap.proofs.WalkLemmas.{first_value-rows, one_text-rows}
 use Rattle.command_line.specs.CommandLine.{IsRuled, IsShaped, command_line}
-use Rattle.command_line.specs.Requests.{is_true, Flags, Makes, MakesSome, NamesTask, Reads, Task, task_of}
-use Rattle.command_line.specs.declared.request.Request.{Request}
+use Rattle.command_line.specs.Requests.{is_true, Flags, Makes, MakesSome, NamesTask, Reads, Task}
 use Rattle.std.specs.Prelude.{Box, List}
 use Rattle.std.specs.Box.{box_value}
 use Rattle.clap.specs.Words.{Row, is_simple, subcommand_name_of, subcommand_rows, subcommand_rows_of, subcommand_of, fault_of, kind_of, FailsBy, HasMatchesOf, IsAmong}
@@ -125,28 +125,19 @@ no_fault_of_words app words r m is passed fails =
     let none : fault_of app words ≡ [] = subst (λ x. FailsBy (fault_of app words) x) passed (fails (ap is_simple_and_free is ∙ is_free_line)) in
     ap (λ (a : App). fault_of a words) (sym is) ∙ none
 
--- a number that was asked for
-pub number_by_rows : (E : Type 0) (gives : List ℕ → Result ℕ E → Type 0) (m : ArgMatches) (id : Text) (given : Option ℕ) (n : ℕ)
-    → ((text : List ℕ) (r : Result ℕ E) → gives text r → ParsesUnsigned 32 10 text r) → given ≡ Some n
-    → (one_text (found_of m) id ≡ None → given ≡ None) → ((text : List ℕ) → one_text (found_of m) id ≡ Some text → ReadsOne gives text given)
-    → Reads (rows_of (found_of m)) id n
-number_by_rows E gives m id given n parses is absent reads = go (one_text (found_of m) id) refl
+-- what is known of a text that was read as a `u32`
+abbrev IsReadAs : List ℕ → Result ℕ ParseIntError → Type 0
+IsReadAs text r = ParsesUnsigned 32 10 text r × ExplainsUnsignedError 10 text r × HasUnsignedDigitsIfOk text r
+
+-- a number that was asked for, and that a test of its range kept
+pub number_by_rows : (m : ArgMatches) (id : Text) (given : Option ℕ) (n kept : ℕ) → n ≡ kept → given ≡ Some n
+    → (one_text (found_of m) id ≡ None → given ≡ None) → ((text : List ℕ) → one_text (found_of m) id ≡ Some text → ReadsOne IsReadAs text given)
+    → Reads (rows_of (found_of m)) id kept
+number_by_rows m id given n kept same is absent reads =
+    subst (λ (k : ℕ). Reads (rows_of (found_of m)) id k) same (go (one_text (found_of m) id) refl)
   where
     go : (o : Option Text) → one_text (found_of m) id ≡ o → Reads (rows_of (found_of m)) id n
     go None e = let never : None ≡ Some n = sym (absent e) ∙ is in cc
     go (Some text) e =
-        let parsed = parses text (Ok n) (subst (λ (o : Option ℕ). ReadsOne gives text o) is (reads text e)) in
-        (text, sym (one_text-rows (found_of m) id) ∙ e, parsed.0.0, parsed.1)
-
--- the same, where a test of its range kept it
-pub number_by_rows_as : (E : Type 0) (gives : List ℕ → Result ℕ E → Type 0) (m : ArgMatches) (id : Text) (given : Option ℕ) (n kept : ℕ)
-    → ((text : List ℕ) (r : Result ℕ E) → gives text r → ParsesUnsigned 32 10 text r) → n ≡ kept → given ≡ Some n
-    → (one_text (found_of m) id ≡ None → given ≡ None) → ((text : List ℕ) → one_text (found_of m) id ≡ Some text → ReadsOne gives text given)
-    → Reads (rows_of (found_of m)) id kept
-number_by_rows_as E gives m id given n kept parses same is absent reads =
-    subst (λ (k : ℕ). Reads (rows_of (found_of m)) id k) same (number_by_rows E gives m id given n parses is absent reads)
-
--- what a command's matches make, under the name that is its word
-pub named_so : (name word : Text) (rows : List Row) (found : Option Request) → word ≡ name
-    → IfSome found (λ request. Makes word rows (task_of request)) → IfSome found (λ request. Makes name rows (task_of request))
-named_so name word rows found is makes = subst (λ (n : Text). IfSome found (λ request. Makes n rows (task_of request))) is makes
+        let parsed = subst (λ (o : Option ℕ). ReadsOne IsReadAs text o) is (reads text e) in
+        (text, sym (one_text-rows (found_of m) id) ∙ e, parsed.0.0.0, parsed.0.1)

@@ -1,6 +1,5 @@
 use Rattle.std.proofs.Common.{◌∙◌, ap, sym, refl, option_map, codes}
-use Rattle.std.specs.Str.Parse.{ParsesUnsigned, ExplainsUnsignedError, HasUnsignedDigitsIfOk}
-use Rattle.command_line.proofs.CommandLines.{given_by_rows, number_by_rows_as}
+use Rattle.command_line.proofs.CommandLines.{given_by_rows, number_by_rows}
 use Rattle.command_line.proofs.request.check_request.Goals as goal
 
 pub returns : goal.returns
@@ -11,7 +10,7 @@ returns c =
       values = (
         given_by_rows m _ c.get_str.result c.get_str.ensures ∙ ap (option_map (λ s. s.now)) c.in_ok-program.was,
         given_by_rows m _ c.get_str-2.result c.get_str-2.ensures ∙ ap (option_map (λ s. s.now)) c.in_ok-get_str.was,
-        number_by_rows_as _ (λ t r. ParsesUnsigned 32 10 t r × ExplainsUnsignedError 10 t r × HasUnsignedDigitsIfOk t r) m (codes "pieces") _ _ _ (λ t r parsed. parsed.0) (sym c.in_ok-make.ensures.given) c.in_ok-pieces.was c.get_one.ensures.none c.get_one.ensures.value,
+        number_by_rows m (codes "pieces") _ _ _ (sym c.in_ok-make.ensures.given) c.in_ok-pieces.was c.get_one.ensures.none c.get_one.ensures.value,
         c.is_set.ensures,
       );
     }
