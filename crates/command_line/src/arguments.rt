@@ -88,7 +88,7 @@ pub fn proof<'a>(alloc: Global) -> Arg<'a>
 pub fn trimmed<'a>(alloc: Global) -> Arg<'a>
     ensures { IsRuled result proof_rule }
 {
-    written(alloc, "The file for the trimmed evidence").required(true)
+    written(alloc, "Write the trimmed evidence to this file").required(true)
 }
 
 pub fn out<'a>(alloc: Global) -> Arg<'a>
