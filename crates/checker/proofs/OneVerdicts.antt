@@ -127,7 +127,7 @@ claim_in : ClaimedRefutation → Evidence → ClaimedRefutation
 claim_in other (Refutation claim) = claim
 claim_in other (Schedule steps) = other
 
-same_claim : (claim other : ClaimedRefutation) → Refutation claim ≡ Refutation other → claim ≡ other
+pub same_claim : (claim other : ClaimedRefutation) → Refutation claim ≡ Refutation other → claim ≡ other
 unfolding claim_in
 same_claim claim other e = ap (claim_in claim) e
 

@@ -3,7 +3,7 @@ ghost use Rattle.std.specs.Prelude.{◌≡◌, ℕ, Bool, false, true, List, [],
 ghost use Rattle.files.specs.Contents.{AreAll, KeepsOthers};
 ghost use Rattle.files.specs.declared.fault.LoadFault.{LoadFault};
 
-use crate::{LoadFault, OpenFault};
+use crate::{LoadFault, OpenFault, StoreFault};
 use std::alloc::Global;
 use std::io::Write;
 
@@ -45,12 +45,12 @@ pub trait FileSet {
         ensures others { KeepsOthers path.now (held self.old) (held self.new) }
         ensures refused { OnErr result (held self.new ≡ held self.old) };
 
-    /// Ends the writing of the file at a path, which then holds what its writer took. Every other
-    /// file holds what it held.
-    fn close(&mut self, path: &str, writer: Self::Writer)
+    /// Ends the writing of the file at a path, which then holds what its writer took; where the device
+    /// fails at that, the file may hold a part of it. Every other file holds what it held.
+    fn close(&mut self, path: &str, writer: Self::Writer) -> Result<(), StoreFault>
         requires untold { held self.old path.now ≡ None }
         requires taken { IsTrue (takes self.old path.now) }
-        ensures bytes { IsTrue tells_written
-            → held self.new path.now ≡ Self.Writer.contents writer }
+        ensures bytes { OnOk result (IsTrue tells_written
+            → held self.new path.now ≡ Self.Writer.contents writer) }
         ensures others { KeepsOthers path.now (held self.old) (held self.new) };
 }

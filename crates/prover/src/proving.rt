@@ -52,7 +52,8 @@ fn trimmed(alloc: Global, evidence: Evidence) -> Result<Evidence, AllocError>
 
 /// The answer of what a pool assembled.
 fn told_trimmed(alloc: Global, pool: &Pool, evidence: Evidence) -> Answer
-    requires { IsEvidenceOn pool.now.held.program evidence }
+    requires over { IsOver pool.now.held }
+    requires evidence { IsEvidenceOn pool.now.held.program evidence }
     ensures { (text : List ℕ) → IsTextOf text pool.now.held.program → Answers text result }
 {
     match trimmed(alloc, evidence) {

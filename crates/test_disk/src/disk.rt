@@ -1,7 +1,7 @@
 //! A disk in memory.
 ghost use Rattle.std.specs.Prelude.{◌≤◌, IfOk};
 
-use files::{FileSet, LoadFault, OpenFault, load};
+use files::{FileSet, LoadFault, OpenFault, StoreFault, load};
 use std::alloc::Global;
 use std::cell::{Cell, RefCell};
 use std::io;
@@ -10,16 +10,16 @@ use std::io::{Read, Write};
 /// The most bytes that one read or one write moves, so that a longer text takes several.
 const PIECE: usize = 7;
 
-/// What an open, a read or a write meets.
+/// What an open, a read, a write or a close meets.
 #[derive(Clone, Copy, Debug, PartialEq, Eq)]
 pub enum Trouble {
     /// It fails.
     Device,
     /// It fails for want of memory.
     Memory,
-    /// It is interrupted. An open is never interrupted.
+    /// It is interrupted. An open or a close is never interrupted.
     Interrupted,
-    /// A write takes no byte. An open or a read fails.
+    /// A write takes no byte. An open, a read or a close fails.
     NoByte,
 }
 
@@ -35,16 +35,16 @@ pub struct Disk<'a> {
     pub written: RefCell<Vec<u8>>,
     /// How often `out` was opened.
     pub writers: Cell<u64>,
-    /// How many opens, reads and writes there were.
+    /// How many opens, reads, writes and closes there were.
     pub steps: Cell<u64>,
-    /// The open, read or write, from 1, that meets trouble; 0 for none.
+    /// The open, read, write or close, from 1, that meets trouble; 0 for none.
     pub trouble_at: u64,
     /// The trouble.
     pub trouble: Trouble,
 }
 
 impl Disk<'_> {
-    /// Counts an open, a read or a write, and gives the trouble where it is the one that meets it.
+    /// Counts an open, a read, a write or a close, and gives the trouble where it is the one that meets it.
     fn step(&self) -> Option<Trouble> {
         let count = self.steps.get().saturating_add(1);
         self.steps.set(count);
@@ -118,7 +118,12 @@ impl<'a> FileSet for DiskFiles<'a> {
         }
     }
 
-    fn close(&mut self, _path: &str, _writer: DiskWriter<'a>) {}
+    fn close(&mut self, _path: &str, _writer: DiskWriter<'a>) -> Result<(), StoreFault> {
+        match self.disk.step() {
+            Some(Trouble::Interrupted) | None => Ok(()),
+            Some(_) => Err(StoreFault::Device),
+        }
+    }
 }
 
 /// Reads a file of a disk in pieces.

@@ -3,7 +3,7 @@ ghost use Rattle.std.specs.Prelude.{◌≡◌, ◌||◌, IfErr, IfOk, bytes_eq, 
 ghost use Rattle.files.specs.declared.fault.LoadFault.{LoadFault};
 ghost use Rattle.test_disk.specs.Shelves.{shelf_file};
 
-use files::{FileSet, LoadFault, OpenFault};
+use files::{FileSet, LoadFault, OpenFault, StoreFault};
 use std::alloc::Global;
 
 /// Two files that can be read, `program` and `evidence`, and one that can be written, `out`.
@@ -50,10 +50,11 @@ impl FileSet for Shelf<'_> {
         Err(OpenFault::Device)
     }
 
-    fn close(&mut self, path: &str, writer: Vec<u8>) {
+    fn close(&mut self, path: &str, writer: Vec<u8>) -> Result<(), StoreFault> {
         if path == "out" {
             self.out = Some(writer);
         }
+        Ok(())
     }
 }
 

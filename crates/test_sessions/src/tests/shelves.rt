@@ -35,7 +35,7 @@ fn moves_long_contents(rt: HostRuntime) -> Result<(), Fail> {
     assert!(rt; loaded == bytes);
     let mut writer = files.open_write("out")?;
     store(&mut writer, &loaded)?;
-    files.close("out", writer);
+    files.close("out", writer)?;
     assert!(rt; disk.written.into_inner() == bytes);
     Ok(())
 }
@@ -57,7 +57,7 @@ fn a_shelf_holds_what_was_written(rt: HostRuntime) -> Result<(), Fail> {
     assert_eq!(rt; shelf.open_write("program").err(), Some(OpenFault::Device));
     let mut writer = shelf.open_write("out")?;
     store(&mut writer, b"schedule")?;
-    shelf.close("out", writer);
+    shelf.close("out", writer)?;
     assert_eq!(rt; shelf.out.as_deref(), Some(b"schedule".as_slice()));
     Ok(())
 }

@@ -6,7 +6,7 @@ use Rattle.prover.proofs.proving.told_trimmed.Goals as goal
 
 pub told-requires : goal.told-requires
 told-requires c =
-    subst (λ (p : MpiProgram). IsEvidenceOn p c.in-Ok.evidence) (sym c.program.ensures) (c.in-Ok.ensures c.args.pool.now.held.program c.requires)
+    subst (λ (p : MpiProgram). IsEvidenceOn p c.in-Ok.evidence) (sym c.program.ensures) (c.in-Ok.ensures c.args.pool.now.held.program c.requires.evidence)
 
 pub returns-in-Ok : goal.returns-in-Ok
 returns-in-Ok c = λ text is_text. c.told.ensures.answer text (subst (IsTextOf text) (sym c.program.ensures) is_text)
