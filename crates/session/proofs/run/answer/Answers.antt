@@ -2,7 +2,7 @@
 use Rattle.std.proofs.Common.{◌≡◌, IfErr, IfOk, ℕ, List, Bool, Result, Ok, Err, inl, inr, option_map}
 use Rattle.std.specs.Prelude.{Option}
 use Rattle.session.specs.Endings.{Ends, Finishes}
-use Rattle.session.specs.Pages.{IsChecked, IsEither, IsEncoded, IsExplained, IsExported, IsExportFile, IsProveFile, IsProgram, IsProved, IsReplayed, StopsBy}
+use Rattle.session.specs.Pages.{IsChecked, IsEither, IsEncoded, IsExplained, IsExported, IsExportFile, IsProveFile, IsProgram, IsProved, IsReplayed, IsTrimFile, IsTrimmed, StopsBy}
 use Rattle.session.specs.declared.commands.Stop.{Stop}
 use Rattle.session.specs.declared.commands.Stop.TheVariants as stop
 use Rattle.session.specs.declared.page.Page.{Page}
@@ -92,4 +92,17 @@ returns-in-Export g c =
       ended (IsExported g.F.FileSet.tells_written before after program evidence file) (IsExportFile (g.F.FileSet.reads c.args.files.now) program evidence file before after) _ _ _
           before after _ _ _ _ _
           c.export_page-page.ensures.page c.export_page-page.ensures.stop c.finish-in-Export.ensures,
+    )
+
+pub returns-in-Trim : goal.returns-in-Trim
+returns-in-Trim g c =
+    let before = g.F.FileSet.held c.args.files.now in
+    let after = g.F.FileSet.held c.trim_page-page.new.files in
+    let evidence = c.in-Trim.evidence.now in
+    let file = c.in-Trim.file.now in
+    rw c.in-Trim.is (
+      c.trim_page-page.ensures.others,
+      ended (IsTrimmed g.F.FileSet.tells_written before after evidence file c.in-Trim.json) (IsTrimFile (g.F.FileSet.reads c.args.files.now) evidence file before after) _ _ _
+          before after _ _ _ _ _
+          c.trim_page-page.ensures.page c.trim_page-page.ensures.stop c.finish-in-Trim.ensures,
     )
