@@ -217,7 +217,10 @@ fn put_unneeded(
     out: &mut String,
 ) -> Result<(), Trouble> {
     let tree = tree(alloc, words)?;
-    match first_unneeded(alloc, formula.len() as u32, lines, &tree)? {
+    let Ok(clauses) = u32::try_from(formula.len()) else {
+        return Err(Trouble::Script("more clauses than a number tells"));
+    };
+    match first_unneeded(alloc, clauses, lines, &tree)? {
         Some(number) => put_number(out, number)?,
         None => put_word(out, "none")?,
     }
