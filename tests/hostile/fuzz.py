@@ -1,7 +1,7 @@
 """Changes the texts of the examples by chance, gives them to the built program, and holds each answer against a second judge.
 
-Run by ./fuzz [MINUTES] [--seed N]. A finding is an answer that judge.py doesn't share, to the line that is refused; a crash; a run
-of more than 20 seconds; a line that is unknown; a status that doesn't fit its line. What was found is kept in a folder.
+Run by ./fuzz [MINUTES] [--seed N]. A finding is an answer that judge.py doesn't share, to the line that is refused; a crash; a
+run of more than 20 seconds; a line that is unknown; a status that doesn't fit its line. Findings are kept in a folder.
 """
 import argparse
 import glob
@@ -14,19 +14,18 @@ import time
 from collections import Counter
 
 import judge
-from program import EXAMPLES, built_program, content, has_trim, put, run
+from program import EXAMPLES, ROOT, built_program, content, has_trim, put, run
 
 SECONDS = 20
 FEW_CALLS = 10
 MOST_STATES = 30_000
-WORDS = ('send ssend bsend isend issend ibsend recv irecv probe mprobe mrecv imrecv wait waitall sendrecv barrier iprobe test comm q h '
-         'request * rank ranks policy any none all evidence schedule refutation line : tree split leaf issue match see buffered').split()
+WORDS = """send ssend bsend isend issend ibsend recv irecv probe mprobe mrecv imrecv wait waitall sendrecv barrier iprobe comm q
+    h request * rank ranks policy any none all evidence schedule refutation line : tree split leaf issue match see
+    buffered""".split()
 NUMBERS = '0 1 2 3 4 5 63 64 65 255 256 32767 32768 2147483647 2147483648 99999999999999999999 -1 -0 00 01'.split()
-KINDS_OF_CALLS = [['send', 'ssend', 'bsend'], ['isend', 'issend', 'ibsend', 'irecv'], ['recv', 'probe', 'send'], ['mprobe', 'irecv']]
-STATUSES = {0: 'no deadlock', 1: 'deadlock', 2: 'unknown (budget|full|left)', 3: 'refused (?!memory$).*', 4: '(unknown|refused) memory'}
-SMALL = ('ranks 1\npolicy any\nrank 0\nbsend 0 1\n',
-         ['evidence 1\nrefutation 2 3\n' + rest for rest in ('line : 1 3 2\ntree\nleaf 4\n', 'line -2 : 1 2\ntree\nsplit 2\nleaf 4\nleaf 3\n',
-                                                            'line -2 : 1 2\nline : 4 3\ntree\nsplit 2\nleaf 4\nleaf 3\n')])
+KINDS_OF_CALLS = [kinds.split() for kinds in ('send ssend bsend', 'isend issend ibsend irecv', 'recv probe send', 'mprobe irecv')]
+STATUSES = {0: 'no deadlock', 1: 'deadlock', 2: 'unknown (budget|full|left)', 3: 'refused (?!memory$).*'}
+BUFFERED = 'ranks 1\npolicy any\nrank 0\nbsend 0 1\n'
 
 
 def changed_bytes(chance, text, _):
@@ -132,7 +131,19 @@ def changed_version(chance, text, _):
 
 
 OF_PROGRAMS = [changed_bytes, changed_words, *[changed_lines] * 2, *[changed_number] * 2, *[changed_call] * 8]
-OF_EVIDENCES = [changed_bytes, changed_version, *[changed_lines] * 2, *[changed_words] * 2, *[changed_number] * 4, *[renumbered] * 4]
+OF_EVIDENCES = [changed_bytes, changed_version, *[changed_lines, changed_words] * 2, *[changed_number, renumbered] * 4]
+
+
+def walked(chance, source):
+    """A schedule of a program: steps by chance until none is enabled."""
+    machine = judge.Machine(judge.read_program(source.encode()))
+    state, lines = machine.opening, ['evidence 1', 'schedule']
+    while steps := machine.enabled_steps(state):
+        step = chance.choice(steps)
+        state = machine.after(state, step)
+        numbers = f'{step[1]}{" buffered" * step[2]}' if step[0] == 'issue' else f'{step[1] + 1} {step[2] + 1}'
+        lines.append(f'{step[0]} {numbers}')
+    return '\n'.join(lines) + '\n'
 
 
 class Fuzzer:
@@ -144,15 +155,17 @@ class Fuzzer:
         self.room = tempfile.mkdtemp(prefix='fuzz-', dir='/dev/shm' if os.path.isdir('/dev/shm') else None)
         self.kept = tempfile.mkdtemp(prefix='fuzz-findings-', dir=os.environ.get('TMPDIR', '/tmp'))
         self.cases, self.answers, self.findings, self.formulas = Counter(), Counter(), 0, {}
-        self.texts = [SMALL]
+        rows = re.findall('^\\| `((?:line|tree)[^`]*/)` \\|', content(ROOT, 'docs/FORMATS.md').decode(), re.MULTILINE)
+        self.texts = [(BUFFERED, ['evidence 1\nrefutation 2 3\n' + row.replace('/', '\n') for row in rows])]
         for path in sorted(glob.glob(os.path.join(EXAMPLES, '*.mpi'))):
             with open(path) as file:
-                self.texts.append((file.read(), []))
+                source = file.read()
+            self.texts.append((source, []))
             beside = content(EXAMPLES, os.path.basename(path)[:-4] + '.evidence')
             for more in (['--workers', '1'], ['--depth', '0']):
                 self.call(['prove', path, '--out', 'evidence', *more])
                 self.texts[-1][1].append(content(self.room, 'evidence').decode())
-            self.texts[-1][1].extend([beside.decode()] if beside else [])
+            self.texts[-1][1].extend([beside.decode()] if beside else [walked(self.chance, source)])
 
     def call(self, words):
         """A run in the room of this case: its status, the first line, and all that it printed."""
@@ -216,7 +229,7 @@ class Fuzzer:
             self.expect(answer, self.verdict())
             self.expect(self.call(['check', 'program', 'evidence']), answer[1])
         else:
-            formula = self.formula_of(source)
+            formula = judge.size_refusal(program) or self.formula_of(source)
             self.expect(answer, f'refused {formula}' if isinstance(formula, str) else 'unknown budget')
         if len(program.calls) <= FEW_CALLS:
             stuck = judge.can_get_stuck(program, MOST_STATES)
@@ -226,9 +239,10 @@ class Fuzzer:
         return None
 
     def try_evidence(self, text, evidences):
-        """check, and one of the commands that judge as it does, say of a changed evidence what the judge says."""
+        """check says of a changed evidence what the judge says."""
         put(self.room, 'program', text)
-        put(self.room, 'evidence', self.changed(self.chance.choice(evidences), OF_EVIDENCES, [self.chance.choice(self.texts)[1][0], evidences[0]]))
+        others = [self.chance.choice(self.texts)[1][0], evidences[0]]
+        put(self.room, 'evidence', self.changed(self.chance.choice(evidences), OF_EVIDENCES, others))
         self.check_evidence()
 
     def try_both(self, text, evidences):
@@ -240,39 +254,16 @@ class Fuzzer:
 
     def check_evidence(self):
         wanted = self.verdict()
-        self.expect(self.call(['check', 'program', 'evidence', '--pieces', self.chance.choice('14')]), wanted)
-        more = self.chance.choice([self.check_replay, self.check_explanation, self.check_export] + [self.check_trim] * (2 in self.versions))
-        more(wanted)
+        answer = self.call(['check', 'program', 'evidence', '--pieces', self.chance.choice('14')])
+        self.expect(answer, wanted)
+        for words in (['explain', 'program', 'evidence'], ['export', 'program', 'evidence', '--out', 'proof']):
+            if self.chance.random() < 0.2 and self.call(words)[0] != answer[0]:
+                self.find(f'its status is not the one of check: {answer[0]}')
+        if 2 in self.versions and self.chance.random() < 0.5:
+            self.check_trim()
 
-    def check_replay(self, wanted):
-        status, line, printed = self.call(['replay', 'program', 'evidence'])
-        try:
-            program = judge.read_program(content(self.room, 'program'))
-            evidence = judge.read_evidence(content(self.room, 'evidence'), self.versions)
-            lines = judge.replayed(program, evidence) if isinstance(evidence, judge.Schedule) else ['refused not a schedule']
-        except judge.Refused:
-            lines = [wanted]
-        if printed.decode() != '\n'.join(lines) + '\n' or status != (1 if lines[-1] == 'stuck' else 3):
-            self.find(f'status {status}, {line}\nthe judge: {lines}')
-
-    def check_explanation(self, wanted):
-        status, line, _ = self.call(['explain', 'program', 'evidence'])
-        is_same = re.fullmatch(r'deadlock after \d+ steps?', line) if wanted == 'deadlock' else line == wanted
-        if not is_same or status != {'no deadlock': 0, 'deadlock': 1}.get(wanted, 3):
-            self.find(f'status {status}, {line}\nthe judge: {wanted}')
-
-    def check_export(self, wanted):
-        put(self.room, 'proof', 'none')
-        self.expect(self.call(['export', 'program', 'evidence', '--out', 'proof']), wanted)
-        proof = content(self.room, 'proof')
-        if wanted == 'no deadlock':
-            fault = judge.lrat_fault(self.formula_of(content(self.room, 'program')), proof)
-            if fault:
-                self.find(fault)
-        elif proof != b'none':
-            self.find('the file was changed')
-
-    def check_trim(self, _):
+    def check_trim(self):
+        """trim prints and writes what the judge does."""
         wanted, text = judge.trimmed(content(self.room, 'evidence'), self.versions)
         put(self.room, 'trimmed', 'none')
         status, line, _ = self.call(['trim', 'evidence', '--out', 'trimmed'])
@@ -297,8 +288,10 @@ def main():
     parser.add_argument('--seed', type=int, default=int(time.time()))
     options = parser.parse_args()
     fuzzer = Fuzzer(built_program(), options.seed)
-    fuzzer.work(time.time() + 60 * options.minutes)
-    shutil.rmtree(fuzzer.room)
+    try:
+        fuzzer.work(time.time() + 60 * options.minutes)
+    finally:
+        shutil.rmtree(fuzzer.room)
     for title, counts in (('cases', fuzzer.cases), ('answers', fuzzer.answers)):
         print(f'{title}: ' + ', '.join(f'{count} {name}' for name, count in sorted(counts.items(), key=lambda pair: -pair[1])))
     print(f'findings: {fuzzer.findings}, seed {options.seed}' + (f', kept in {fuzzer.kept}' if fuzzer.findings else ''))

@@ -1,7 +1,7 @@
 """A second judge, in plain Python, which shares no code with the program: texts by docs/FORMATS.md, runs by docs/DEFINITIONS.md.
 
-`verdict` says of a program and an evidence what `check` should print, `replayed` what `replay` should, `trimmed` what `trim` should,
-and `can_get_stuck` goes through all runs of a small program. The clauses of a program's formula come from its `encode`.
+`verdict` says of a program and an evidence what `check` should print, `trimmed` what `trim` should, and `can_get_stuck` goes
+through all runs of a small program. The clauses of a program's formula come from `encode`.
 """
 import re
 from collections import namedtuple
@@ -13,12 +13,11 @@ NAME = '([a-z][a-z0-9]{0,15})'
 COMMUNICATOR = f'(?: comm {NUMBER})?'
 SENDS = {'send': 'standard', 'ssend': 'synchronous', 'bsend': 'buffered'}
 TAKERS = ('recv', 'mprobe')
-COLLECTIVES = ('barrier bcast gather gatherv scatter scatterv allgather allgatherv alltoall alltoallv alltoallw reduce allreduce '
-               'reduce_scatter reduce_scatter_block scan exscan').split()
-REFUSED_WORDS = set(
-    'iprobe improbe test testall testany testsome waitany waitsome cancel request_free rsend irsend send_init bsend_init ssend_init '
-    'rsend_init recv_init psend_init precv_init start startall isendrecv sendrecv_replace put get accumulate win_create comm_dup '
-    'comm_split comm_create'.split() + COLLECTIVES + ['i' + word for word in COLLECTIVES])
+COLLECTIVES = """barrier bcast gather gatherv scatter scatterv allgather allgatherv alltoall alltoallv alltoallw reduce allreduce
+    reduce_scatter reduce_scatter_block scan exscan""".split()
+REFUSED_WORDS = {*COLLECTIVES, *('i' + word for word in COLLECTIVES), *"""iprobe improbe test testall testany testsome waitany
+    waitsome cancel request_free rsend irsend send_init bsend_init ssend_init rsend_init recv_init psend_init precv_init start
+    startall isendrecv sendrecv_replace put get accumulate win_create comm_dup comm_split comm_create""".split()}
 # Each shape has the letters of its fields: D and S peers, T tags, C a communicator, Q a request, H a handle.
 SHAPES = [(re.compile(pattern), fields) for pattern, fields in [
     (f'(s?send|bsend) {NUMBER} {NUMBER}{COMMUNICATOR}', 'DTC'),
@@ -93,7 +92,7 @@ def read_program_lines(text):
 
 
 def expanded(rank, place, word, fields):
-    """The calls of a line. Uses are of a request (Q) or a handle (H): the letter, the name, and whether it is a start."""
+    """The calls of a line. A use is of a request (Q) or a handle (H): the letter, the name, and whether it is a start."""
     def number(letter):
         return None if fields[letter] == '*' else int(fields[letter])
 
@@ -141,7 +140,7 @@ def call_faults(calls, ranks):
 
 
 def read_program(text):
-    """The program of a text. A partner is the start that a wait ends, the probe of a matched receive, or that receive of a probe."""
+    """The program of a text. A partner is the start that a wait ends, the probe of a matched receive, or the other way round."""
     policy, ranks, lines = read_program_lines(text)
     calls = [call for line in lines for call in expanded(*line)]
     faults = sorted(call_faults(calls, ranks))
@@ -156,7 +155,8 @@ def read_program(text):
                 partner[place] = started[call.rank, letter, name]
                 if letter == 'H':
                     partner[partner[place]] = place
-    return Program(policy, ranks, calls, [[place for place, call in enumerate(calls) if call.rank == rank] for rank in range(ranks)], partner)
+    own = [[place for place, call in enumerate(calls) if call.rank == rank] for rank in range(ranks)]
+    return Program(policy, ranks, calls, own, partner)
 
 
 def fits(send, finder):
@@ -247,7 +247,8 @@ class Machine:
         return [step for step in steps if self.is_enabled(state, step)]
 
     def end(self, state):
-        if all(state[0][rank] == len(own) and (not own or self.has_returned(state, own[-1])) for rank, own in enumerate(self.program.own)):
+        ranks = zip(state[0], self.program.own)
+        if all(count == len(own) and (not own or self.has_returned(state, own[-1])) for count, own in ranks):
             return 'finished'
         return 'live' if self.enabled_steps(state) else 'stuck'
 
@@ -341,7 +342,9 @@ def read_refutation(reader, version, heading):
         if len(lines) > 1_000_000:
             reader.refuse('too large')
     nodes = read_tree(reader)
-    return Refutation(version, int(heading[1]), int(heading[2]), lines, nodes) if reader.next() is None else reader.refuse('syntax')
+    if reader.next() is not None:
+        reader.refuse('syntax')
+    return Refutation(version, int(heading[1]), int(heading[2]), lines, nodes)
 
 
 def read_evidence(text, versions):
@@ -390,10 +393,11 @@ def tree_fault(variables, clauses, nodes):
 def needed_lines(refutation):
     """The numbers of the lines that a leaf names, or a hint of a later line that is needed."""
     needed = {number for kind, number, _ in refutation.nodes if kind == 'leaf'}
+    first = refutation.clauses + 1
     for place in reversed(range(len(refutation.lines))):
-        if refutation.clauses + place + 1 in needed:
+        if first + place in needed:
             needed.update(refutation.lines[place][1])
-    return [number for number in range(refutation.clauses + 1, refutation.clauses + len(refutation.lines) + 1) if number in needed]
+    return [number for number in range(first, first + len(refutation.lines)) if number in needed]
 
 
 def check_refutation(formula, refutation):
@@ -414,22 +418,15 @@ def check_refutation(formula, refutation):
         raise Refused(f'proof line {min(unneeded)} unneeded')
 
 
-def replayed(program, schedule):
-    """The lines of `replay`, for a schedule that ends stuck."""
-    machine, lines = Machine(program), []
+def check_schedule(program, schedule):
+    machine = Machine(program)
     state = machine.opening
     for number, step in enumerate(schedule.steps, 1):
         if not machine.is_enabled(state, step):
             raise Refused(f'step {number} not enabled')
-        if step[0] == 'issue':
-            place = program.own[step[1]][state[0][step[1]]]
-            lines.append(f'issue {step[1]}{" buffered" if step[2] else ""} call {place + 1} {program.calls[place].word}')
-        else:
-            lines.append(f'{step[0]} {step[1] + 1} {step[2] + 1}')
         state = machine.after(state, step)
     if machine.end(state) != 'stuck':
         raise Refused(f'not stuck {machine.end(state)}')
-    return lines + ['stuck']
 
 
 def size_refusal(program):
@@ -445,7 +442,7 @@ def verdict(program_text, evidence_text, formula_of, versions):
         program = read_program(program_text)
         evidence = read_evidence(evidence_text, versions)
         if isinstance(evidence, Schedule):
-            replayed(program, evidence)
+            check_schedule(program, evidence)
             return 'deadlock'
         formula = size_refusal(program) or formula_of(program_text)
         if isinstance(formula, str):
@@ -477,17 +474,3 @@ def trimmed(evidence_text, versions):
         lines.append(' '.join(['line', *map(str, literals), ':', *(str(new.get(hint, hint)) for hint in hints)]))
     lines += ['tree', *(f'{kind} {new.get(number, number) if kind == "leaf" else number}' for kind, number, _ in evidence.nodes)]
     return f'lines {len(evidence.lines)} {len(needed)}', '\n'.join(lines).encode() + b'\n'
-
-
-def lrat_fault(formula, text):
-    """What is wrong with an exported proof, or None: each line is derived, and one has no literals."""
-    clauses, is_refuted = list(formula.clauses), False
-    for line in text.decode().splitlines():
-        numbers = [int(word) for word in line.split(' ')]
-        end = numbers.index(0)
-        literals, hints = numbers[1:end], numbers[end + 1:-1]
-        if numbers[0] != len(clauses) + 1 or numbers[-1] != 0 or hint_fault(clauses, literals, hints):
-            return f'line {len(clauses) + 1} of the exported proof'
-        clauses.append(literals)
-        is_refuted |= not literals
-    return None if is_refuted else 'no line of the exported proof is empty'

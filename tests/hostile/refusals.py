@@ -88,6 +88,10 @@ def rows(trims):
     yield Row(6, ['prove'])
 
 
+class Hangs(Exception):
+    """A command took too long several times, so the rest of its runs are left out."""
+
+
 class Trial:
     """A folder with the worked texts, the shim, and the runs that were made there."""
 
@@ -97,27 +101,35 @@ class Trial:
         self.room = os.path.join(self.folder, 'texts')
         self.refused = os.path.join(self.folder, 'refused')
         self.shim = os.path.join(self.folder, 'shim.so')
+        self.fill()
+        source = os.path.join(os.path.dirname(os.path.abspath(__file__)), 'shim.c')
+        subprocess.run(['gcc', '-O1', '-shared', '-fPIC', '-o', self.shim, source], check=True)
+        self.plain, self.judged, self.shown = {}, {}, {}
+        self.runs, self.wrong, self.gaps = {}, {}, 0
+
+    def fill(self):
+        """The room with the worked texts alone."""
+        shutil.rmtree(self.room, ignore_errors=True)
         os.mkdir(self.room)
         for name, text in TEXTS.items():
             put(self.room, name, text)
         for name in COPIED:
             shutil.copy(os.path.join(EXAMPLES, name), self.room)
-        source = os.path.join(os.path.dirname(os.path.abspath(__file__)), 'shim.c')
-        subprocess.run(['gcc', '-O1', '-shared', '-fPIC', '-o', self.shim, source], check=True)
-        self.plain, self.judged = {}, {}
-        self.runs, self.wrong, self.gaps = {}, {}, {}
+        self.looks = self.others()
 
     def others(self):
         """The looks of all files but the one after --out."""
-        return {each.name: (each.stat().st_size, each.stat().st_mtime_ns) for each in os.scandir(self.room) if each.name != 'out'}
+        looks = {each.name: (each.stat().st_size, each.stat().st_mtime_ns) for each in os.scandir(self.room)}
+        looks.pop('out', None)
+        return looks
 
     def outcome(self, words, settings, **more):
         """A run with the file after --out in place, and what came of it."""
         put(self.room, 'out', BEFORE)
         if os.path.exists(self.refused):
             os.remove(self.refused)
-        shim = {'LD_PRELOAD': self.shim, 'REFUSED': self.refused} if settings is not None else {}
-        status, printed, told = run(self.program, words, self.room, SECONDS, env={**os.environ, **shim, **(settings or {})}, **more)
+        shim = {'LD_PRELOAD': self.shim, 'REFUSED': self.refused, **settings} if settings else {}
+        status, printed, told = run(self.program, words, self.room, SECONDS, env={**os.environ, **shim}, **more)
         return Outcome(status, printed, told, content(self.room, 'out'), self.others())
 
     def plain_outcome(self, row):
@@ -126,7 +138,7 @@ class Trial:
         if key not in self.plain:
             self.plain[key] = self.outcome(row.words, None)
             if self.plain[key].status != row.status:
-                sys.exit(f'{shlex.join(row.words)} ends with {self.plain[key].status} in place of {row.status} though nothing is refused')
+                sys.exit(f'{shlex.join(row.words)} ends with {self.plain[key].status}, not {row.status}, with nothing refused')
         return self.plain[key]
 
     def first_refusal(self):
@@ -146,9 +158,9 @@ class Trial:
     def has_whole_file(self, row, got):
         """The file after --out is what the row's command makes of it."""
         wanted = self.plain_outcome(row).out
-        if got.out == wanted:
-            return True
-        return row.words[0] == 'prove' and wanted != BEFORE and got.out != BEFORE and self.is_evidence(row.words[1], got.out, row.status)
+        if got.out == wanted or row.words[0] != 'prove' or BEFORE in (wanted, got.out):
+            return got.out == wanted
+        return self.is_evidence(row.words[1], got.out, row.status)
 
     def is_own_answer(self, row, got):
         """The answer is the one without a refusal."""
@@ -157,21 +169,26 @@ class Trial:
         return same and (got.told == plain.told or '--progress' in row.words) and self.has_whole_file(row, got)
 
     def note(self, kind, words, got, settings, is_right):
-        """Counts a run, and tells a wrong one with how to repeat it."""
+        """Counts a run, and tells a wrong one with how to repeat it: the settings of the shim, or in words."""
         self.runs[kind] = self.runs.get(kind, 0) + 1
-        plain_others = next(iter(self.plain.values())).others
-        if is_right and got.others == plain_others:
+        is_changed = got.others != self.looks
+        if is_right and not is_changed:
             return
+        if is_changed:
+            self.fill()
         self.wrong[kind] = self.wrong.get(kind, 0) + 1
-        key = (kind, tuple(words))
-        self.judged[key] = self.judged.get(key, 0) + 1
-        if self.judged[key] <= SHOWN:
-            changed = '' if got.others == plain_others else ', and another file was changed'
-            print(f'wrong: {kind}: {shlex.join(words)} ended with {got.status}, {got.printed[:80]}, {got.told[:80]}{changed}; again by')
-            again = ' '.join(f'{name}={value}' for name, value in (settings or {}).items() if name != 'how')
-            loaded = f'LD_PRELOAD={self.shim} ' if settings and 'how' not in settings else ''
-            how = f'  # {settings["how"]}' if settings and 'how' in settings else ''
-            print(f'  cd {self.room} && env {loaded}{again} {self.program} {shlex.join(words)}{how}', flush=True)
+        self.shown[kind, tuple(words)] = self.shown.get((kind, tuple(words)), 0) + 1
+        if self.shown[kind, tuple(words)] <= SHOWN:
+            changed = 'another file was changed; ' if is_changed else ''
+            print(f'wrong: {kind}: ended with {got.status}, {got.printed[:80]}, {got.told[:80]}; {changed}again by')
+            again = f'{self.program} {shlex.join(words)}'
+            if isinstance(settings, str):
+                again += f'  # {settings}'
+            else:
+                again = ' '.join(['env', f'LD_PRELOAD={self.shim}', *(f'{name}={settings[name]}' for name in settings), again])
+            print(f'  cd {self.room} && {again}', flush=True)
+        if got.status == 'hang' and self.shown[kind, tuple(words)] >= SHOWN:
+            raise Hangs
 
 
 def is_want_of_memory(row, got):
@@ -180,7 +197,9 @@ def is_want_of_memory(row, got):
         return False
     text = b'unknown memory' if row.words[0] == 'prove' else b'refused memory'
     line = b'{"answer":"%s","status":4}\n' % text if '--json' in row.words else text + b'\n'
-    return (got.printed == line and (got.told == b'' or '--progress' in row.words)) or (got.printed, got.told) == (b'', b'memory\n')
+    if got.printed == line:
+        return got.told == b'' or '--progress' in row.words
+    return (got.printed, got.told) == (b'', b'memory\n')
 
 
 def try_memory(trial, row):
@@ -228,7 +247,7 @@ def judge_file_run(trial, row, got, settings, how, answer):
         right = own
     elif refusal[0] == 'close' and own:
         right = True
-        trial.gaps['files'] = trial.gaps.get('files', 0) + (refusal[1] == 'out')
+        trial.gaps += refusal[1] == 'out'
     else:
         right = is_told_fault(trial, row, got, *refusal, how, answer)
     trial.note('files', row.words, got, settings, right)
@@ -246,13 +265,14 @@ def try_files(trial, row):
                     judge_file_run(trial, row, trial.outcome(row.words, settings), settings, how, answer)
 
 
-def try_scattered(trial):
+def try_scattered(trial, _):
     """Some of all allocations and starts of threads refused, threads resting by chance, under all kinds of options."""
     for seed in range(SEEDS):
         chance = random.Random(seed)
         source = chance.choice(['message.mpi', 'gather.mpi', 'order.mpi'])
         words = ['prove', source, '--out', 'out', '--workers', chance.choice(['1', '2', '3', '4', '8', '16', '64']),
-                 '--depth', chance.choice(['0', '1', '2', '4', '8', '15']), '--budget', chance.choice(['0', '1', '2', '10', '100', '1000000'])]
+                 '--depth', chance.choice(['0', '1', '2', '4', '8', '15']),
+                 '--budget', chance.choice(['0', '1', '2', '10', '100', '1000000'])]
         settings = {'REFUSE_SOME': f'{seed}:{chance.choice([0, 1, 1, 2, 5, 20, 100])}', 'SHAKE': chance.choice(['0', '2', '20'])}
         got = trial.outcome(words, settings)
         solved = (got.status, got.printed) == (0, b'no deadlock\n') and trial.is_evidence(source, got.out, 0)
@@ -291,45 +311,56 @@ def try_limits(trial, row):
         for most in limits:
             kind = getattr(resource, name)
             got = trial.outcome(row.words, None, preexec_fn=limited(kind, most))
-            trial.note('limits', row.words, got, {'how': f'{name} {most}'}, is_right_under_limit(trial, row, got, kind))
+            trial.note('limits', row.words, got, f'{name} {most}', is_right_under_limit(trial, row, got, kind))
     reader, broken = os.pipe()
     os.close(reader)
-    for name, output in (('full', os.open('/dev/full', os.O_WRONLY)), ('only to be read', os.open('/dev/null', os.O_RDONLY)), ('a broken pipe', broken)):
+    full, only_read = os.open('/dev/full', os.O_WRONLY), os.open('/dev/null', os.O_RDONLY)
+    for name, output in (('full', full), ('only to be read', only_read), ('a broken pipe', broken)):
         got = trial.outcome(row.words, None, stdout=output)
         os.close(output)
         right = got.status == (5 if plain.printed else plain.status)
-        trial.note('limits', row.words, got, {'how': f'standard output is {name}'}, right and trial.has_whole_file(row, got))
+        trial.note('limits', row.words, got, f'standard output is {name}', right and trial.has_whole_file(row, got))
 
 
-KINDS = {'memory': try_memory, 'threads': try_threads, 'files': try_files, 'limits': try_limits}
+KINDS = {'memory': try_memory, 'threads': try_threads, 'files': try_files, 'limits': try_limits, 'scattered': try_scattered}
+
+
+def chosen(words, all_rows):
+    """The kinds and the rows that the words pick: all where no word is of that sort."""
+    commands = {row.words[0] for row in all_rows}
+    for word in words:
+        if word not in commands | KINDS.keys():
+            sys.exit(f'no kind and no command: {word}')
+    kinds = [kind for kind in KINDS if kind in words or not KINDS.keys() & set(words)]
+    return kinds, [row for row in all_rows if row.words[0] in words or not commands & set(words)]
+
+
+def try_all(trial, kinds, picked):
+    """Tries each kind with each row, and prints a line for each kind."""
+    for row in picked:
+        trial.plain_outcome(row)
+    for kind in kinds:
+        for row in picked if kind != 'scattered' else [Row(0, ['prove'])]:
+            try:
+                KINDS[kind](trial, row)
+            except Hangs:
+                print(f'{kind}: {shlex.join(row.words)} is left after {SHOWN} runs that took too long', flush=True)
+        print(f'{kind}: {trial.runs.get(kind, 0)} runs, {trial.wrong.get(kind, 0)} went wrong', flush=True)
+        if kind == 'files' and trial.gaps:
+            print(f'  known gap: in {trial.gaps} runs a fault of close, of the file after --out, was not told')
 
 
 def main():
     """Tries the kinds and commands that were asked for; status 1 where a run went wrong."""
-    program = built_program()
-    trial = Trial(program)
-    all_rows = list(rows(has_trim(program)))
-    commands = {row.words[0] for row in all_rows}
-    words = sys.argv[1:]
-    unknown = [word for word in words if word not in commands | KINDS.keys() | {'scattered'}]
-    if unknown:
-        sys.exit(f'no kind and no command: {unknown[0]}')
-    kinds = [kind for kind in (*KINDS, 'scattered') if kind in words or not KINDS.keys() | {'scattered'} & set(words)]
-    chosen = [row for row in all_rows if row.words[0] in words or not commands & set(words)]
-    for row in chosen:
-        trial.plain_outcome(row)
-    for kind in kinds:
-        if kind == 'scattered':
-            try_scattered(trial)
-        else:
-            for row in chosen:
-                KINDS[kind](trial, row)
-        gaps = f'; known gap: {trial.gaps[kind]} faults of the close of the file after --out were not told' if trial.gaps.get(kind) else ''
-        print(f'{kind}: {trial.runs.get(kind, 0)} runs, {trial.wrong.get(kind, 0)} went wrong{gaps}', flush=True)
+    trial = Trial(built_program())
+    try:
+        try_all(trial, *chosen(sys.argv[1:], list(rows(has_trim(trial.program)))))
+    finally:
+        if not trial.wrong:
+            shutil.rmtree(trial.folder)
     if trial.wrong:
         print(f'the texts and the shim stand in {trial.folder}')
         sys.exit(1)
-    shutil.rmtree(trial.folder)
 
 
 if __name__ == '__main__':

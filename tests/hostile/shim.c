@@ -1,13 +1,13 @@
 /* Stands between the program and the C library, by LD_PRELOAD, and refuses what it is told to.
 
-   REFUSE=KIND:K:HOW:ANSWER  the K-th call of the kind, from 1: memory, threads, open, read, write or close. HOW is `alone`, or `on`
-                             for all later ones too. ANSWER is the number of an error, `short` (one byte is read or written) or
-                             `nothing` (none is). Memory that is refused is NULL and a thread EAGAIN, whatever ANSWER says.
+   REFUSE=KIND:K:HOW:ANSWER  the K-th call of the kind, from 1: memory, threads, open, read, write or close. HOW is `alone`, or
+                             `on` for all later ones too. ANSWER is the number of an error, `short` (one byte is read or written)
+                             or `nothing` (none is). Memory that is refused is NULL, and a thread EAGAIN, whatever ANSWER says.
    REFUSE_SOME=SEED:N        N in a thousand of the calls for memory and for threads, by a generator that starts with SEED.
-   SHAKE=N                   at N in a thousand of the calls for memory a thread rests a little, so that the order of threads varies.
+   SHAKE=N                   at N in a thousand of the calls for memory a thread rests, so that the order of threads varies.
    REFUSED=FILE              the first refusal is written there: its kind and the path, or `standard input`, `output` or `error`.
 
-   It is built by refusals.py: gcc -O1 -shared -fPIC -o shim.so shim.c */
+   refusals.py builds it: gcc -O1 -shared -fPIC -o shim.so shim.c */
 #define _GNU_SOURCE
 #include <dlfcn.h>
 #include <errno.h>
@@ -31,7 +31,8 @@ static int ready, kind = -1, and_later, answer, in_a_thousand, shakes, was_told;
 static const char *told;
 static int (*start_thread)(pthread_t *, const pthread_attr_t *, void *(*)(void *), void *);
 
-extern void *__libc_malloc(size_t), *__libc_calloc(size_t, size_t), *__libc_realloc(void *, size_t), *__libc_memalign(size_t, size_t);
+extern void *__libc_malloc(size_t), *__libc_calloc(size_t, size_t);
+extern void *__libc_realloc(void *, size_t), *__libc_memalign(size_t, size_t);
 
 __attribute__((constructor)) static void read_settings(void) {
     char kind_word[16], how[16], answer_word[16];
