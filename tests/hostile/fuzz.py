@@ -127,6 +127,7 @@ def renumbered(chance, text, _):
 
 
 def changed_version(chance, text, _):
+    """Another version, or one that there isn't."""
     return re.sub('^evidence [0-9]', f'evidence {chance.choice("01223")}', text)
 
 
@@ -163,8 +164,10 @@ class Fuzzer:
             self.texts.append((source, []))
             beside = content(EXAMPLES, os.path.basename(path)[:-4] + '.evidence')
             for more in (['--workers', '1'], ['--depth', '0']):
-                self.call(['prove', path, '--out', 'evidence', *more])
-                self.texts[-1][1].append(content(self.room, 'evidence').decode())
+                if self.call(['prove', path, '--out', 'evidence', *more])[0] in (0, 1):
+                    self.texts[-1][1].append(content(self.room, 'evidence').decode())
+                else:
+                    self.find('an example without an answer')
             self.texts[-1][1].extend([beside.decode()] if beside else [walked(self.chance, source)])
 
     def call(self, words):
@@ -207,7 +210,7 @@ class Fuzzer:
         return judge.verdict(content(self.room, 'program'), content(self.room, 'evidence'), self.formula_of, self.versions)
 
     def changed(self, text, changes, others):
-        """A text with one to three changes. Beside the texts of the same kind it may take lines of itself."""
+        """A text with one to three changes; lines may come from one of the others."""
         for _ in range(self.chance.choice([1, 1, 1, 2, 3])):
             text = self.chance.choice(changes)(self.chance, text, self.chance.choice(others))
         return text.encode('latin-1')
