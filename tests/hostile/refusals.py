@@ -29,6 +29,7 @@ ANSWERS = {
     'open': [errno.EIO, errno.ENOSPC, errno.EACCES, errno.EMFILE, errno.ENOMEM, errno.EINTR],
     'read': [errno.EIO, errno.ENOSPC, errno.EAGAIN, errno.ENOMEM, errno.EINTR, 'short'],
     'write': [errno.EIO, errno.ENOSPC, errno.EAGAIN, errno.EPIPE, errno.ENOMEM, errno.EINTR, 'short', 'nothing'],
+    'sync': [errno.EIO, errno.ENOSPC, errno.EDQUOT],
     'close': [errno.EIO, errno.ENOSPC, errno.EINTR],
 }
 HARMLESS = (errno.EINTR, 'short')
@@ -105,7 +106,7 @@ class Trial:
         source = os.path.join(os.path.dirname(os.path.abspath(__file__)), 'shim.c')
         subprocess.run(['gcc', '-O1', '-shared', '-fPIC', '-o', self.shim, source], check=True)
         self.plain, self.judged, self.shown = {}, {}, {}
-        self.runs, self.wrong, self.gaps = {}, {}, 0
+        self.runs, self.wrong = {}, {}
 
     def fill(self):
         """The room with the worked texts alone."""
@@ -240,21 +241,20 @@ def is_told_fault(trial, row, got, call, path, how, answer):
 
 
 def judge_file_run(trial, row, got, settings, how, answer):
-    """A fault of a close loses nothing of a file that was read; of the file after --out it has to be told."""
+    """A fault of a close loses nothing: a file that was written was brought to the disk before, and a fault of that is told."""
     refusal = trial.first_refusal()
     own = trial.is_own_answer(row, got)
     if refusal is None or answer in HARMLESS:
         right = own
     elif refusal[0] == 'close' and own:
         right = True
-        trial.gaps += refusal[1] == 'out'
     else:
         right = is_told_fault(trial, row, got, *refusal, how, answer)
     trial.note('files', row.words, got, settings, right)
 
 
 def try_files(trial, row):
-    """Each open, read, write and close with each answer, alone and with all later ones."""
+    """Each open, read, write, sync and close with each answer, alone and with all later ones."""
     for call, answers in ANSWERS.items():
         place = 0
         while place == 0 or trial.first_refusal():
@@ -346,8 +346,6 @@ def try_all(trial, kinds, picked):
             except Hangs:
                 print(f'{kind}: {shlex.join(row.words)} is left after {SHOWN} runs that took too long', flush=True)
         print(f'{kind}: {trial.runs.get(kind, 0)} runs, {trial.wrong.get(kind, 0)} went wrong', flush=True)
-        if kind == 'files' and trial.gaps:
-            print(f'  known gap: in {trial.gaps} runs a fault of close, of the file after --out, was not told')
 
 
 def main():

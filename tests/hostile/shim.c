@@ -1,6 +1,6 @@
 /* Stands between the program and the C library, by LD_PRELOAD, and refuses what it is told to.
 
-   REFUSE=KIND:K:HOW:ANSWER  the K-th call of the kind, from 1: memory, threads, open, read, write or close. HOW is `alone`, or
+   REFUSE=KIND:K:HOW:ANSWER  the K-th call of the kind, from 1: memory, threads, open, read, write, sync or close. HOW is `alone`, or
                              `on` for all later ones too. ANSWER is the number of an error, `short` (one byte is read or written)
                              or `nothing` (none is). Memory that is refused is NULL, and a thread EAGAIN, whatever ANSWER says.
    REFUSE_SOME=SEED:N        N in a thousand of the calls for memory and for threads, by a generator that starts with SEED.
@@ -21,9 +21,9 @@
 #include <time.h>
 #include <unistd.h>
 
-enum { MEMORY, THREADS, OPEN, READ, WRITE, CLOSE, KINDS };
+enum { MEMORY, THREADS, OPEN, READ, WRITE, SYNC, CLOSE, KINDS };
 enum { SHORT = -1, NOTHING = -2, PATHS = 64, LONGEST = 400 };
-static const char *kind_names[KINDS] = {"memory", "threads", "open", "read", "write", "close"};
+static const char *kind_names[KINDS] = {"memory", "threads", "open", "read", "write", "sync", "close"};
 static char paths[PATHS][LONGEST] = {"standard input", "standard output", "standard error"};
 static long calls[KINDS], place;
 static unsigned long seed;
@@ -135,6 +135,12 @@ int open(const char *path, int flags, ...) {
     int file = syscall(SYS_openat, AT_FDCWD, path, flags, mode);
     if (file >= 0 && file < PATHS) snprintf(paths[file], LONGEST, "%s", path);
     return file;
+}
+
+int fsync(int file) {
+    if (!is_refused(SYNC, path_of(file))) return syscall(SYS_fsync, file);
+    errno = answer;
+    return -1;
 }
 
 /* As Linux does, the file is closed also where an error is told. */
