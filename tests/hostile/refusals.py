@@ -1,6 +1,6 @@
 """Refuses to the built program what it asks the system for, one call after another, and looks at what it then answers.
 
-Run by ./refusals [WORD..]. A word is a kind (memory, threads, files, scattered, limits) or a command (prove, check, ..); without
+Run by ./refusals [WORD..]. A word is a kind (memory, threads, pieces, files, scattered, limits) or a command (prove, check, ..); without
 words all are tried. Each row below is a command on a small program that was worked by hand, with the status that it ends with.
 """
 import errno
@@ -226,6 +226,23 @@ def try_threads(trial, row):
             trial.note('threads', row.words, got, settings, trial.is_own_answer(row, got))
 
 
+def threads_started(trial, words):
+    """How many threads a run starts: the first start that can't be refused is one too many."""
+    place = 1
+    while True:
+        trial.outcome(words, {'REFUSE': f'threads:{place}:alone:0'})
+        if not trial.first_refusal():
+            return place - 1
+        place += 1
+
+
+def try_pieces(trial, _):
+    """The more pieces a check is asked for, the more threads it starts: no answer depends on them, so only this shows it."""
+    counts = [threads_started(trial, ['check', *REFUTED, '--pieces', pieces]) for pieces in ('1', '4', '16', '64')]
+    got = trial.plain_outcome(Row(0, ['check', *REFUTED, '--pieces', '64']))
+    trial.note('pieces', ['check', '--pieces', '1', '4', '16', '64'], got, f'threads: {counts}', counts == sorted(set(counts)))
+
+
 def is_told_fault(trial, row, got, call, path, how, answer):
     """What may come of a fault of a file, or of an output. Where all writes fail, standard error does too."""
     plain = trial.plain_outcome(row)
@@ -322,7 +339,9 @@ def try_limits(trial, row):
         trial.note('limits', row.words, got, f'standard output is {name}', right and trial.has_whole_file(row, got))
 
 
-KINDS = {'memory': try_memory, 'threads': try_threads, 'files': try_files, 'limits': try_limits, 'scattered': try_scattered}
+KINDS = {'memory': try_memory, 'threads': try_threads, 'pieces': try_pieces, 'files': try_files, 'limits': try_limits,
+         'scattered': try_scattered}
+ONCE = {'scattered': 'prove', 'pieces': 'check'}
 
 
 def chosen(words, all_rows):
@@ -340,7 +359,7 @@ def try_all(trial, kinds, picked):
     for row in picked:
         trial.plain_outcome(row)
     for kind in kinds:
-        for row in picked if kind != 'scattered' else [Row(0, ['prove'])]:
+        for row in [Row(0, [ONCE[kind]])] if kind in ONCE else picked:
             try:
                 KINDS[kind](trial, row)
             except Hangs:
