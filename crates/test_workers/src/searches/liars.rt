@@ -6,7 +6,7 @@ ghost use Rattle.sharedpool.specs.Views.{knower};
 
 use crate::searches::{ENOUGH, RELAY, encoded, shown_by, tree_of};
 use batches::{Batch, BatchLine, Hint};
-use clauses::Clause;
+use clauses::{Clause, Lit};
 use encode::Encoded;
 use pool::{CloseFault, Deed, Entry, FoundFault, Pool, PublishFault, Share};
 use prooflog::{Evidence, write_evidence};
@@ -79,18 +79,20 @@ struct Outcome {
     shown: &'static str,
 }
 
+/// A line with one hint.
+fn line(alloc: Global, literals: &[Lit], hint: Hint) -> Result<BatchLine, Fail> {
+    let clause = Clause::make(alloc, literals)?;
+    let mut hints = Vec::new(alloc);
+    hints.push(hint)?;
+    Ok(BatchLine { clause, hints })
+}
+
 /// Two lines: the formula's first clause once more, which derives, and the empty clause, which doesn't.
 fn lie(alloc: Global, encoded: &Encoded) -> Result<Batch, Fail> {
     let first = encoded.formula().clauses().first().ok_or("no clause")?;
     let mut lines = Vec::new(alloc);
-    for (literals, hint) in [
-        (first.literals(), Hint::Known(1)),
-        ([].as_slice(), Hint::Own(0)),
-    ] {
-        let clause = Clause::make(alloc, literals)?;
-        let hints = vec![in alloc; hint; 1]?;
-        lines.push(BatchLine { clause, hints })?;
-    }
+    lines.push(line(alloc, first.literals(), Hint::Known(1))?)?;
+    lines.push(line(alloc, &[], Hint::Own(0))?)?;
     Ok(Batch { lines })
 }
 
