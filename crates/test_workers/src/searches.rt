@@ -1,5 +1,6 @@
 //! In the programs' texts `/` stands for the end of a line.
 mod fake;
+mod liars;
 mod trail;
 
 ghost use Rattle.std.specs.Prelude.{◌≡◌, IfOk};
@@ -227,19 +228,29 @@ fn found_by_one<R: Threads + Wait + Sync>(
     evidence_of(rt, alloc, &share)
 }
 
-/// What that evidence shows of the program.
+/// What the text of an evidence shows of the program.
+fn shown_by(
+    rt: &(impl Threads + Sync),
+    alloc: Global,
+    text: &str,
+    evidence: &[u8],
+) -> Result<&'static str, Fail> {
+    let text = text.replace(alloc, '/', "\n")?;
+    match verdict(rt, alloc, text.as_bytes(), evidence) {
+        Verdict::NoDeadlock => Ok("no deadlock"),
+        Verdict::Deadlock => Ok("deadlock"),
+        Verdict::Refused(_reason) => Ok("refused"),
+    }
+}
+
+/// What the evidence that one worker comes to shows of the program.
 fn shown<R: Threads + Wait + Sync>(
     rt: &R,
     alloc: Global,
     text: &str,
 ) -> Result<&'static str, Fail> {
     let evidence = found_by_one(rt, alloc, text)?;
-    let text = text.replace(alloc, '/', "\n")?;
-    match verdict(rt, alloc, text.as_bytes(), evidence.as_slice()) {
-        Verdict::NoDeadlock => Ok("no deadlock"),
-        Verdict::Deadlock => Ok("deadlock"),
-        Verdict::Refused(_reason) => Ok("refused"),
-    }
+    shown_by(rt, alloc, text, evidence.as_slice())
 }
 
 #[test]
