@@ -96,7 +96,7 @@ def changed_call(chance, text, _):
         words = ['policy', chance.choice(['any', 'none', 'all'])]
     elif kinds and chance.random() < 0.6:
         words[0] = chance.choice(chance.choice(kinds))
-    elif kinds and chance.random() < 0.7:
+    elif kinds and len(words) > 1 and chance.random() < 0.7:
         words[chance.randrange(1, len(words))] = chance.choice(['*', '0', '1', '2'])
     elif kinds:
         words += ['comm', chance.choice(['0', '1', '2', '255', '256'])]
