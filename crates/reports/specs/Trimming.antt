@@ -1,5 +1,5 @@
 -- The text of a refutation without lines that are not needed.
-use Rattle.std.specs.Prelude.{◌≡◌, ◌≢◌, ℕ, false, List, length}
+use Rattle.std.specs.Prelude.{◌≡◌, ◌≢◌, ℕ, true, false, List, length}
 use Rattle.semantics.specs.declared.state.Step.{Step}
 use Rattle.trimming.specs.Needed.{are_named}
 use Rattle.prooflog.specs.declared.evidence.Evidence.{Evidence}
@@ -32,11 +32,12 @@ abbrev pub lines_of : Evidence → ℕ
 lines_of (Refutation claim) = length claim.lines
 lines_of (Schedule steps) = 0
 
--- The one text is that of a refutation, and the other that of the refutation without the lines that are not needed, with the number of
--- lines before and after.
+-- The one text is that of a refutation each of whose numbers names a clause or a line, and the other that of the refutation without the
+-- lines that are not needed, with the number of lines before and after.
 pub record Shortens (evidence : List ℕ) (shortened : Shortened) : Type 0 where
   pub claim : ClaimedRefutation
   pub refutation : IsEvidenceText evidence (Refutation claim)
+  pub named : are_named claim.clauses claim.lines claim.nodes ≡ true
   pub text : IsEvidenceText shortened.text.items (Refutation (trimmed_of claim))
   pub before : shortened.before ≡ length claim.lines
   pub after : shortened.after ≡ length (trimmed_of claim).lines
