@@ -1,14 +1,10 @@
 //! What the search knows, and how clauses come in.
 
-use crate::batch::OWN;
-use crate::codes::{NONE, code_of, variable_of};
-use crate::marks::Marks;
 use crate::order::Order;
-use crate::propagation::propagate;
-use crate::store::Store;
-use crate::trail::{Trail, Truth};
-use crate::watches::Watches;
 use clauses::{Clause, Formula, Lit};
+use propagation::{
+    Marks, NONE, OWN, Store, Trail, Truth, Watches, bring_unset, code_of, propagate, variable_of,
+};
 use std::alloc::{AllocError, Global};
 
 /// All that the search knows.
@@ -35,18 +31,6 @@ pub(crate) struct Engine {
 
 /// How many learnt clauses are kept at first.
 const FIRST_LIMIT: usize = 8_000;
-
-/// Brings up to two literals that aren't false to the front, and answers how many there are.
-fn bring_open(literals: &mut [u32], trail: &Trail) -> usize {
-    let mut found = 0;
-    for place in 0..literals.len() {
-        if found < 2 && trail.value(literals[place]) != Truth::False {
-            literals.swap(found, place);
-            found += 1;
-        }
-    }
-    found
-}
 
 /// Puts the literals' numbers in place of those in the list.
 fn fill(codes: &mut Vec<u32>, literals: &[Lit]) -> Result<(), AllocError> {
@@ -122,7 +106,7 @@ impl Engine {
         glue: u32,
         codes: &mut [u32],
     ) -> Result<(), AllocError> {
-        let open = bring_open(codes, &self.trail);
+        let open = bring_unset(codes, &self.trail);
         let Some(place) = self.store.add(codes, tag, glue)? else {
             return Ok(());
         };
@@ -152,7 +136,7 @@ impl Engine {
         if number == 0 || number >= OWN {
             return Ok(());
         }
-        self.trail.back(&mut self.order, 0);
+        self.back(0);
         let mut codes = Vec::new(alloc);
         fill(&mut codes, clause.literals())?;
         if let Some(place) = self.next_own(alloc, &codes)? {
@@ -191,6 +175,27 @@ impl Engine {
             self.refuted = conflict;
         }
         Ok(conflict)
+    }
+
+    /// The variables of the literals from this place of the trail on may be decided again.
+    fn free_from(&mut self, length: usize) {
+        for place in length..self.trail.len() {
+            self.order.insert(self.trail.literal(place) / 2);
+        }
+    }
+
+    /// Takes back all levels above this one. The variables that lose their value may be decided again.
+    pub(crate) fn back(&mut self, level: usize) {
+        if let Some(length) = self.trail.length_at(level) {
+            self.free_from(length);
+            self.trail.back(level);
+        }
+    }
+
+    /// Takes back all, level 0 too.
+    pub(crate) fn reset(&mut self) {
+        self.free_from(0);
+        self.trail.reset();
     }
 
     /// The numbers of the cube's literals, each once.

@@ -5,21 +5,14 @@
 #![tactic(auto)]
 
 mod analysis;
-mod batch;
-mod codes;
 mod engine;
-mod marks;
 mod minimisation;
 mod models;
 mod order;
 mod probing;
-mod propagation;
 mod reduction;
 mod search;
 mod solver;
-mod store;
-mod trail;
 mod units;
-mod watches;
 
 pub use solver::{Found, SolveFault, Solver};

@@ -1,10 +1,7 @@
 //! Leaving out literals of a learnt clause that follow from its other literals.
 
 use crate::analysis::Resolved;
-use crate::codes::{NONE, variable_of};
-use crate::marks::Marks;
-use crate::store::Store;
-use crate::trail::Trail;
+use propagation::{Marks, NONE, Store, Trail, variable_of};
 use std::alloc::{AllocError, Global};
 
 /// The bit of a level, which it shares with each 64th.

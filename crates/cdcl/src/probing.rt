@@ -1,7 +1,7 @@
 //! Probing: what follows at level 0 because a variable can't be true alone.
 
 use crate::engine::Engine;
-use crate::trail::Truth;
+use propagation::Truth;
 use std::alloc::{AllocError, Global};
 
 impl Engine {
@@ -37,7 +37,7 @@ impl Engine {
         if conflict.is_some() {
             self.probes_left = self.probes.len().saturating_add(1);
         } else {
-            self.trail.back(&mut self.order, 0);
+            self.back(0);
         }
         Ok(conflict)
     }

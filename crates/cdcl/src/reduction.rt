@@ -1,10 +1,7 @@
 //! Dropping clauses between searches.
 
-use crate::batch::OWN;
-use crate::codes::variable_of;
 use crate::engine::Engine;
-use crate::store::Store;
-use crate::trail::Truth;
+use propagation::{OWN, Store, Truth, variable_of};
 use std::alloc::{AllocError, Global};
 use std::mem;
 
@@ -109,7 +106,7 @@ impl Engine {
 
     fn rebuild(&mut self, alloc: Global, choice: &Choice) -> Result<(), AllocError> {
         let places = self.chosen(alloc, choice)?;
-        self.trail.reset(&mut self.order);
+        self.reset();
         self.watches.clear();
         self.refuted = None;
         self.learnt = 0;
@@ -135,7 +132,7 @@ impl Engine {
 
     /// Goes back to level 0, and drops lines that never came back, and then others where many were learnt.
     pub(crate) fn begin(&mut self, alloc: Global) -> Result<(), AllocError> {
-        self.trail.back(&mut self.order, 0);
+        self.back(0);
         let is_lost = self.returned < self.pending.len();
         self.pending.clear();
         self.returned = 0;

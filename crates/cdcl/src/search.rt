@@ -4,13 +4,11 @@ ghost use Rattle.std.specs.Prelude.{◌≤◌};
 ghost use Rattle.cdcl.specs.Searches.{IsCounted, IsNoBudgetStep, IsRight, IsRightStep};
 
 use crate::analysis::{Learnt, analyse, analyse_cube, analyse_root};
-use crate::batch::{add_line, hint_of};
-use crate::codes::variable_of;
 use crate::engine::Engine;
 use crate::models::checked;
-use crate::trail::Truth;
 use batches::{Batch, Hint};
 use clauses::{Assignment, Formula, Lit};
+use propagation::{Truth, add_line, hint_of, variable_of};
 use std::alloc::{AllocError, Global};
 
 /// Where propagation and decisions stop.
@@ -169,7 +167,7 @@ impl Engine {
         let mut tags = self.tags(alloc, &learnt.places)?;
         tags.push(self.store.tag(conflict))?;
         let tag = add_line(alloc, batch, &learnt.literals, &tags)?;
-        self.trail.back(&mut self.order, learnt.level);
+        self.back(learnt.level);
         match tag {
             Some(tag) => self.take_learnt(&learnt, tag),
             None => Ok(()),

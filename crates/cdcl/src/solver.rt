@@ -5,11 +5,11 @@ ghost use Rattle.std.specs.List.{list_any};
 ghost use Rattle.clauses.specs.Clauses.{is_within};
 ghost use Rattle.cdcl.specs.Answers.{are_opposite, has_both, is_foreign, Searched, Imported, Started};
 
-use crate::batch::no_lines;
 use crate::engine::Engine;
 use crate::search::{Counted, Ending};
 use batches::{Batch, Hint};
 use clauses::{Assignment, Clause, Formula, Lit};
+use propagation::no_lines;
 use std::alloc::{AllocError, Global};
 use std::marker::Model;
 use thiserror::Error;

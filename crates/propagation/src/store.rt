@@ -13,13 +13,13 @@ const BEST_GLUE: u32 = 2;
 /// Clauses, each as its length, its tag, its glue and its literals. A clause is named by the place where it begins.
 /// Where two literals are watched, they are the first two.
 #[derive(Drop)]
-pub(crate) struct Store {
+pub struct Store {
     words: Vec<u32>,
 }
 
 /// What becomes of a clause one of whose watched literals is false now.
 #[derive(Clone, Copy)]
-pub(crate) enum Watching {
+pub enum Watching {
     /// It is watched as before, by this literal among others.
     Kept(u32),
     /// The first literal is watched in the other's place, beside the second.
@@ -28,6 +28,18 @@ pub(crate) enum Watching {
     Unit(u32),
     /// All its literals are false.
     Conflict,
+}
+
+/// Brings up to two literals that aren't false to the front, and answers how many there are.
+pub fn bring_unset(literals: &mut [u32], trail: &Trail) -> usize {
+    let mut found = 0;
+    for place in 0..literals.len() {
+        if found < 2 && trail.value(literals[place]) != Truth::False {
+            literals.swap(found, place);
+            found += 1;
+        }
+    }
+    found
 }
 
 fn watch_another(literals: &mut [u32], falsified: u32, trail: &Trail) -> Watching {
@@ -58,14 +70,14 @@ fn watch_another(literals: &mut [u32], falsified: u32, trail: &Trail) -> Watchin
 
 impl Store {
     /// No clause.
-    pub(crate) fn new(alloc: Global) -> Store {
+    pub fn new(alloc: Global) -> Store {
         Store {
             words: Vec::new(alloc),
         }
     }
 
     /// One more clause, and its place; none where there is no number left for that.
-    pub(crate) fn add(
+    pub fn add(
         &mut self,
         literals: &[u32],
         tag: u32,
@@ -85,35 +97,35 @@ impl Store {
     }
 
     /// How many numbers stand in it; it has no more clauses than these.
-    pub(crate) fn size(&self) -> usize {
+    pub fn size(&self) -> usize {
         self.words.len()
     }
 
     /// The clause's tag.
-    pub(crate) fn tag(&self, place: u32) -> u32 {
+    pub fn tag(&self, place: u32) -> u32 {
         number_at(&self.words, place as usize + 1)
     }
 
     /// Gives the clause this tag.
-    pub(crate) fn set_tag(&mut self, place: u32, tag: u32) {
+    pub fn set_tag(&mut self, place: u32, tag: u32) {
         if let Some(entry) = self.words.get_mut(place as usize + 1) {
             *entry = tag;
         }
     }
 
     /// In how many levels the clause's literals stood as it was learnt; 0 for one of the formula.
-    pub(crate) fn glue(&self, place: u32) -> u32 {
+    pub fn glue(&self, place: u32) -> u32 {
         number_at(&self.words, place as usize + 2)
     }
 
     /// The place of the clause after this one.
-    pub(crate) fn after(&self, place: u32) -> Option<u32> {
+    pub fn after(&self, place: u32) -> Option<u32> {
         let length = self.words.get(place as usize)?;
         u32::try_from(place as usize + HEAD + *length as usize).ok()
     }
 
     /// How soon the clause is dropped: those of more levels first, and of these the older ones.
-    pub(crate) fn rank(&self, place: u32) -> Option<u64> {
+    pub fn rank(&self, place: u32) -> Option<u64> {
         let glue = self.glue(place);
         if glue <= BEST_GLUE {
             return None;
@@ -122,7 +134,7 @@ impl Store {
     }
 
     /// The clause's literals.
-    pub(crate) fn literals(&self, place: u32) -> &[u32] {
+    pub fn literals(&self, place: u32) -> &[u32] {
         let length = number_at(&self.words, place as usize) as usize;
         let start = place as usize + HEAD;
         match self.words.as_slice().get(start..start + length) {
@@ -132,12 +144,22 @@ impl Store {
     }
 
     /// Looks for a literal to watch in the place of the one that has become false.
-    pub(crate) fn rewatch(&mut self, place: u32, falsified: u32, trail: &Trail) -> Watching {
+    pub fn rewatch(&mut self, place: u32, falsified: u32, trail: &Trail) -> Watching {
         let length = number_at(&self.words, place as usize) as usize;
         let start = place as usize + HEAD;
         match self.words.as_mut_slice().get_mut(start..start + length) {
             Some(literals) => watch_another(literals, falsified, trail),
             None => Watching::Kept(falsified),
+        }
+    }
+
+    /// Brings up to two of the clause's literals that aren't false to the front, and answers how many there are.
+    pub fn bring_unset(&mut self, place: u32, trail: &Trail) -> usize {
+        let length = number_at(&self.words, place as usize) as usize;
+        let start = place as usize + HEAD;
+        match self.words.as_mut_slice().get_mut(start..start + length) {
+            Some(literals) => bring_unset(literals, trail),
+            None => 0,
         }
     }
 }

@@ -1,12 +1,11 @@
 //! Values of variables, in the order in which they came.
 
 use crate::codes::{NONE, negated, number_at, variable_of};
-use crate::order::Order;
 use std::alloc::{AllocError, Global};
 
 /// The value of a literal.
 #[derive(Clone, Copy, PartialEq, Eq)]
-pub(crate) enum Truth {
+pub enum Truth {
     /// None yet.
     Open,
     /// True.
@@ -36,7 +35,7 @@ fn no_note() -> Note {
 
 /// The literals that are true, in order, with their levels and reasons.
 #[derive(Drop)]
-pub(crate) struct Trail {
+pub struct Trail {
     values: Vec<Truth>,
     notes: Vec<Note>,
     literals: Vec<u32>,
@@ -54,7 +53,7 @@ fn put(values: &mut [Truth], code: u32, value: Truth) {
 
 impl Trail {
     /// The empty trail over this many variables.
-    pub(crate) fn new(alloc: Global, variables: u32) -> Result<Trail, AllocError> {
+    pub fn new(alloc: Global, variables: u32) -> Result<Trail, AllocError> {
         let count = variables as usize;
         Ok(Trail {
             values: vec![in alloc; Truth::Open; 2 * count]?,
@@ -68,11 +67,26 @@ impl Trail {
     }
 
     /// The literal's value.
-    pub(crate) fn value(&self, code: u32) -> Truth {
+    pub fn value(&self, code: u32) -> Truth {
         match self.values.get(code as usize) {
             Some(value) => *value,
             None => Truth::True,
         }
+    }
+
+    /// Whether the literal is true.
+    pub fn is_true(&self, code: u32) -> bool {
+        self.value(code) == Truth::True
+    }
+
+    /// Whether the literal is false.
+    pub fn is_false(&self, code: u32) -> bool {
+        self.value(code) == Truth::False
+    }
+
+    /// Whether the literal has no value yet.
+    pub fn is_unset(&self, code: u32) -> bool {
+        self.value(code) == Truth::Open
     }
 
     fn note(&self, variable: usize) -> Note {
@@ -83,55 +97,61 @@ impl Trail {
     }
 
     /// The level at which the variable got its value.
-    pub(crate) fn level_of(&self, variable: usize) -> u32 {
+    pub fn level_of(&self, variable: usize) -> u32 {
         self.note(variable).level
     }
 
     /// The clause that gave the variable its value.
-    pub(crate) fn reason_of(&self, variable: usize) -> u32 {
+    pub fn reason_of(&self, variable: usize) -> u32 {
         self.note(variable).reason
     }
 
+    /// Whether the literal is true by a decision.
+    pub fn is_decided(&self, code: u32) -> bool {
+        let variable = variable_of(code);
+        self.is_true(code) && self.level_of(variable) > 0 && self.reason_of(variable) == NONE
+    }
+
     /// Puts another clause that gives the variable its value in the place of the one so far.
-    pub(crate) fn set_reason(&mut self, variable: usize, reason: u32) {
+    pub fn set_reason(&mut self, variable: usize, reason: u32) {
         if let Some(note) = self.notes.get_mut(variable) {
             note.reason = reason;
         }
     }
 
     /// The variable's place on the trail.
-    pub(crate) fn place_of(&self, variable: usize) -> usize {
+    pub fn place_of(&self, variable: usize) -> usize {
         self.note(variable).place as usize
     }
 
     /// The literal at this place.
-    pub(crate) fn literal(&self, place: usize) -> u32 {
+    pub fn literal(&self, place: usize) -> u32 {
         number_at(&self.literals, place)
     }
 
     /// How many literals are true.
-    pub(crate) fn len(&self) -> usize {
+    pub fn len(&self) -> usize {
         self.top
     }
 
     /// How many literals can be true.
-    pub(crate) fn most(&self) -> usize {
+    pub fn most(&self) -> usize {
         self.literals.len()
     }
 
     /// How many decisions there are.
-    pub(crate) fn level(&self) -> usize {
+    pub fn level(&self) -> usize {
         self.limits.len()
     }
 
     /// Begins a level.
-    pub(crate) fn open_level(&mut self) -> Result<(), AllocError> {
+    pub fn open_level(&mut self) -> Result<(), AllocError> {
         self.limits.push(self.top)?;
         Ok(())
     }
 
     /// Makes the literal true.
-    pub(crate) fn assign(&mut self, code: u32, reason: u32) {
+    pub fn assign(&mut self, code: u32, reason: u32) {
         if self.top >= self.literals.len() {
             return;
         }
@@ -153,12 +173,12 @@ impl Trail {
     }
 
     /// Whether values that come from now on count as the last ones of their variables.
-    pub(crate) fn set_keeps_phases(&mut self, keeps_phases: bool) {
+    pub fn set_keeps_phases(&mut self, keeps_phases: bool) {
         self.keeps_phases = keeps_phases;
     }
 
     /// The next literal that wasn't propagated yet.
-    pub(crate) fn take_next(&mut self) -> Option<u32> {
+    pub fn take_next(&mut self) -> Option<u32> {
         if self.head >= self.top {
             return None;
         }
@@ -167,39 +187,42 @@ impl Trail {
         Some(code)
     }
 
-    fn unassign(&mut self, order: &mut Order, code: u32) {
+    fn unassign(&mut self, code: u32) {
         put(self.values.as_mut_slice(), code, Truth::Open);
         put(self.values.as_mut_slice(), negated(code), Truth::Open);
-        order.insert(code / 2);
     }
 
-    fn shorten(&mut self, order: &mut Order, length: usize) {
+    fn shorten(&mut self, length: usize) {
         for place in length..self.top {
             let code = number_at(&self.literals, place);
-            self.unassign(order, code);
+            self.unassign(code);
         }
         self.top = length;
         self.head = length;
     }
 
-    /// Takes back all levels above this one. The variables that lose their value may be decided again.
-    pub(crate) fn back(&mut self, order: &mut Order, level: usize) {
-        let Some(limit) = self.limits.get(level) else {
-            return;
-        };
-        let limit = *limit;
-        self.limits.truncate(level);
-        self.shorten(order, limit);
+    /// How many literals were true when the level above this one began, which is how many stay where all above this one are taken back. None
+    /// where there is no level above it.
+    pub fn length_at(&self, level: usize) -> Option<usize> {
+        self.limits.get(level).copied()
+    }
+
+    /// Takes back all levels above this one.
+    pub fn back(&mut self, level: usize) {
+        if let Some(length) = self.length_at(level) {
+            self.limits.truncate(level);
+            self.shorten(length);
+        }
     }
 
     /// Takes back all, level 0 too.
-    pub(crate) fn reset(&mut self, order: &mut Order) {
+    pub fn reset(&mut self) {
         self.limits.clear();
-        self.shorten(order, 0);
+        self.shorten(0);
     }
 
     /// The literal of this variable with the value that the variable had last.
-    pub(crate) fn with_phase(&self, positive: u32) -> u32 {
+    pub fn with_phase(&self, positive: u32) -> u32 {
         if self.note(variable_of(positive)).phase {
             positive
         } else {
@@ -208,7 +231,7 @@ impl Trail {
     }
 
     /// The variables' values: false where there is none.
-    pub(crate) fn values(&self, alloc: Global) -> Result<Vec<bool>, AllocError> {
+    pub fn values(&self, alloc: Global) -> Result<Vec<bool>, AllocError> {
         let mut values = Vec::with_capacity(alloc, self.notes.len())?;
         for variable in 0..self.notes.len() {
             values.push(self.values.get(2 * variable).copied() == Some(Truth::True))?;
