@@ -1,0 +1,236 @@
+//! What is known of the end of a stuck run.
+
+use crate::shape::{CallShape, PairShape, RankShape, Shape};
+use propagation::negated;
+use std::alloc::{AllocError, Global};
+
+/// How many numbers of a key tell what is known of a rank.
+const RANK_NUMBERS: usize = 3;
+
+/// The number that ends those of a key that tell which calls are matched.
+const KEY_END: u32 = u32::MAX;
+
+/// What is known of a rank.
+#[derive(Clone, Copy)]
+pub(crate) struct Progress {
+    /// So many first calls are issued.
+    pub(crate) issued: usize,
+    pub(crate) is_finished: bool,
+    /// No call from this one on is issued; at the number of calls: the rank isn't finished; above: nothing is known.
+    pub(crate) end: usize,
+}
+
+/// What is known: how far the ranks come, which calls are matched among themselves, and which pairs are matched and still matter.
+#[derive(Drop)]
+pub struct State {
+    pub(crate) ranks: Vec<Progress>,
+    /// Sends and takers that are matched with one another, their partners forgotten, and probes that have seen a message, whose is forgotten.
+    pub(crate) is_matched: Vec<bool>,
+    /// Pairs that are matched, rising.
+    pub(crate) kept: Vec<usize>,
+    /// Those of them that have surely happened, while it is open whether their waits are reached.
+    pub(crate) unsettled: Vec<usize>,
+}
+
+/// A number that is small enough for a key.
+fn number(value: usize) -> u32 {
+    u32::try_from(value).unwrap_or(u32::MAX)
+}
+
+fn push_ranks(key: &mut Vec<u32>, ranks: &[Progress]) -> Result<(), AllocError> {
+    for rank in ranks {
+        key.push(number(rank.issued))?;
+        key.push(number(rank.end))?;
+        key.push(u32::from(rank.is_finished))?;
+    }
+    Ok(())
+}
+
+/// The places at which it is true, behind their number.
+fn push_places(key: &mut Vec<u32>, is_so: &[bool]) -> Result<(), AllocError> {
+    for place in 0..is_so.len() {
+        if is_so[place] {
+            key.push(number(place))?;
+        }
+    }
+    key.push(KEY_END)?;
+    Ok(())
+}
+
+fn push_numbers(key: &mut Vec<u32>, values: &[usize]) -> Result<(), AllocError> {
+    for value in values {
+        key.push(number(*value))?;
+    }
+    Ok(())
+}
+
+fn push_issued(
+    shape: &Shape<'_>,
+    codes: &mut Vec<u32>,
+    ranks: &[Progress],
+) -> Result<(), AllocError> {
+    for (rank, progress) in shape.ranks().iter().zip(ranks) {
+        if progress.issued > 0 {
+            let last = rank.first.saturating_add(progress.issued - 1);
+            codes.push(shape.call(last).issued)?;
+        }
+    }
+    Ok(())
+}
+
+/// The literal that no call of the rank from this one on is issued.
+pub(crate) fn ends_at(shape: &Shape<'_>, rank: &RankShape, place: usize) -> u32 {
+    if place < rank.length {
+        return negated(shape.call(rank.first.saturating_add(place)).issued);
+    }
+    rank.unfinished
+}
+
+fn push_end(
+    shape: &Shape<'_>,
+    codes: &mut Vec<u32>,
+    rank: &RankShape,
+    progress: &Progress,
+) -> Result<(), AllocError> {
+    if rank.length == 0 {
+        return Ok(());
+    }
+    if progress.is_finished {
+        codes.push(negated(rank.unfinished))?;
+    }
+    if progress.end <= rank.length {
+        codes.push(ends_at(shape, rank, progress.end))?;
+    }
+    Ok(())
+}
+
+fn push_ends(
+    shape: &Shape<'_>,
+    codes: &mut Vec<u32>,
+    ranks: &[Progress],
+) -> Result<(), AllocError> {
+    for (rank, progress) in shape.ranks().iter().zip(ranks) {
+        push_end(shape, codes, rank, progress)?;
+    }
+    Ok(())
+}
+
+fn push_kept(shape: &Shape<'_>, codes: &mut Vec<u32>, kept: &[usize]) -> Result<(), AllocError> {
+    for pair in kept {
+        codes.push(shape.pair(*pair).matched)?;
+    }
+    Ok(())
+}
+
+/// Those of the numbers that tell a state of the program that tell which calls are matched.
+pub fn matched_part(alloc: Global, shape: &Shape<'_>, key: &[u32]) -> Result<Vec<u32>, AllocError> {
+    let mut part = Vec::new(alloc);
+    for place in shape.ranks().len().saturating_mul(RANK_NUMBERS)..key.len() {
+        if key[place] == KEY_END {
+            break;
+        }
+        part.push(key[place])?;
+    }
+    Ok(part)
+}
+
+impl State {
+    /// Nothing is known.
+    pub fn new(alloc: Global, shape: &Shape<'_>) -> Result<State, AllocError> {
+        let mut ranks = Vec::new(alloc);
+        for rank in shape.ranks() {
+            ranks.push(Progress {
+                issued: 0,
+                is_finished: false,
+                end: rank.length.saturating_add(1),
+            })?;
+        }
+        Ok(State {
+            ranks,
+            is_matched: vec![in alloc; false; shape.calls().len()]?,
+            kept: Vec::new(alloc),
+            unsettled: Vec::new(alloc),
+        })
+    }
+
+    /// What is known of this rank.
+    pub(crate) fn rank(&self, rank: usize) -> Progress {
+        match self.ranks.get(rank) {
+            Some(progress) => *progress,
+            None => Progress {
+                issued: 0,
+                is_finished: false,
+                end: usize::MAX,
+            },
+        }
+    }
+
+    /// Whether the call is one of those whose partners are forgotten.
+    pub(crate) fn is_matched(&self, call: usize) -> bool {
+        self.is_matched.get(call).copied().unwrap_or(false)
+    }
+
+    /// The call is one of those.
+    pub(crate) fn set_matched(&mut self, call: usize) {
+        if let Some(entry) = self.is_matched.get_mut(call) {
+            *entry = true;
+        }
+    }
+
+    /// Numbers that tell what is known: states of one program with the same ones have the same assumptions.
+    pub fn key(&self, alloc: Global) -> Result<Vec<u32>, AllocError> {
+        let mut key = Vec::new(alloc);
+        push_ranks(&mut key, &self.ranks)?;
+        push_places(&mut key, &self.is_matched)?;
+        push_numbers(&mut key, &self.kept)?;
+        Ok(key)
+    }
+
+    /// Whether the rank surely goes on after the call.
+    fn is_passed(&self, call: &CallShape) -> bool {
+        let progress = self.rank(call.rank);
+        if call.is_last {
+            return progress.is_finished;
+        }
+        progress.issued > call.place.saturating_add(1)
+    }
+
+    /// Whether the call is surely never issued.
+    pub(crate) fn is_never(&self, call: &CallShape) -> bool {
+        self.rank(call.rank).end <= call.place
+    }
+
+    /// Whether the rank surely goes on after the call, or the call is surely never issued.
+    pub(crate) fn is_settled(&self, shape: &Shape<'_>, call: Option<usize>) -> bool {
+        let Some(call) = call else {
+            return true;
+        };
+        let call = shape.call(call);
+        self.is_passed(&call) || self.is_never(&call)
+    }
+
+    /// Whether just one of the two calls is among those whose partners are forgotten, so that they aren't matched with one another. A probe may
+    /// see a message that is taken by another call.
+    fn is_cut(&self, shape: &Shape<'_>, pair: &PairShape) -> bool {
+        !shape.is_probe(pair.taker) && self.is_matched(pair.send) != self.is_matched(pair.taker)
+    }
+
+    fn push_cut(&self, shape: &Shape<'_>, codes: &mut Vec<u32>) -> Result<(), AllocError> {
+        for pair in shape.matches() {
+            if self.is_cut(shape, pair) {
+                codes.push(negated(pair.matched))?;
+            }
+        }
+        Ok(())
+    }
+
+    /// The numbers of literals that say all this. That the forgotten pairs are among themselves is said by what isn't matched.
+    pub fn assumptions(&self, alloc: Global, shape: &Shape<'_>) -> Result<Vec<u32>, AllocError> {
+        let mut codes = Vec::new(alloc);
+        push_issued(shape, &mut codes, &self.ranks)?;
+        push_ends(shape, &mut codes, &self.ranks)?;
+        push_kept(shape, &mut codes, &self.kept)?;
+        self.push_cut(shape, &mut codes)?;
+        Ok(codes)
+    }
+}

@@ -1,0 +1,255 @@
+//! What propagation knows, and how clauses come in.
+
+use batches::Batch;
+use clauses::{Formula, Lit};
+use propagation::{
+    Marks, NONE, OWN, Store, Trail, Truth, Watches, add_line, code_of, negated, propagate,
+};
+use std::alloc::{AllocError, Global};
+use std::mem;
+
+/// The longest line that is watched.
+const MOST_WATCHED: usize = 30;
+
+/// What can't be.
+#[derive(Clone, Copy)]
+pub(crate) enum Conflict {
+    /// This clause is false.
+    Clause(u32),
+    /// This assumption is false.
+    Falsified(u32),
+}
+
+/// A clause that says why a conflict can't be.
+#[derive(Drop)]
+pub(crate) struct Written {
+    /// Its place in the store.
+    pub(crate) clause: u32,
+    /// Its literals: negated decisions.
+    pub(crate) literals: Vec<u32>,
+    /// Whether it is a line of its own.
+    pub(crate) is_new: bool,
+}
+
+/// All that propagation knows.
+#[derive(Drop)]
+pub(crate) struct Engine {
+    pub(crate) store: Store,
+    pub(crate) trail: Trail,
+    pub(crate) watches: Watches,
+    pub(crate) marks: Marks,
+    /// A clause that is false at level 0.
+    pub(crate) refuted: Option<u32>,
+    /// Clauses that are watched from the next return to level 0 on.
+    waiting: Vec<u32>,
+    /// The clauses of the batch's lines.
+    pub(crate) lines: Vec<u32>,
+}
+
+/// Puts the literals' numbers in place of those in the list.
+pub(crate) fn fill(codes: &mut Vec<u32>, literals: &[Lit]) -> Result<(), AllocError> {
+    codes.clear();
+    for literal in literals {
+        codes.push(code_of(literal))?;
+    }
+    Ok(())
+}
+
+/// The numbers of the literals' negations.
+fn negations(alloc: Global, codes: &[u32]) -> Result<Vec<u32>, AllocError> {
+    let mut negations = Vec::with_capacity(alloc, codes.len())?;
+    for code in codes {
+        negations.push(negated(*code))?;
+    }
+    Ok(negations)
+}
+
+impl Engine {
+    /// What is known of no clause.
+    fn empty(alloc: Global, variables: u32) -> Result<Engine, AllocError> {
+        Ok(Engine {
+            store: Store::new(alloc),
+            trail: Trail::new(alloc, variables)?,
+            watches: Watches::new(alloc, variables)?,
+            marks: Marks::new(alloc, variables)?,
+            refuted: None,
+            waiting: Vec::new(alloc),
+            lines: Vec::new(alloc),
+        })
+    }
+
+    /// What is known of the formula's clauses. Those whose numbers no hint can have are left out.
+    pub(crate) fn new(alloc: Global, formula: &Formula) -> Result<Engine, AllocError> {
+        let mut engine = Engine::empty(alloc, formula.variables())?;
+        let mut codes = Vec::new(alloc);
+        let mut number = 0u32;
+        for clause in formula.clauses() {
+            number = number.saturating_add(1);
+            if number >= OWN {
+                break;
+            }
+            fill(&mut codes, clause.literals())?;
+            engine.take_in(number, &codes)?;
+        }
+        Ok(engine)
+    }
+
+    /// Takes in a clause of this tag, at level 0. Where no place is left for it, it is left out.
+    pub(crate) fn take_in(&mut self, tag: u32, codes: &[u32]) -> Result<(), AllocError> {
+        let Some(place) = self.store.add(codes, tag, 0)? else {
+            return Ok(());
+        };
+        self.attach(place)
+    }
+
+    /// Has a clause watched, at level 0.
+    fn attach(&mut self, place: u32) -> Result<(), AllocError> {
+        let unset = self.store.bring_unset(place, &self.trail);
+        let literals = self.store.literals(place);
+        self.watches.add_clause(literals, place)?;
+        if unset == 0 && self.refuted.is_none() {
+            self.refuted = Some(place);
+        }
+        if unset == 1
+            && let Some(first) = literals.first()
+            && self.trail.value(*first) == Truth::Open
+        {
+            self.trail.assign(*first, place);
+        }
+        Ok(())
+    }
+
+    /// Propagates until nothing follows any more. Where a clause is false, it is answered.
+    pub(crate) fn propagate(&mut self, alloc: Global) -> Result<Option<u32>, AllocError> {
+        if self.refuted.is_some() {
+            return Ok(self.refuted);
+        }
+        let conflict = propagate(alloc, &mut self.store, &mut self.trail, &mut self.watches)?;
+        if self.trail.level() == 0 {
+            self.refuted = conflict;
+        }
+        Ok(conflict)
+    }
+
+    /// Begins a level, with this literal where it has no value yet, and propagates.
+    pub(crate) fn decide(&mut self, alloc: Global, code: u32) -> Result<Option<u32>, AllocError> {
+        self.trail.open_level()?;
+        if self.trail.is_unset(code) {
+            self.trail.assign(code, NONE);
+        }
+        self.propagate(alloc)
+    }
+
+    /// Makes the literal false, as the clause says, and propagates.
+    pub(crate) fn exclude(
+        &mut self,
+        alloc: Global,
+        code: u32,
+        clause: u32,
+    ) -> Result<Option<u32>, AllocError> {
+        if self.trail.is_unset(code) {
+            self.trail.assign(negated(code), clause);
+        }
+        self.propagate(alloc)
+    }
+
+    /// Has the clauses that wait for level 0 watched.
+    fn attach_waiting(&mut self, alloc: Global) -> Result<(), AllocError> {
+        let waiting = mem::replace(&mut self.waiting, Vec::new(alloc));
+        for place in &waiting {
+            self.attach(*place)?;
+        }
+        Ok(())
+    }
+
+    /// Goes back to level 0, where the clauses that wait for that are watched. Answers whether no clause is false there.
+    pub(crate) fn to_root(&mut self, alloc: Global) -> Result<bool, AllocError> {
+        self.trail.back(0);
+        self.attach_waiting(alloc)?;
+        let conflict = self.propagate(alloc)?;
+        Ok(conflict.is_none())
+    }
+
+    /// Makes the literal true.
+    fn assume_one(&mut self, alloc: Global, code: u32) -> Result<Option<Conflict>, AllocError> {
+        if self.trail.is_true(code) {
+            return Ok(None);
+        }
+        if self.trail.is_false(code) {
+            return Ok(Some(Conflict::Falsified(code)));
+        }
+        match self.decide(alloc, code)? {
+            Some(clause) => Ok(Some(Conflict::Clause(clause))),
+            None => Ok(None),
+        }
+    }
+
+    /// Makes these literals true, each that isn't so at a level of its own.
+    pub(crate) fn assume(
+        &mut self,
+        alloc: Global,
+        codes: &[u32],
+    ) -> Result<Option<Conflict>, AllocError> {
+        for code in codes {
+            let conflict = self.assume_one(alloc, *code)?;
+            if conflict.is_some() {
+                return Ok(conflict);
+            }
+        }
+        Ok(None)
+    }
+
+    /// Whether each literal of the clause is false.
+    pub(crate) fn is_false(&self, place: u32) -> bool {
+        self.store
+            .literals(place)
+            .iter()
+            .all(|code| self.trail.is_false(*code))
+    }
+
+    /// One more line, and the place of its clause; none where there is no number left for it.
+    pub(crate) fn add_line(
+        &mut self,
+        alloc: Global,
+        codes: &[u32],
+        tags: &[u32],
+        batch: &mut Batch,
+    ) -> Result<Option<u32>, AllocError> {
+        let Some(tag) = add_line(alloc, batch, codes, tags)? else {
+            return Ok(None);
+        };
+        let place = self.store.add(codes, tag, 0)?;
+        self.lines.push(place.unwrap_or(NONE))?;
+        Ok(place)
+    }
+
+    /// Has the clause of a line watched from the next return to level 0 on, unless it is long.
+    pub(crate) fn watch_later(&mut self, written: &Written) -> Result<(), AllocError> {
+        if written.is_new && self.store.literals(written.clause).len() <= MOST_WATCHED {
+            self.waiting.push(written.clause)?;
+        }
+        Ok(())
+    }
+
+    /// A line of these literals, which is watched, where propagation derives it; answers whether it does. Ends at level 0.
+    pub(crate) fn make_lemma(
+        &mut self,
+        alloc: Global,
+        codes: &[u32],
+        batch: &mut Batch,
+    ) -> Result<bool, AllocError> {
+        if !self.to_root(alloc)? {
+            return Ok(true);
+        }
+        let negations = negations(alloc, codes)?;
+        let conflict = self.assume(alloc, &negations)?;
+        if let Some(conflict) = conflict
+            && let Some(written) = self.write(alloc, conflict, batch)?
+            && written.is_new
+        {
+            self.waiting.push(written.clause)?;
+        }
+        self.to_root(alloc)?;
+        Ok(conflict.is_some())
+    }
+}

@@ -1,0 +1,408 @@
+//! What the search knows of states.
+
+use crate::cutting::cut_cycle;
+use crate::engine::{Engine, fill};
+use crate::lemmas::Lemmas;
+use crate::tasks::{Branch, Branching, Purpose, Task};
+use batches::Batch;
+use cdcl::Solver;
+use clauses::Clause;
+use encode::Encoded;
+use propagation::OWN;
+use states::{Shape, State, choose, find_cycle, matched_part, read_off};
+use std::alloc::{AllocError, Global};
+use std::collections::HashMap;
+
+/// The longest clause of others that is taken in.
+const MOST_IMPORTED: usize = 30;
+
+/// How many of the clauses that closed states with the same matched calls are tried.
+const MOST_NEAR: usize = 16;
+
+/// All that the search knows.
+#[derive(Drop)]
+pub(crate) struct Explorer<'e> {
+    pub(crate) shape: Shape<'e>,
+    pub(crate) engine: Engine,
+    lemmas: Lemmas,
+    /// For each state that is closed the clause by which it is, by the numbers that tell the state.
+    table: HashMap<Vec<u32>, u32>,
+    /// The clauses that closed states with the same matched calls, by the numbers that tell these.
+    near: HashMap<Vec<u32>, Vec<u32>>,
+    /// What is left to do; the last one comes first.
+    pub(crate) tasks: Vec<Task>,
+    /// What learns where no rule helps, once it was needed.
+    pub(crate) learner: Option<Solver<'e>>,
+    /// From which line of the batch on and up to which the lines are the learner's.
+    pub(crate) learnt_from: usize,
+    pub(crate) learnt_to: usize,
+    /// How many lines of the last batch came back.
+    returned: usize,
+    /// Whether a cycle could not be cut, so that none is looked for any more.
+    leaves_cycles: bool,
+}
+
+/// What is below a literal.
+#[derive(Drop)]
+enum Below {
+    /// A conflict.
+    Conflict,
+    /// Lemmas that were made, with the trail at level 0.
+    Lemmas,
+    /// This state.
+    State(State),
+}
+
+/// The list of what is to do at first.
+fn first_tasks(alloc: Global) -> Result<Vec<Task>, AllocError> {
+    let mut tasks = Vec::new(alloc);
+    tasks.push(Task::Start)?;
+    Ok(tasks)
+}
+
+impl<'e> Explorer<'e> {
+    /// What is known at first.
+    pub(crate) fn new(alloc: Global, encoded: &'e Encoded) -> Result<Explorer<'e>, AllocError> {
+        let shape = Shape::new(alloc, encoded)?;
+        let engine = Engine::new(alloc, encoded.formula())?;
+        let lemmas = Lemmas::new(alloc, &shape)?;
+        Ok(Explorer {
+            shape,
+            engine,
+            lemmas,
+            table: HashMap::new(alloc),
+            near: HashMap::new(alloc),
+            tasks: first_tasks(alloc)?,
+            learner: None,
+            learnt_from: 0,
+            learnt_to: 0,
+            returned: 0,
+            leaves_cycles: false,
+        })
+    }
+
+    /// Forgets all.
+    fn restart(&mut self, alloc: Global, encoded: &'e Encoded) -> Result<(), AllocError> {
+        self.engine = Engine::new(alloc, encoded.formula())?;
+        self.lemmas = Lemmas::new(alloc, &self.shape)?;
+        self.table = HashMap::new(alloc);
+        self.near = HashMap::new(alloc);
+        self.tasks = first_tasks(alloc)?;
+        self.learner = None;
+        self.leaves_cycles = false;
+        Ok(())
+    }
+
+    /// Begins a batch. Where lines of the last one didn't come back, all is forgotten.
+    pub(crate) fn begin(&mut self, alloc: Global, encoded: &'e Encoded) -> Result<(), AllocError> {
+        if self.returned < self.engine.lines.len() {
+            self.restart(alloc, encoded)?;
+        }
+        self.engine.lines.clear();
+        self.returned = 0;
+        self.learnt_from = 0;
+        self.learnt_to = 0;
+        Ok(())
+    }
+
+    /// The next line of the last batch, where it has these literals.
+    fn next_own(&self, alloc: Global, codes: &[u32]) -> Result<Option<u32>, AllocError> {
+        let Some(place) = self.engine.lines.get(self.returned) else {
+            return Ok(None);
+        };
+        let known = self.engine.store.literals(*place);
+        if known.len() != codes.len() {
+            return Ok(None);
+        }
+        let mut known = known.to_vec(alloc)?;
+        known.sort_unstable();
+        if known.as_slice() == codes {
+            return Ok(Some(*place));
+        }
+        Ok(None)
+    }
+
+    /// Tells the learner a clause and its number.
+    fn teach(&mut self, alloc: Global, number: u32, clause: &Clause) -> Result<(), AllocError> {
+        let Some(learner) = &mut self.learner else {
+            return Ok(());
+        };
+        match learner.import(alloc, number, clause) {
+            Ok(()) => Ok(()),
+            Err(_) => Err(AllocError),
+        }
+    }
+
+    /// The line that comes back has this number.
+    fn take_own(
+        &mut self,
+        alloc: Global,
+        place: u32,
+        number: u32,
+        clause: &Clause,
+    ) -> Result<(), AllocError> {
+        let line = self.returned;
+        self.engine.store.set_tag(place, number);
+        self.returned = self.returned.saturating_add(1);
+        if line < self.learnt_from || line >= self.learnt_to {
+            return Ok(());
+        }
+        self.teach(alloc, number, clause)
+    }
+
+    /// Takes in a clause that was derived, and its number. One whose number no hint can have is left out, and so is a long one of others.
+    pub(crate) fn import(
+        &mut self,
+        alloc: Global,
+        number: u32,
+        clause: &Clause,
+    ) -> Result<(), AllocError> {
+        if number == 0 || number >= OWN {
+            return Ok(());
+        }
+        let mut codes = Vec::new(alloc);
+        fill(&mut codes, clause.literals())?;
+        if let Some(place) = self.next_own(alloc, &codes)? {
+            return self.take_own(alloc, place, number, clause);
+        }
+        if codes.len() > MOST_IMPORTED {
+            return Ok(());
+        }
+        self.engine.to_root(alloc)?;
+        self.engine.take_in(number, &codes)
+    }
+
+    /// The clause that closes the state which these numbers tell.
+    pub(crate) fn clause_of(&self, key: &[u32]) -> Option<u32> {
+        self.table.get(key).copied()
+    }
+
+    /// The state that these numbers tell is closed by this clause, which closed another one.
+    fn close_too(&mut self, key: Vec<u32>, clause: u32) -> Result<(), AllocError> {
+        self.table.insert(key, clause)?;
+        Ok(())
+    }
+
+    /// The state that these numbers tell is closed by this clause.
+    pub(crate) fn close(
+        &mut self,
+        alloc: Global,
+        key: Vec<u32>,
+        clause: u32,
+    ) -> Result<(), AllocError> {
+        let part = matched_part(alloc, &self.shape, &key)?;
+        let clauses = self.near.entry(part)?.or_insert(Vec::new(alloc));
+        clauses.push(clause)?;
+        self.close_too(key, clause)
+    }
+
+    /// The first of these clauses that is false, of the last few, from the last one on.
+    fn first_false(&self, clauses: &[u32]) -> Option<u32> {
+        let first = clauses.len().saturating_sub(MOST_NEAR);
+        for place in (first..clauses.len()).rev() {
+            if self.engine.is_false(clauses[place]) {
+                return Some(clauses[place]);
+            }
+        }
+        None
+    }
+
+    /// A clause that closed a state with the same matched calls, and is false now.
+    fn near_clause(&self, alloc: Global, key: &[u32]) -> Result<Option<u32>, AllocError> {
+        let part = matched_part(alloc, &self.shape, key)?;
+        match self.near.get(&part) {
+            Some(clauses) => Ok(self.first_false(clauses)),
+            None => Ok(None),
+        }
+    }
+
+    /// Puts a task before all others.
+    pub(crate) fn push(&mut self, task: Task) -> Result<(), AllocError> {
+        self.tasks.push(task)?;
+        Ok(())
+    }
+
+    /// Makes these literals true from level 0 on, and answers whether that meets no conflict.
+    pub(crate) fn stand_on(
+        &mut self,
+        alloc: Global,
+        assumptions: &[u32],
+    ) -> Result<bool, AllocError> {
+        if !self.engine.to_root(alloc)? {
+            return Ok(false);
+        }
+        let conflict = self.engine.assume(alloc, assumptions)?;
+        Ok(conflict.is_none())
+    }
+
+    /// Cuts a cycle, where the order that holds has one; then the trail is at level 0.
+    fn cuts(&mut self, alloc: Global, batch: &mut Batch) -> Result<bool, AllocError> {
+        if self.leaves_cycles {
+            return Ok(false);
+        }
+        let Some(cycle) = find_cycle(alloc, &self.shape, &self.engine.trail)? else {
+            return Ok(false);
+        };
+        let is_cut = cut_cycle(alloc, &self.shape, &mut self.engine, &cycle, batch)?;
+        self.leaves_cycles = !is_cut;
+        Ok(true)
+    }
+
+    /// Makes lemmas that are due, and answers whether there were any; then the trail is at level 0.
+    fn makes_lemmas(&mut self, alloc: Global, batch: &mut Batch) -> Result<bool, AllocError> {
+        if self
+            .lemmas
+            .make(alloc, &self.shape, &mut self.engine, batch)?
+        {
+            return Ok(true);
+        }
+        self.cuts(alloc, batch)
+    }
+
+    /// Reads the first state off what holds at level 0, and has it closed.
+    pub(crate) fn start(&mut self, alloc: Global, batch: &mut Batch) -> Result<(), AllocError> {
+        if !self.engine.to_root(alloc)? {
+            return Ok(());
+        }
+        if self.makes_lemmas(alloc, batch)? {
+            return self.push(Task::Start);
+        }
+        let nothing = State::new(alloc, &self.shape)?;
+        let state = read_off(alloc, &self.shape, &self.engine.trail, &nothing)?;
+        let again = read_off(alloc, &self.shape, &self.engine.trail, &nothing)?;
+        self.push(Task::End(state))?;
+        self.push(Task::Visit(again))
+    }
+
+    /// Branches the state, unless it is closed already or meets a conflict at once, as what leads to it then does too.
+    pub(crate) fn visit(
+        &mut self,
+        alloc: Global,
+        state: State,
+        batch: &mut Batch,
+    ) -> Result<(), AllocError> {
+        let key = state.key(alloc)?;
+        if self.clause_of(&key).is_some() {
+            return Ok(());
+        }
+        let assumptions = state.assumptions(alloc, &self.shape)?;
+        if !self.stand_on(alloc, &assumptions)? {
+            return Ok(());
+        }
+        if let Some(clause) = self.near_clause(alloc, &key)? {
+            return self.close_too(key, clause);
+        }
+        if self.makes_lemmas(alloc, batch)? {
+            return self.push(Task::Visit(state));
+        }
+        let read = read_off(alloc, &self.shape, &self.engine.trail, &state)?;
+        let read_key = read.key(alloc)?;
+        if read_key.as_slice() != key.as_slice() {
+            self.push(Task::Alias(key, read_key))?;
+            return self.push(Task::Visit(read));
+        }
+        self.expand(alloc, read, key, assumptions, batch)
+    }
+
+    /// Closes the first state by what closes the second.
+    pub(crate) fn alias(&mut self, key: Vec<u32>, other: &[u32]) -> Result<(), AllocError> {
+        match self.clause_of(other) {
+            Some(clause) => self.close_too(key, clause),
+            None => Ok(()),
+        }
+    }
+
+    /// Branches a state whose assumptions stand on the trail.
+    fn expand(
+        &mut self,
+        alloc: Global,
+        state: State,
+        key: Vec<u32>,
+        assumptions: Vec<u32>,
+        batch: &mut Batch,
+    ) -> Result<(), AllocError> {
+        let literals = choose(alloc, &self.shape, &self.engine.trail, &state)?;
+        if literals.is_empty() {
+            return self.push(Task::Learn(assumptions, Purpose::State(key)));
+        }
+        let mut branches = Vec::new(alloc);
+        let mut states = Vec::new(alloc);
+        let are_made = self.look_below(
+            alloc,
+            &state,
+            &literals,
+            &mut branches,
+            &mut states,
+            batch,
+        )?;
+        if are_made {
+            return self.push(Task::Visit(state));
+        }
+        self.push(Task::Finish(Branching {
+            key,
+            assumptions,
+            branches,
+        }))?;
+        self.visit_all(states)
+    }
+
+    /// Has these states closed, the last one first.
+    fn visit_all(&mut self, states: Vec<State>) -> Result<(), AllocError> {
+        for state in states {
+            self.push(Task::Visit(state))?;
+        }
+        Ok(())
+    }
+
+    /// What is below the literal.
+    fn below(
+        &mut self,
+        alloc: Global,
+        state: &State,
+        literal: u32,
+        batch: &mut Batch,
+    ) -> Result<Below, AllocError> {
+        let level = self.engine.trail.level();
+        let conflict = self.engine.decide(alloc, literal)?;
+        if conflict.is_some() {
+            self.engine.trail.back(level);
+            return Ok(Below::Conflict);
+        }
+        if self.makes_lemmas(alloc, batch)? {
+            return Ok(Below::Lemmas);
+        }
+        let below = read_off(alloc, &self.shape, &self.engine.trail, state)?;
+        self.engine.trail.back(level);
+        Ok(Below::State(below))
+    }
+
+    /// Adds what is below the literals, and answers whether lemmas were made, with the trail at level 0; else it stands as before.
+    fn look_below(
+        &mut self,
+        alloc: Global,
+        state: &State,
+        literals: &[u32],
+        branches: &mut Vec<Branch>,
+        states: &mut Vec<State>,
+        batch: &mut Batch,
+    ) -> Result<bool, AllocError> {
+        for literal in literals {
+            let key = match self.below(alloc, state, *literal, batch)? {
+                Below::Lemmas => return Ok(true),
+                Below::Conflict => None,
+                Below::State(below) => {
+                    let key = below.key(alloc)?;
+                    states.push(below)?;
+                    Some(key)
+                }
+            };
+            branches.push(Branch {
+                literal: *literal,
+                key,
+                clause: None,
+            })?;
+        }
+        states.reverse();
+        Ok(false)
+    }
+}

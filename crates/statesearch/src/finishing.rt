@@ -1,0 +1,205 @@
+//! The lines of a state below whose literals all states are closed.
+
+use crate::engine::{Conflict, Written};
+use crate::explorer::Explorer;
+use crate::tasks::{Branch, Branching, Purpose, Task};
+use batches::Batch;
+use propagation::negated;
+use std::alloc::{AllocError, Global};
+
+/// What comes of a literal.
+#[derive(Clone, Copy)]
+enum Excluding {
+    /// It is false by now, or was.
+    Going,
+    /// No clause against it follows.
+    Gap(usize),
+    /// The state is closed by this clause.
+    Closed(u32),
+    /// All literals are false or can't be, so that this clause is false.
+    Conflict(u32),
+}
+
+/// The clause against a literal.
+#[derive(Clone, Copy)]
+enum Against {
+    /// This one.
+    Clause(u32),
+    /// This one, which closes the state without it.
+    Closed(u32),
+    /// None that follows.
+    Nothing,
+}
+
+impl<'e> Explorer<'e> {
+    /// The clause of the state below the literal, where it is false.
+    fn clause_below(&self, branch: &Branch) -> Option<u32> {
+        let Some(key) = &branch.key else {
+            return None;
+        };
+        let clause = self.clause_of(key)?;
+        if self.engine.is_false(clause) {
+            return Some(clause);
+        }
+        None
+    }
+
+    /// Makes the literal true, and answers which clause is false then.
+    fn falsified_below(
+        &mut self,
+        alloc: Global,
+        branch: &Branch,
+    ) -> Result<Option<u32>, AllocError> {
+        let conflict = self.engine.decide(alloc, branch.literal)?;
+        if conflict.is_some() {
+            return Ok(conflict);
+        }
+        Ok(self.clause_below(branch))
+    }
+
+    /// Writes the line against a literal.
+    fn write_against(
+        &mut self,
+        alloc: Global,
+        branch: &Branch,
+        batch: &mut Batch,
+    ) -> Result<Option<Written>, AllocError> {
+        let level = self.engine.trail.level();
+        let falsified = self.falsified_below(alloc, branch)?;
+        let written = match falsified {
+            Some(clause) => self.engine.write(alloc, Conflict::Clause(clause), batch)?,
+            None => None,
+        };
+        self.engine.trail.back(level);
+        Ok(written)
+    }
+
+    /// The clause against a literal.
+    fn against(
+        &mut self,
+        alloc: Global,
+        branch: &Branch,
+        batch: &mut Batch,
+    ) -> Result<Against, AllocError> {
+        if let Some(clause) = branch.clause {
+            return Ok(Against::Clause(clause));
+        }
+        let Some(written) = self.write_against(alloc, branch, batch)? else {
+            return Ok(Against::Nothing);
+        };
+        self.engine.watch_later(&written)?;
+        if written.literals.contains(&negated(branch.literal)) {
+            return Ok(Against::Clause(written.clause));
+        }
+        Ok(Against::Closed(written.clause))
+    }
+
+    /// Makes a literal false that has no value yet.
+    fn exclude(
+        &mut self,
+        alloc: Global,
+        place: usize,
+        branch: &mut Branch,
+        batch: &mut Batch,
+    ) -> Result<Excluding, AllocError> {
+        let clause = match self.against(alloc, branch, batch)? {
+            Against::Clause(clause) => clause,
+            Against::Closed(clause) => return Ok(Excluding::Closed(clause)),
+            Against::Nothing => return Ok(Excluding::Gap(place)),
+        };
+        branch.clause = Some(clause);
+        match self.engine.exclude(alloc, branch.literal, clause)? {
+            Some(conflict) => Ok(Excluding::Conflict(conflict)),
+            None => Ok(Excluding::Going),
+        }
+    }
+
+    /// Makes a literal false.
+    fn take_branch(
+        &mut self,
+        alloc: Global,
+        place: usize,
+        branch: &mut Branch,
+        batch: &mut Batch,
+    ) -> Result<Excluding, AllocError> {
+        if self.engine.trail.is_false(branch.literal) {
+            return Ok(Excluding::Going);
+        }
+        if self.engine.trail.is_unset(branch.literal) {
+            return self.exclude(alloc, place, branch, batch);
+        }
+        match self.clause_below(branch) {
+            Some(clause) => Ok(Excluding::Conflict(clause)),
+            None => Ok(Excluding::Going),
+        }
+    }
+
+    /// Makes the literals false, one after the other, to an end.
+    fn take_branches(
+        &mut self,
+        alloc: Global,
+        branches: &mut [Branch],
+        batch: &mut Batch,
+    ) -> Result<Excluding, AllocError> {
+        let mut place = 0usize;
+        for branch in branches.iter_mut() {
+            match self.take_branch(alloc, place, branch, batch)? {
+                Excluding::Going => {}
+                end => return Ok(end),
+            }
+            place = place.saturating_add(1);
+        }
+        Ok(Excluding::Going)
+    }
+
+    /// Closes the state, below whose literals all states are closed.
+    pub(crate) fn finish(
+        &mut self,
+        alloc: Global,
+        branching: Branching,
+        batch: &mut Batch,
+    ) -> Result<(), AllocError> {
+        let Branching {
+            key,
+            assumptions,
+            mut branches,
+        } = branching;
+        if !self.stand_on(alloc, &assumptions)? {
+            return Ok(());
+        }
+        match self.take_branches(alloc, branches.as_mut_slice(), batch)? {
+            Excluding::Going => self.push(Task::Learn(assumptions, Purpose::State(key))),
+            Excluding::Closed(clause) => self.close(alloc, key, clause),
+            Excluding::Conflict(clause) => self.close_by(alloc, key, assumptions, clause, batch),
+            Excluding::Gap(place) => {
+                let mut literals = assumptions.as_slice().to_vec(alloc)?;
+                if let Some(branch) = branches.get(place) {
+                    literals.push(branch.literal)?;
+                }
+                self.push(Task::Finish(Branching {
+                    key,
+                    assumptions,
+                    branches,
+                }))?;
+                self.push(Task::Learn(literals, Purpose::Literal(place)))
+            }
+        }
+    }
+
+    /// Writes the line of a state under which this clause is false.
+    fn close_by(
+        &mut self,
+        alloc: Global,
+        key: Vec<u32>,
+        assumptions: Vec<u32>,
+        falsified: u32,
+        batch: &mut Batch,
+    ) -> Result<(), AllocError> {
+        let conflict = Conflict::Clause(falsified);
+        let Some(written) = self.engine.write(alloc, conflict, batch)? else {
+            return self.push(Task::Learn(assumptions, Purpose::State(key)));
+        };
+        self.engine.watch_later(&written)?;
+        self.close(alloc, key, written.clause)
+    }
+}
