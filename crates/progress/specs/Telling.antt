@@ -9,7 +9,8 @@ use Rattle.progress.specs.declared.moment.Moment.{Moment}
 abbrev pub moment_line : Moment → List ℕ
 moment_line m =
     codes "progress " ++ (decimal m.seconds ++ (codes " s: " ++ (decimal m.open ++ (codes " cubes open, " ++ (decimal m.closed
-    ++ (codes " closed, " ++ (decimal m.lines ++ (codes " lines, " ++ (decimal m.conflicts ++ codes " conflicts\n")))))))))
+    ++ (codes " closed, " ++ (decimal m.lines ++ (codes " lines, " ++ (decimal m.conflicts ++ (codes " conflicts, " ++ (decimal m.set_lines
+    ++ codes " set lines\n")))))))))))
 
 -- more seconds have passed than these at the first of some moments, and at each other one more than at the one before it
 abbrev pub Rises : ℕ → List Moment → Type 0

@@ -16,6 +16,7 @@ pub struct Counts {
     closed: AtomicU64,
     lines: AtomicU64,
     conflicts: AtomicU64,
+    set_lines: AtomicU64,
     /// 0 until the search is over.
     over: AtomicU64,
 }
@@ -28,6 +29,7 @@ impl Counts {
             closed: AtomicU64::new(0),
             lines: AtomicU64::new(0),
             conflicts: AtomicU64::new(0),
+            set_lines: AtomicU64::new(0),
             over: AtomicU64::new(0),
         }
     }
@@ -53,6 +55,7 @@ impl Counts {
             closed: self.closed.load(Ordering::SeqCst),
             lines: self.lines.load(Ordering::SeqCst),
             conflicts: self.conflicts.load(Ordering::SeqCst),
+            set_lines: self.set_lines.load(Ordering::SeqCst),
         }
     }
 
@@ -75,8 +78,12 @@ impl Gate for Counts {
         self.open.store(u64::from(searched.open), Ordering::SeqCst);
         self.closed
             .fetch_add(u64::from(searched.is_closed), Ordering::SeqCst);
-        self.lines
-            .fetch_add(searched.lines as u64, Ordering::SeqCst);
+        let lines = searched.lines as u64;
+        if searched.over_sets {
+            self.set_lines.fetch_add(lines, Ordering::SeqCst);
+            return;
+        }
+        self.lines.fetch_add(lines, Ordering::SeqCst);
         self.conflicts
             .fetch_add(searched.conflicts, Ordering::SeqCst);
     }

@@ -15,10 +15,12 @@ pub struct Moment {
     pub open: u64,
     /// How many cubes were refuted.
     pub closed: u64,
-    /// How many lines were learnt.
+    /// How many lines were learnt from conflicts.
     pub lines: u64,
     /// How many conflicts were counted.
     pub conflicts: u64,
+    /// How many lines the search over sets of matched calls wrote.
+    pub set_lines: u64,
 }
 
 /// Writes words and then a number at the end.
@@ -41,6 +43,7 @@ pub(crate) fn line_of(alloc: Global, moment: &Moment) -> Result<Vec<u8>, AllocEr
     put(&mut line, " cubes open, ", moment.closed)?;
     put(&mut line, " closed, ", moment.lines)?;
     put(&mut line, " lines, ", moment.conflicts)?;
-    line.extend_from_slice(b" conflicts\n")?;
+    put(&mut line, " conflicts, ", moment.set_lines)?;
+    line.extend_from_slice(b" set lines\n")?;
     Ok(line)
 }

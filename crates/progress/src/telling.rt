@@ -42,7 +42,7 @@ fn to_next_second(passed: Duration) -> Duration {
 
 /// Tells once a second how far the search is, from its first second on, until it is over.
 ///
-/// The line is `progress S s: N cubes open, N closed, N lines, N conflicts`. Each has more whole seconds than the one before it. Where the clock or
+/// The line is `progress S s: N cubes open, N closed, N lines, N conflicts, N set lines`. Each has more whole seconds than the one before it. Where the clock or
 /// the output fails, or memory runs out, nothing more is told.
 pub fn tell<R: Wait, C: Clock, E: Write>(
     rt: &R,

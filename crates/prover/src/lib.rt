@@ -15,6 +15,6 @@ pub use checker::{PieceGate, Reason, Verdict, verdict, verdict_in};
 pub use formula::{dimacs_formula, formula_text};
 pub use pool::Why;
 pub use proving::prove;
-pub use settings::{Options, Pieces};
+pub use settings::{Options, Pieces, Searches};
 pub use steps::{Replayed, replay};
 pub use workers::Gate;

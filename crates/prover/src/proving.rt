@@ -195,10 +195,12 @@ fn answered<G: Gate + Sync, R: Threads + Wait + Sync>(
 ///
 /// Walks come first, before any formula is made, if the budget is above 0: runs that go on until no step is enabled. They differ in whether they
 /// buffer, whether they match or issue first, and which rank and which match comes first, and then for each rank one holds it back as long
-/// as it can. Where none ends stuck, as many workers as the options say search the cubes of the tree that `split` gives at the depth of the
-/// options, each with the budget of the options and in a thread of its own where one can be started. Cube k of the first tree, from 0 in the order of its
-/// nodes, goes to worker k modulo their number; a worker without cubes takes another's. `gate.before` is called before each cube, and
-/// `gate.after` after each search below one.
+/// as it can. Where none ends stuck, the whole formula is searched for at most 4,000 conflicts, which count for worker 0. Then as many workers as the
+/// options say search the cubes of the tree that `split` gives at the depth of the options, each with the budget of the options and in a
+/// thread of its own where one can be started. Cube k of the first tree, from 0 in the order of its nodes, goes to worker k modulo their number; a
+/// worker without cubes takes another's. Worker 0 searches over sets of matched calls: for good beside others, and alone in turn with cubes. Who
+/// refutes the formula first closes all cubes. The options may ask for some of these searches alone. `gate.before` is called before each cube,
+/// and `gate.after` after each search.
 pub fn prove<G: Gate + Sync, R: Threads + Wait + Sync>(
     rt: &R,
     alloc: Global,

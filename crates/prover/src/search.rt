@@ -9,7 +9,7 @@ ghost use Rattle.prover.specs.Searches.{smallest_with};
 use cubes::{CubeFault, split};
 use encode::Encoded;
 use pool::{Pool, Share, Why, smaller};
-use settings::Options;
+use settings::{Options, Searches};
 use sharedpool::{Cell, FinishFault, Room, Seat, SharedPool, Token, open_room};
 use std::alloc::{AllocError, Global};
 use std::marker::Brand;
@@ -19,7 +19,7 @@ use std::thread;
 use std::thread::Threads;
 use steal::{Supply, deal, settle_all};
 use trees::Tree;
-use workers::{Common, EventCount, Gate, work};
+use workers::{Begun, Common, EventCount, Exploring, Gate, open, work};
 
 /// What a worker's thread is handed.
 #[derive(Drop)]
@@ -189,6 +189,33 @@ fn ended<B: Room, R: Wait>(
     }
 }
 
+/// When worker 0 searches over sets of matched calls: in turn with cubes, where nobody else searches below them.
+fn exploring(options: Options) -> Exploring {
+    match options.searches() {
+        Searches::Cubes => Exploring::Never,
+        Searches::All if options.workers() == 1 => Exploring::InTurn,
+        Searches::All | Searches::Sets => Exploring::Always,
+    }
+}
+
+/// What is done before the workers begin, at the seat of worker 0.
+fn begun<B: Room, G: Gate, R: Wait>(
+    rt: &R,
+    alloc: Global,
+    common: &Common<SharedPool<B>, G>,
+    seats: &mut [Seat<B>],
+    cubes: &[u32],
+    options: Options,
+) -> Begun {
+    if options.searches() != Searches::All {
+        return Begun::nothing();
+    }
+    match seats.first_mut() {
+        Some(seat) => open(rt, alloc, common, seat, cubes),
+        None => Begun::nothing(),
+    }
+}
+
 /// A search in a room that has a name.
 fn search_in<B: Room + Send + Sync, G: Gate + Sync, R: Threads + Wait + Sync>(
     rt: &R,
@@ -208,21 +235,26 @@ fn search_in<B: Room + Send + Sync, G: Gate + Sync, R: Threads + Wait + Sync>(
     ensures formula { IfOk result (λ made. made.0.held.formula ≡ pool.held.formula) }
 {
     let workers = options.workers();
-    let Ok((shared, seats)) = SharedPool::<B>::new(alloc, cell, keeper, pool, workers) else {
-        return Err(Why::Memory);
-    };
-    let Ok(mut stations) = stations(alloc, seats, workers, cubes) else {
+    let Ok((shared, mut seats)) = SharedPool::<B>::new(alloc, cell, keeper, pool, workers) else {
         return Err(Why::Memory);
     };
     let events = EventCount::new();
-    let common = Common {
+    let first = Common {
         encoded,
         shared: &shared,
         gate,
         events: &events,
         budget: options.budget(),
+        exploring: exploring(options),
+        begun: Begun::nothing(),
     };
-    let are_noted = all_work(rt, alloc, &common, stations.as_mut_slice());
+    let begun = begun(rt, alloc, &first, seats.as_mut_slice(), cubes, options);
+    let common = Common { begun, ..first };
+    let Ok(mut stations) = stations(alloc, seats, workers, cubes) else {
+        return Err(Why::Memory);
+    };
+    let places = stations.as_mut_slice();
+    let are_noted = all_work(rt, alloc, &common, places);
     ended(rt, alloc, shared, stations, are_noted)
 }
 

@@ -2,6 +2,7 @@
 //! gives.
 #![tactic(auto)]
 
+mod advice;
 mod commands;
 mod laws;
 mod page;

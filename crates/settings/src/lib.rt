@@ -3,4 +3,4 @@
 
 mod options;
 
-pub use options::{Options, Pieces};
+pub use options::{Options, Pieces, Searches};

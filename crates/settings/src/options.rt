@@ -2,13 +2,25 @@
 ghost use Rattle.std.specs.Prelude.{◌≡◌, ◌≤◌, ◌↔◌, IfSome, IsSome};
 ghost use Rattle.settings.specs.Ranges.{AreInRange, AreUsual, IsPieces};
 
-/// The number of workers, 1 to 64, the depth of the first tree, 0 to 15, and the conflicts that
-/// each worker may meet, 0 to 1,000,000,000.
+/// Which searches are made where no walk ends stuck.
+#[derive(Clone, Copy, PartialEq, Eq)]
+pub enum Searches {
+    /// All: the whole formula first, then below cubes and over sets of matched calls.
+    All,
+    /// Below cubes alone.
+    Cubes,
+    /// Over sets of matched calls, and below cubes only where that search gives up.
+    Sets,
+}
+
+/// The number of workers, 1 to 64, the depth of the first tree, 0 to 15, the conflicts that each worker may meet, 0 to
+/// 1,000,000,000, and which searches are made.
 #[derive(Clone, Copy, PartialEq, Eq)]
 pub struct Options {
     workers: u32,
     depth: u32,
     budget: u32,
+    searches: Searches,
     ghost in_range: { AreInRange workers depth budget },
 }
 
@@ -26,7 +38,28 @@ impl Options {
             workers,
             depth,
             budget,
+            searches: Searches::All,
         })
+    }
+
+    /// The same options with these searches.
+    pub fn with_searches(self, searches: Searches) -> Options
+        ensures same { (result.workers ≡ self.workers) × (result.depth ≡ self.depth) × (result.budget ≡ self.budget) }
+        ensures searches { result.searches ≡ searches }
+    {
+        Options {
+            workers: self.workers,
+            depth: self.depth,
+            budget: self.budget,
+            searches,
+        }
+    }
+
+    /// Which searches are made.
+    pub fn searches(&self) -> Searches
+        ensures { result ≡ self.now.searches }
+    {
+        self.searches
     }
 
     /// How many workers there are, 1 to 64.
@@ -54,7 +87,7 @@ impl Options {
     }
 }
 
-/// 4 workers, the depth 4 and 1,000,000 conflicts.
+/// 4 workers, the depth 4 and 1,000,000 conflicts, and all searches.
 impl Default for Options {
     ghost is_default = { λ options. AreUsual options.workers options.depth options.budget };
 
@@ -63,6 +96,7 @@ impl Default for Options {
             workers: 4,
             depth: 4,
             budget: 1_000_000,
+            searches: Searches::All,
         }
     }
 }

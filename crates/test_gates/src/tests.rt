@@ -4,7 +4,7 @@ mod pieces_at_once;
 mod recorded;
 mod telling;
 
-use prover::{Answer, Gate, Options, Verdict, Why, prove, verdict};
+use prover::{Answer, Gate, Options, Searches, Verdict, Why, prove, verdict};
 use std::alloc::Global;
 use std::sync::Wait;
 use std::sync::atomic::{AtomicBool, AtomicU64, Ordering};
@@ -60,6 +60,11 @@ fn options(workers: u32, depth: u32, budget: u32) -> Result<Options, Fail> {
     Options::make(workers, depth, budget).ok_or_else(|| Fail::from("options out of range"))
 }
 
+/// The same, where nothing but cubes is searched.
+fn for_cubes(workers: u32, depth: u32, budget: u32) -> Result<Options, Fail> {
+    Ok(options(workers, depth, budget)?.with_searches(Searches::Cubes))
+}
+
 /// What the evidence of the answer shows of the program, or what the answer is.
 fn shown<R: Threads + Wait + Sync, G: Gate + Sync>(
     rt: &R,
@@ -89,7 +94,7 @@ fn gate_two_cubes(rt: HostRuntime) -> Result<(), Fail> {
         asked: AtomicU64::new(0),
         ran_out: AtomicBool::new(false),
     };
-    let options = options(4, 2, 1_000_000)?;
+    let options = for_cubes(4, 2, 1_000_000)?;
     assert_eq!(rt;
         shown(&rt, rt.alloc(), RELAY, options, &gate)?,
         "no deadlock"
@@ -105,7 +110,7 @@ fn one_worker_takes_all(rt: HostRuntime) -> Result<(), Fail> {
         asked: AtomicU64::new(0),
         workers: AtomicU64::new(0),
     };
-    let options = options(1, 2, 1_000_000)?;
+    let options = for_cubes(1, 2, 1_000_000)?;
     assert_eq!(rt;
         shown(&rt, rt.alloc(), RELAY, options, &gate)?,
         "no deadlock"
@@ -122,7 +127,7 @@ fn halves_are_shared(rt: HostRuntime) -> Result<(), Fail> {
             asked: AtomicU64::new(0),
             workers: AtomicU64::new(0),
         };
-        let options = options(workers, 0, 1_000_000)?;
+        let options = for_cubes(workers, 0, 1_000_000)?;
         assert_eq!(rt;
             shown(&rt, rt.alloc(), SENDERS, options, &gate)?,
             "no deadlock"

@@ -1,5 +1,5 @@
-//! Draws programs by a fixed generator, and compares two answers for each: the prover's, whose evidence the checker has to accept, and
-//! that of a plain exploration of all runs. Prints each program on which they differ, and at the end how many agree: first of programs
+//! Draws programs by a fixed generator, and compares the answers for each: the prover's by each of its searches, whose evidence the
+//! checker has to accept, and that of a plain exploration of all runs. Prints each program on which they differ, and at the end how many agree: first of programs
 //! without probes, then of programs with probes.
 #![tactic(auto)]
 
@@ -14,7 +14,7 @@ mod tally;
 use checker::program_of;
 use drawing::draw;
 use exploring::{Fate, explore};
-use prover::{Answer, Gate, Options, Verdict, prove, verdict};
+use prover::{Answer, Gate, Options, Searches, Verdict, prove, verdict};
 use std::alloc::Global;
 use std::io;
 use std::process::ExitCode;
@@ -86,7 +86,7 @@ fn compare(
         return Ok(());
     };
     tally.count_text(rt.alloc(), text, &program)?;
-    if proved(threads, rt.alloc(), text.as_bytes()) == Some(fate) {
+    if all_prove(threads, rt.alloc(), text.as_bytes(), fate) {
         tally.count_agreed(fate);
         return Ok(());
     }
@@ -108,9 +108,25 @@ fn note_differing(
     println!(rt; "explored: {explored}: {text}")
 }
 
-/// What the prover says of a program's text, or none where it has no answer or the checker has another one.
-fn proved(rt: &(impl Threads + Wait + Sync), alloc: Global, text: &[u8]) -> Option<Fate> {
-    let (evidence, fate, wanted) = match prove(rt, alloc, text, Options::default(), &Open) {
+/// Whether the prover says this of a program's text, by each of its searches.
+fn all_prove(rt: &(impl Threads + Wait + Sync), alloc: Global, text: &[u8], fate: Fate) -> bool {
+    for searches in [Searches::All, Searches::Cubes, Searches::Sets] {
+        if proved(rt, alloc, text, searches) != Some(fate) {
+            return false;
+        }
+    }
+    true
+}
+
+/// What the prover says of a program's text by these searches, or none where it has no answer or the checker has another one.
+fn proved(
+    rt: &(impl Threads + Wait + Sync),
+    alloc: Global,
+    text: &[u8],
+    searches: Searches,
+) -> Option<Fate> {
+    let options = Options::default().with_searches(searches);
+    let (evidence, fate, wanted) = match prove(rt, alloc, text, options, &Open) {
         Answer::Deadlock(evidence) => (evidence, Fate::Stuck, Verdict::Deadlock),
         Answer::NoDeadlock(evidence) => (evidence, Fate::NeverStuck, Verdict::NoDeadlock),
         _ => return None,

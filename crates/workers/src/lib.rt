@@ -5,14 +5,20 @@
 #![tactic(auto)]
 
 mod branching;
+mod common;
 mod events;
+mod exploring;
 mod gate;
+mod imports;
 mod numbers;
+mod opening;
 mod source;
 mod stop;
 mod worker;
 
+pub use common::{Begun, Common, Exploring};
 pub use events::EventCount;
 pub use gate::{Gate, Searched};
+pub use opening::open;
 pub use source::Cubes;
-pub use worker::{Common, work};
+pub use worker::work;

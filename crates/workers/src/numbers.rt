@@ -2,7 +2,7 @@
 
 ghost use Rattle.std.specs.Prelude.{◌≡◌};
 ghost use Rattle.pool.specs.Batches.{capped_hint};
-ghost use Rattle.workers.specs.Numbers.{capped_place};
+ghost use Rattle.workers.specs.Numbers.{capped_place, place_of};
 
 use batches::Hint;
 
@@ -24,4 +24,11 @@ pub(crate) fn line_number(clauses: usize, place: usize) -> u32
 {
     let number = clauses.saturating_add(place).saturating_add(1);
     u32::try_from(number).unwrap_or(u32::MAX)
+}
+
+/// The place in the log, from 0, of the line that has this number, after so many clauses; 0 for one of the clauses.
+pub(crate) fn line_place(clauses: usize, number: u32) -> usize
+    ensures { result ≡ place_of clauses number }
+{
+    (number as usize).saturating_sub(clauses).saturating_sub(1)
 }

@@ -3,14 +3,17 @@
 ghost use Rattle.std.specs.Prelude.{◌≡◌};
 
 use crate::branching::{branching_variable, most_active};
+use crate::common::Common;
 use crate::events::EventCount;
+use crate::exploring::Exploration;
 use crate::gate::{Gate, Searched};
-use crate::numbers::{line_number, number_of};
+use crate::imports::longest;
+use crate::numbers::{line_number, line_place, number_of};
 use crate::source::Cubes;
 use crate::stop::Stop;
 use batches::{Batch, Hint};
 use cdcl::{Found, Solver};
-use clauses::{Assignment, Lit};
+use clauses::{Assignment, Clause, Lit};
 use crossbeam_utils::Backoff;
 use cubes::branching_variables;
 use encode::Encoded;
@@ -18,6 +21,7 @@ use extract::schedule_of;
 use pages::Lines;
 use pool::{Share, SplitFault, Status, Why};
 use std::alloc::{AllocError, Global};
+use std::ops::Range;
 use std::sync::Wait;
 
 /// How many conflicts one search counts at most.
@@ -31,33 +35,24 @@ enum Next {
     Same,
 }
 
-/// What all workers of a search have in common.
-#[derive(Drop)]
-pub struct Common<'s, S, G> {
-    /// The program that is shared, with its formula.
-    pub encoded: &'s Encoded,
-    /// The pool, or a share of it.
-    pub shared: &'s S,
-    /// Is called before each cube, and after each search below one.
-    pub gate: &'s G,
-    /// Counts what may give a worker without a cube something to do.
-    pub events: &'s EventCount,
-    /// How many conflicts each worker may count.
-    pub budget: u32,
-}
-
 /// What a worker knows, and what it may still do.
 #[derive(Drop)]
-struct Worker<'e> {
-    alloc: Global,
+pub(crate) struct Worker<'e> {
+    pub(crate) alloc: Global,
     encoded: &'e Encoded,
     solver: Solver<'e>,
     /// The variables that cubes are split on, those that come first first.
     variables: Vec<u32>,
-    /// How many lines of the log the solver was told.
+    /// How many lines of the log were seen.
     seen: usize,
+    /// The places in the log of the lines that the solver learnt last.
+    own: Range<usize>,
     /// How many conflicts may still be counted.
-    left: u64,
+    pub(crate) left: u64,
+    /// The search over sets of matched calls, where this worker has one.
+    pub(crate) exploration: Option<Exploration<'e>>,
+    /// The number of an empty clause, which refutes each cube.
+    pub(crate) refuted: Option<u32>,
 }
 
 /// Whether there is nothing more to search for: a schedule was found, or no leaf is open.
@@ -93,44 +88,108 @@ fn put<C: Cubes>(cubes: &mut C, cube: u32) -> Result<(), Stop>
 }
 
 impl<'e> Worker<'e> {
-    fn new(alloc: Global, encoded: &'e Encoded, budget: u32) -> Result<Worker<'e>, AllocError> {
+    pub(crate) fn new<S, G>(
+        alloc: Global,
+        common: &Common<'e, S, G>,
+        worker: u32,
+    ) -> Result<Worker<'e>, AllocError> {
+        let encoded = common.encoded;
         let variables = branching_variables(alloc, encoded)?;
-        let solver = Solver::new(alloc, encoded.formula(), &variables)?;
+        let probed: &[u32] = if common.begun.is_probed {
+            &[]
+        } else {
+            &variables
+        };
+        let solver = Solver::new(alloc, encoded.formula(), probed)?;
         Ok(Worker {
             alloc,
             encoded,
             solver,
             variables,
             seen: 0,
-            left: u64::from(budget),
+            own: 0..0,
+            left: common.left(worker),
+            exploration: None,
+            refuted: None,
         })
     }
 
-    /// Tells the solver these lines, which stand in the log after those that it was told.
+    /// The worker of this number, from 0. Worker 0 searches over sets of matched calls too, where that is wanted.
+    fn explorer<S, G>(
+        alloc: Global,
+        common: &Common<'e, S, G>,
+        worker: u32,
+    ) -> Result<Worker<'e>, AllocError> {
+        let mut made = Worker::new(alloc, common, worker)?;
+        if worker == 0 {
+            made.exploration = Exploration::make(alloc, common.encoded, common.exploring)?;
+        }
+        Ok(made)
+    }
+
+    /// How many clauses the formula has.
+    pub(crate) fn clauses(&self) -> usize {
+        self.encoded.formula().len()
+    }
+
+    /// Takes in the line at this place of the log, from 0, where it is one of the solver's own or has at most so many literals.
+    fn import_line(&mut self, place: usize, clause: &Clause, longest: usize) -> Result<(), Stop> {
+        let number = line_number(self.clauses(), place);
+        let length = clause.literals().len();
+        if length == 0 {
+            self.refuted = Some(number);
+        }
+        if length <= longest || self.own.contains(&place) {
+            self.solver.import(self.alloc, number, clause)?;
+        }
+        if let Some(exploration) = &mut self.exploration {
+            exploration.import(self.alloc, place, number, clause)?;
+        }
+        Ok(())
+    }
+
+    /// Takes in of these lines, which stand in the log after those that were seen, the solver's own and the shortest of others.
     fn import(&mut self, lines: &Lines) -> Result<(), Stop> {
-        let clauses = self.encoded.formula().len();
+        let longest = longest(lines);
         for place in 0..lines.len() {
             let Some(line) = lines.get(place) else {
                 unreachable!()
             };
-            let number = line_number(clauses, self.seen.saturating_add(place));
-            self.solver.import(self.alloc, number, line.clause())?;
+            self.import_line(self.seen.saturating_add(place), line.clause(), longest)?;
         }
         self.seen = self.seen.saturating_add(lines.len());
         Ok(())
     }
 
-    /// Searches below the path for at most [`MOST_CONFLICTS`] conflicts, and at most those that are left.
-    fn search(&mut self, path: &[Lit]) -> Result<Found, Stop> {
-        let budget = self.left.min(MOST_CONFLICTS);
+    /// Searches below the path for at most so many conflicts, and at most those that are left. Answers how many were counted, too.
+    pub(crate) fn search(&mut self, path: &[Lit], most: u64) -> Result<(Found, u64), Stop> {
+        let budget = self.left.min(most);
         let found = self.solver.search(self.alloc, path, budget)?;
-        self.left = self.left.saturating_sub(self.solver.conflicts());
-        Ok(found)
+        let conflicts = self.solver.conflicts();
+        self.left = self.left.saturating_sub(conflicts);
+        if let Some(exploration) = &mut self.exploration {
+            exploration.count(conflicts);
+        }
+        Ok((found, conflicts))
+    }
+
+    /// Publishes these lines, which the solver learnt. Answers the number of the first.
+    fn publish<S: Share, R: Wait>(
+        &mut self,
+        rt: &R,
+        shared: &S,
+        seat: &mut S::Seat,
+        batch: &Batch,
+    ) -> Result<u32, Stop> {
+        let base = shared.publish(rt, self.alloc, seat, batch)?;
+        let place = line_place(self.clauses(), base);
+        self.own = place..place.saturating_add(batch.lines.len());
+        Ok(base)
     }
 
     /// Publishes the lines of a cube that is refuted, and closes it by the clause that refutes it.
     fn close<S: Share, R: Wait>(
-        &self,
+        &mut self,
         rt: &R,
         shared: &S,
         seat: &mut S::Seat,
@@ -138,13 +197,13 @@ impl<'e> Worker<'e> {
         batch: &Batch,
         last: Hint,
     ) -> Result<(), Stop> {
-        let base = shared.publish(rt, self.alloc, seat, batch)?;
+        let base = self.publish(rt, shared, seat, batch)?;
         shared.close(rt, seat, cube, number_of(base, last))?;
         Ok(())
     }
 
     /// Hands in the schedule that the assignment tells.
-    fn tell<S: Share, R: Wait>(
+    pub(crate) fn tell<S: Share, R: Wait>(
         &self,
         rt: &R,
         shared: &S,
@@ -193,7 +252,7 @@ impl<'e> Worker<'e> {
     }
 
     /// Imports the lines that the log has by now and this worker hasn't seen.
-    fn catch_up<S: Share, R: Wait>(
+    pub(crate) fn catch_up<S: Share, R: Wait>(
         &mut self,
         rt: &R,
         shared: &S,
@@ -205,7 +264,7 @@ impl<'e> Worker<'e> {
 
     /// Hands on what a search below a cube with this path found.
     fn hand_on<S: Share, C: Cubes, R: Wait>(
-        &self,
+        &mut self,
         rt: &R,
         shared: &S,
         seat: &mut S::Seat,
@@ -226,7 +285,7 @@ impl<'e> Worker<'e> {
                 Ok(Next::Another)
             }
             Found::Budget(batch) => {
-                shared.publish(rt, self.alloc, seat, batch)?;
+                self.publish(rt, shared, seat, batch)?;
                 if self.left == 0 {
                     return Err(Stop { why: Why::Budget });
                 }
@@ -235,22 +294,7 @@ impl<'e> Worker<'e> {
         }
     }
 
-    /// What a search that found this did, where so many cubes are open now.
-    fn searched(&self, found: &Found, open: u32) -> Searched {
-        let (is_closed, lines) = match found {
-            Found::Closed(batch, _last) => (true, batch.lines.len()),
-            Found::Model(_assignment) => (false, 0),
-            Found::Budget(batch) => (false, batch.lines.len()),
-        };
-        Searched {
-            open,
-            is_closed,
-            lines,
-            conflicts: self.solver.conflicts(),
-        }
-    }
-
-    /// One search below a cube, with all lines that the log has by now, after which the gate is called.
+    /// One search below a cube, with all lines that the log has by now, after which the gate is called; none where the formula is refuted.
     fn step<S: Share, C: Cubes, G: Gate, R: Wait>(
         &mut self,
         rt: &R,
@@ -264,11 +308,17 @@ impl<'e> Worker<'e> {
     {
         let shared = common.shared;
         self.catch_up(rt, shared, seat)?;
+        if let Some(number) = self.refuted {
+            shared.close(rt, seat, cube, number)?;
+            return Ok(Next::Another);
+        }
         let path = shared.path(rt, self.alloc, cube)?;
-        let found = self.search(&path)?;
+        let (found, conflicts) = self.search(&path, MOST_CONFLICTS)?;
         let next = self.hand_on(rt, shared, seat, cubes, cube, &path, &found);
         let open = shared.status(rt).open_leaves;
-        common.gate.after(worker, self.searched(&found, open));
+        common
+            .gate
+            .after(worker, Searched::of(&found, open, conflicts, false));
         next
     }
 
@@ -292,6 +342,11 @@ impl<'e> Worker<'e> {
             let status = shared.status(rt);
             if is_over(&status) {
                 return Ok(());
+            }
+            if self.explores() {
+                self.explore(rt, common, seat, worker)?;
+                common.events.advance();
+                continue;
             }
             let Some(cube) = cube_after(current, cubes, common.gate, worker) else {
                 if status.why.is_some() {
@@ -331,7 +386,13 @@ fn reason<S: Share, C: Cubes, G: Gate, R: Wait>(
 ) -> Option<Why>
     ensures { C.deques cubes.new ≡ C.deques cubes.old }
 {
-    let Ok(mut search) = Worker::new(alloc, common.encoded, common.budget) else {
+    if is_over(&common.shared.status(rt)) {
+        return None;
+    }
+    if worker == 0 && common.begun.why.is_some() {
+        return common.begun.why;
+    }
+    let Ok(mut search) = Worker::explorer(alloc, common, worker) else {
         return Some(Why::Memory);
     };
     match search.run(rt, common, seat, cubes, worker) {
@@ -342,18 +403,22 @@ fn reason<S: Share, C: Cubes, G: Gate, R: Wait>(
 
 /// Searches below one cube after another, and tells the share what it found: lines, a clause for each cube that is refuted,
 /// the two halves of a cube that took too long, and the schedule of an assignment that satisfies the formula. The gate is called before
-/// each cube, and after each search below one, with this number of the worker.
+/// each cube, and after each search, with this number of the worker.
 ///
 /// A search counts at most 2,000 conflicts, and all of them at most as many as the budget; after each the cube is closed,
 /// split or, where the tree has no room, searched on. A cube is split on the match variable that took part in most conflicts of those that
 /// have no value below its path; where there is none, on the first variable that isn't on it, match variables first, in the branching order.
 ///
+/// Worker 0 searches over sets of matched calls, where that is wanted, at most 2,000 lines at a time and 600,000 in all; each counts as a
+/// conflict of its budget. Where the log has an empty clause, each cube is closed by it. Of the lines of others a worker takes in the shortest, up
+/// to 6,000 after each search, and all with at most two literals.
+///
 /// The worker leaves with no reason once a schedule was found or no leaf is open, or, without a cube, once another worker left for a
 /// reason; else it pauses without a cube, and rests until the events are advanced. It advances them after each search and when it leaves. It
 /// leaves with [`Why::Budget`] once the budget is used up and the cube is open, with [`Why::Full`] where the log is full, with
 /// [`Why::Memory`] where memory ran out or a cube had no room, and with [`Why::Left`] where something was refused that an
-/// honest share takes. The answer is that of its last call, by which it leaves. It goes on as long as the share and the cubes
-/// let it.
+/// honest share takes. Worker 0 leaves at once with the reason for which the opening ended, where there is one. The answer is that of its last
+/// call, by which it leaves. It goes on as long as the share and the cubes let it.
 pub fn work<S: Share, C: Cubes, G: Gate, R: Wait>(
     rt: &R,
     alloc: Global,

@@ -1,7 +1,7 @@
 //! Which workers search below which cubes, and how many conflicts each counts.
 
-use super::{RELAY, SENDERS, options, shown};
-use prover::{Gate, Options};
+use super::{RELAY, SENDERS, for_cubes, options, shown};
+use prover::{Gate, Options, Searches};
 use std::alloc::{AllocError, Global};
 use std::process::Abort;
 use std::sync::Wait;
@@ -14,6 +14,10 @@ use workers::Searched;
 /// Three ranks that each send to one rank, so nine pairs match.
 const GATHER: &str =
     "ranks 4/policy none/rank 0/recv * 1/recv * 1/recv * 1/rank 1/send 0 1/rank 2/send 0 1/rank 3/send 0 1/";
+
+/// Ten ranks that each send to one rank. It has no deadlock, which clauses learnt from some thousand conflicts don't show.
+const MANY: &str =
+    "ranks 11/policy none/rank 0/recv * 1/recv * 1/recv * 1/recv * 1/recv * 1/recv * 1/recv * 1/recv * 1/recv * 1/recv * 1/rank 1/send 0 1/rank 2/send 0 1/rank 3/send 0 1/rank 4/send 0 1/rank 5/send 0 1/rank 6/send 0 1/rank 7/send 0 1/rank 8/send 0 1/rank 9/send 0 1/rank 10/send 0 1/";
 
 /// What one worker was asked for, and told.
 #[derive(Drop)]
@@ -164,7 +168,7 @@ fn assert_leaves<R: Abort + Threads + Wait + Sync>(
     depth: u32,
     cubes: u64,
 ) -> Result<(), Fail> {
-    let seen = observed(rt, alloc, RELAY, options(1, depth, 1_000_000)?, 1, 0)?;
+    let seen = observed(rt, alloc, RELAY, for_cubes(1, depth, 1_000_000)?, 1, 0)?;
     assert_eq!(rt; seen.answer, "no deadlock");
     assert_eq!(rt; seen.cubes, cubes, "depth {depth}");
     Ok(())
@@ -188,7 +192,7 @@ fn assert_workers<R: Abort + Threads + Wait + Sync>(
         rt,
         alloc,
         GATHER,
-        options(workers, depth, 1_000_000)?,
+        for_cubes(workers, depth, 1_000_000)?,
         u64::from(workers),
         0,
     )?;
@@ -212,7 +216,7 @@ fn assert_budgets<R: Abort + Threads + Wait + Sync>(
     alloc: Global,
     budget: u32,
 ) -> Result<(), Fail> {
-    let seen = observed(rt, alloc, SENDERS, options(2, 1, budget)?, 2, 0)?;
+    let seen = observed(rt, alloc, SENDERS, for_cubes(2, 1, budget)?, 2, 0)?;
     assert_eq!(rt; seen.answer, "unknown budget");
     assert!(rt; !seen.ran_out);
     assert_eq!(rt; seen.most, u64::from(budget));
@@ -233,8 +237,48 @@ fn each_worker_has_its_own_budget(rt: HostRuntime) -> Result<(), Fail> {
 /// Worker 0 waits with its first cube of two until worker 1 has searched below its own two and taken another one.
 #[test]
 fn a_worker_steals(rt: HostRuntime) -> Result<(), Fail> {
-    let seen = observed(&rt, rt.alloc(), RELAY, options(2, 2, 1_000_000)?, 2, 3)?;
+    let seen = observed(&rt, rt.alloc(), RELAY, for_cubes(2, 2, 1_000_000)?, 2, 3)?;
     assert_eq!(rt; seen.answer, "no deadlock");
     assert!(rt; !seen.ran_out);
+    Ok(())
+}
+
+/// Where the whole formula is searched first and refuted, no worker is asked for a cube.
+#[test]
+fn the_whole_formula_first(rt: HostRuntime) -> Result<(), Fail> {
+    let seen = observed(&rt, rt.alloc(), RELAY, options(4, 2, 1_000_000)?, 0, 0)?;
+    assert_eq!(rt; seen.answer, "no deadlock");
+    assert_eq!(rt; seen.workers, 0);
+    Ok(())
+}
+
+/// Asserts that no worker counts more than its budget, the first search and lines over sets of matched calls counted for worker 0.
+fn assert_all_counted<R: Abort + Threads + Wait + Sync>(
+    rt: &R,
+    alloc: Global,
+    workers: u32,
+) -> Result<(), Fail> {
+    let seen = observed(rt, alloc, MANY, options(workers, 0, 4_500)?, 0, 0)?;
+    assert_eq!(rt; seen.answer, "unknown budget");
+    assert_eq!(rt; seen.most, 4_500, "{workers} workers");
+    Ok(())
+}
+
+#[test]
+fn the_first_search_counts_for_worker_zero(rt: HostRuntime) -> Result<(), Fail> {
+    assert_all_counted(&rt, rt.alloc(), 1)?;
+    assert_all_counted(&rt, rt.alloc(), 4)
+}
+
+/// Within 6,000 lines one worker refutes the formula over sets of matched calls, but not below cubes.
+#[test]
+fn sets_are_fewer_than_orders(rt: HostRuntime) -> Result<(), Fail> {
+    let few = options(1, 0, 6_000)?;
+    let over_sets = few.with_searches(Searches::Sets);
+    let below_cubes = few.with_searches(Searches::Cubes);
+    let refuted = observed(&rt, rt.alloc(), MANY, over_sets, 0, 0)?;
+    assert_eq!(rt; refuted.answer, "no deadlock");
+    let unknown = observed(&rt, rt.alloc(), MANY, below_cubes, 0, 0)?;
+    assert_eq!(rt; unknown.answer, "unknown budget");
     Ok(())
 }

@@ -56,14 +56,15 @@ impl Clock for Broken {
     }
 }
 
-/// Counts with two searches told.
-fn two_searches() -> Counts {
+/// Counts with three searches told.
+fn three_searches() -> Counts {
     let counts = Counts::new();
     let searched = Searched {
         open: 14,
         is_closed: true,
         lines: 7,
         conflicts: 40,
+        over_sets: false,
     };
     counts.after(0, searched);
     counts.after(
@@ -75,12 +76,22 @@ fn two_searches() -> Counts {
             ..searched
         },
     );
+    counts.after(
+        0,
+        Searched {
+            open: 16,
+            is_closed: false,
+            lines: 9,
+            conflicts: 9,
+            over_sets: true,
+        },
+    );
     counts
 }
 
 #[test]
 fn each_second_is_told_once(rt: HostRuntime) -> Result<(), Fail> {
-    let counts = two_searches();
+    let counts = three_searches();
     let clock = Ticking {
         counts: &counts,
         readings: AtomicU64::new(0),
@@ -89,7 +100,7 @@ fn each_second_is_told_once(rt: HostRuntime) -> Result<(), Fail> {
     tell(&rt, &clock, rt.alloc(), &counts, &mut told);
     assert_eq!(rt;
         str::from_utf8(&told)?,
-        "progress 1 s: 16 cubes open, 1 closed, 14 lines, 2040 conflicts\nprogress 2 s: 16 cubes open, 1 closed, 14 lines, 2040 conflicts\n"
+        "progress 1 s: 16 cubes open, 1 closed, 14 lines, 2040 conflicts, 9 set lines\nprogress 2 s: 16 cubes open, 1 closed, 14 lines, 2040 conflicts, 9 set lines\n"
     );
     Ok(())
 }
@@ -97,7 +108,7 @@ fn each_second_is_told_once(rt: HostRuntime) -> Result<(), Fail> {
 #[test]
 fn a_clock_that_fails_ends_it(rt: HostRuntime) -> Result<(), Fail> {
     let mut told = Vec::with_capacity(rt.alloc(), ROOM)?;
-    tell(&rt, &Broken, rt.alloc(), &two_searches(), &mut told);
+    tell(&rt, &Broken, rt.alloc(), &three_searches(), &mut told);
     assert!(rt; told.is_empty());
     Ok(())
 }

@@ -9,13 +9,15 @@ then_more old words number more new is =
 pub returns : goal.returns
 returns c =
     let m = c.args.moment.now in
-    let five = codes " lines, " ++ (decimal m.conflicts ++ codes " conflicts\n") in
+    let six = codes " conflicts, " ++ (decimal m.set_lines ++ codes " set lines\n") in
+    let five = codes " lines, " ++ (decimal m.conflicts ++ six) in
     let four = codes " closed, " ++ (decimal m.lines ++ five) in
     let three = codes " cubes open, " ++ (decimal m.closed ++ four) in
     let two = codes " s: " ++ (decimal m.open ++ three) in
     let one = codes "progress " ++ (decimal m.seconds ++ two) in
     c.in_ok-extend_from_slice.ensures.items
-    ∙ then_more _ (codes " lines, ") (decimal m.conflicts) (codes " conflicts\n") _ c.in_ok-put-5.ensures
+    ∙ then_more _ (codes " conflicts, ") (decimal m.set_lines) (codes " set lines\n") _ c.in_ok-put-6.ensures
+    ∙ then_more _ (codes " lines, ") (decimal m.conflicts) six _ c.in_ok-put-5.ensures
     ∙ then_more _ (codes " closed, ") (decimal m.lines) five _ c.in_ok-put-4.ensures
     ∙ then_more _ (codes " cubes open, ") (decimal m.closed) four _ c.in_ok-put-3.ensures
     ∙ then_more _ (codes " s: ") (decimal m.open) three _ c.in_ok-put-2.ensures

@@ -1,0 +1,69 @@
+//! What the workers of a search have in common.
+
+use crate::events::EventCount;
+use encode::Encoded;
+use pool::Why;
+
+/// When worker 0 searches over sets of matched calls, and not below cubes.
+#[derive(Clone, Copy, PartialEq, Eq)]
+pub enum Exploring {
+    /// Never.
+    Never,
+    /// In turn with cubes. Each turn takes twice as many conflicts and lines as the last one of its kind.
+    InTurn,
+    /// As long as that search goes on.
+    Always,
+}
+
+/// What was done before the workers began.
+#[derive(Clone, Copy, PartialEq, Eq)]
+pub struct Begun {
+    /// How many conflicts of worker 0's budget were counted.
+    pub conflicts: u64,
+    /// Whether the match variables were probed.
+    pub is_probed: bool,
+    /// Why worker 0 has to leave; none where it may go on.
+    pub why: Option<Why>,
+}
+
+impl Begun {
+    /// Nothing was done.
+    pub fn nothing() -> Begun {
+        Begun {
+            conflicts: 0,
+            is_probed: false,
+            why: None,
+        }
+    }
+}
+
+/// What all workers of a search have in common.
+#[derive(Drop)]
+pub struct Common<'s, S, G> {
+    /// The program that is shared, with its formula.
+    pub encoded: &'s Encoded,
+    /// The pool, or a share of it.
+    pub shared: &'s S,
+    /// Is called before each cube, and after each search.
+    pub gate: &'s G,
+    /// Counts what may give a worker without a cube something to do.
+    pub events: &'s EventCount,
+    /// How many conflicts each worker may count.
+    pub budget: u32,
+    /// When worker 0 searches over sets of matched calls.
+    pub exploring: Exploring,
+    /// What was done before.
+    pub begun: Begun,
+}
+
+impl<S, G> Common<'_, S, G> {
+    /// How many conflicts this worker, from 0, may still count.
+    pub(crate) fn left(&self, worker: u32) -> u64 {
+        let budget = u64::from(self.budget);
+        if worker == 0 {
+            budget.saturating_sub(self.begun.conflicts)
+        } else {
+            budget
+        }
+    }
+}
