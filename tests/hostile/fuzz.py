@@ -17,6 +17,7 @@ import judge
 from program import EXAMPLES, ROOT, built_program, content, has_trim, put, run
 
 SECONDS = 20
+MOST_BYTES = 100_000
 FEW_CALLS = 10
 MOST_STATES = 30_000
 WORDS = """send ssend bsend isend issend ibsend recv irecv probe mprobe mrecv imrecv wait waitall sendrecv barrier iprobe comm q
@@ -169,6 +170,9 @@ class Fuzzer:
                 else:
                     self.find('an example without an answer')
             self.texts[-1][1].extend([beside.decode()] if beside else [walked(self.chance, source)])
+            if max(len(evidence) for evidence in self.texts[-1][1]) > MOST_BYTES:
+                # The second judge, which is plain Python, would spend the whole time on it.
+                self.texts.pop()
 
     def call(self, words):
         """A run in the room of this case: its status, the first line, and all that it printed."""

@@ -28,6 +28,14 @@ def run(program, words, folder, seconds, **more):
     return started.returncode, printed or b'', told
 
 
+def built_shim(folder):
+    """The library that refuses to a program what it asks the system for, built into a folder."""
+    shim = os.path.join(folder, 'shim.so')
+    source = os.path.join(os.path.dirname(os.path.abspath(__file__)), 'shim.c')
+    subprocess.run(['gcc', '-O1', '-shared', '-fPIC', '-o', shim, source], check=True)
+    return shim
+
+
 def has_trim(program):
     """Whether the program has the command trim, and with it evidence 2."""
     return b'trim' in run(program, ['--help'], None, 20)[1]

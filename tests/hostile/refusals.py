@@ -15,7 +15,7 @@ import sys
 import tempfile
 from collections import namedtuple
 
-from program import EXAMPLES, built_program, content, has_trim, put, run
+from program import EXAMPLES, built_program, built_shim, content, has_trim, put, run
 
 SECONDS = 10
 SHOWN = 3
@@ -101,10 +101,8 @@ class Trial:
         self.folder = tempfile.mkdtemp(prefix='refusals-', dir='/dev/shm' if os.path.isdir('/dev/shm') else None)
         self.room = os.path.join(self.folder, 'texts')
         self.refused = os.path.join(self.folder, 'refused')
-        self.shim = os.path.join(self.folder, 'shim.so')
+        self.shim = built_shim(self.folder)
         self.fill()
-        source = os.path.join(os.path.dirname(os.path.abspath(__file__)), 'shim.c')
-        subprocess.run(['gcc', '-O1', '-shared', '-fPIC', '-o', self.shim, source], check=True)
         self.plain, self.judged, self.shown = {}, {}, {}
         self.runs, self.wrong = {}, {}
 

@@ -22,7 +22,7 @@ use std::thread::Threads;
 use steal::{Supply, deal};
 use trail::{Noted, Trail};
 use trees::Tree;
-use workers::{Common, Cubes, EventCount, work};
+use workers::{Begun, Common, Cubes, EventCount, Exploring, work};
 
 /// More conflicts than any search here needs.
 const ENOUGH: u32 = 1_000_000;
@@ -152,6 +152,8 @@ fn worked_on<R: Threads + Wait + Sync, C: Cubes>(
         gate: share,
         events: &events,
         budget,
+        exploring: Exploring::Never,
+        begun: Begun::nothing(),
     };
     let mut seat = WORKER;
     work(rt, alloc, &common, &mut seat, cubes, WORKER)?;
@@ -286,14 +288,22 @@ fn nothing_is_searched_after_a_schedule(rt: HostRuntime) -> Result<(), Fail> {
 #[test]
 fn the_first_refusal_is_left_for(rt: HostRuntime) -> Result<(), Fail> {
     let alloc = rt.alloc();
-    for lie in [Lie::ForeignLine, Lie::NeverOpen, Lie::NeverDerived] {
+    for lie in [
+        Lie::ForeignLine,
+        Lie::NeverOpen,
+        Lie::NeverDerived,
+        Lie::PastEnd,
+    ] {
         assert_eq!(rt; left_for(&rt, alloc, lie)?, (Some(Why::Left), 0), "{lie:?}");
     }
+    for lie in [Lie::NoMemory, Lie::NoLines] {
+        assert_eq!(rt;
+            left_for(&rt, alloc, lie)?,
+            (Some(Why::Memory), 0),
+            "{lie:?}"
+        );
+    }
     assert_eq!(rt; left_for(&rt, alloc, Lie::FullLog)?, (Some(Why::Full), 0));
-    assert_eq!(rt;
-        left_for(&rt, alloc, Lie::NoMemory)?,
-        (Some(Why::Memory), 0)
-    );
     let outcome = searched(&rt, alloc, RELAY, 4, Lie::Forgetful, ENOUGH)?;
     assert!(rt; !outcome.status.is_found);
     Ok(())

@@ -34,6 +34,10 @@ pub enum Lie {
     FullLog,
     /// It says of each path that memory ran out.
     NoMemory,
+    /// It says of each list of lines that is asked for that memory ran out.
+    NoLines,
+    /// It says of each list of lines that is asked for that it would begin past the end.
+    PastEnd,
 }
 
 /// A pool under a lock, and the gate of its worker; a seat is the number of a worker.
@@ -105,6 +109,8 @@ impl Share for Fake {
         let reply = match self.lie {
             Lie::ForeignLine => foreign_line(alloc),
             Lie::Forgetful => lines_of(alloc, Vec::new(alloc)),
+            Lie::NoLines => Err(FetchFault::Memory),
+            Lie::PastEnd => Err(FetchFault::PastEnd),
             _ => self.pool.lock(rt).fetch(alloc, *seat, from),
         };
         self.trail.ask(reply.is_err());

@@ -20,7 +20,7 @@ use std::test::Fail;
 use std::thread;
 use std::thread::Threads;
 use steal::{Supply, deal};
-use workers::{Common, EventCount, Gate, work};
+use workers::{Begun, Common, EventCount, Exploring, Gate, work};
 
 /// How often each liar makes each of its three calls.
 const ROUNDS: u32 = 1_000;
@@ -166,6 +166,8 @@ fn all_act<B: Room + Send + Sync, R: Threads + Wait + Sync>(
         gate: &gate,
         events: &events,
         budget: ENOUGH,
+        exploring: Exploring::Never,
+        begun: Begun::nothing(),
     };
     let threads = stations.len().max(1);
     thread::for_each_mut(
