@@ -2,22 +2,59 @@
 
 ghost use Rattle.semantics.specs.Machine.{IsStuckRun};
 
+use crate::cause::{lacking, lacks_of, put_a_cycle};
 use crate::decisions::decisions;
 use crate::exchanged::exchanged;
 use crate::placing::{Scene, put_part};
 use crate::replaying::end_of;
+use crate::standings::standings;
 use crate::unreceived::unreceived;
-use crate::waiters::{standings, waiters};
+use crate::waiters::waiters;
 use crate::written::written_calls;
 use callorder::Program;
 use calltext::Source;
 use semantics::Step;
 use std::alloc::{AllocError, Global};
 
-/// The text, in plain ASCII, that explains a run of a program that ends stuck: the choices on the way, receives that took
-/// another message than a probe before them saw, where each rank stands and for what it waits, who waits for whom, and which
-/// messages nobody received. `text` is the program's text, `source` what it says, and `program` its calls. The only error is
-/// want of memory.
+/// Tells what the deadlock comes from: a cycle of ranks, and what can't come.
+fn put_cause(
+    out: &mut String,
+    alloc: Global,
+    program: &Program,
+    scene: &Scene,
+) -> Result<(), AllocError> {
+    put_a_cycle(out, alloc, program, scene)?;
+    let lacks = lacks_of(alloc, program, scene, lacking(program, scene))?;
+    put_part(out, "what can't come:", &lacks)
+}
+
+/// Tells what else is known of the end of the run.
+fn put_rest(
+    out: &mut String,
+    alloc: Global,
+    program: &Program,
+    scene: &Scene,
+) -> Result<(), AllocError> {
+    let exchanged = exchanged(alloc, program, scene)?;
+    let heading = "receives that took another message than a probe saw:";
+    put_part(out, heading, &exchanged)?;
+    let lacking = lacking(program, scene);
+    let heading = if lacking.is_empty() {
+        "where each rank stands:"
+    } else {
+        "where the other ranks stand:"
+    };
+    put_part(out, heading, &standings(alloc, program, scene, lacking)?)?;
+    put_part(out, "who waits for whom:", &waiters(alloc, program, scene)?)?;
+    let unreceived = unreceived(alloc, program, scene)?;
+    put_part(out, "messages that nobody received:", &unreceived)
+}
+
+/// The text, in plain ASCII, that explains a run of a program that ends stuck: a cycle of ranks that wait for one another, and the
+/// ranks for which nothing can come; the choices on the way; receives that took another message than a probe before them saw; where
+/// the other ranks stand and for what they wait; who waits for whom; and which messages nobody received. Long lists are cut, and
+/// told by their number. `text` is the program's text, `source` what it says, and `program` its calls. The only error is want of
+/// memory.
 pub fn explanation(
     alloc: Global,
     text: &[u8],
@@ -34,27 +71,9 @@ pub fn explanation(
     let count = steps.len();
     let noun = if count == 1 { "step" } else { "steps" };
     let mut out = format!(in alloc; "deadlock after {count} {noun}\n")?;
+    put_cause(&mut out, alloc, program, &scene)?;
     let decided = decisions(alloc, program, &scene.calls, steps)?;
     put_part(&mut out, "choices on the way:", &decided)?;
-    put_part(
-        &mut out,
-        "receives that took another message than a probe saw:",
-        &exchanged(alloc, program, &scene)?,
-    )?;
-    put_part(
-        &mut out,
-        "where each rank stands:",
-        &standings(alloc, program, &scene)?,
-    )?;
-    put_part(
-        &mut out,
-        "who waits for whom:",
-        &waiters(alloc, program, &scene)?,
-    )?;
-    put_part(
-        &mut out,
-        "messages that nobody received:",
-        &unreceived(alloc, program, &scene)?,
-    )?;
+    put_rest(&mut out, alloc, program, &scene)?;
     Ok(out.into_bytes())
 }

@@ -3,13 +3,17 @@
 //! Numbers of calls count from 1 over the program after expansion, ranks from 0, lines of the program's text from 1.
 #![tactic(auto)]
 
+mod candidates;
+mod cause;
 mod decisions;
 mod exchanged;
 mod explaining;
 mod graph;
+mod missing;
 mod numbering;
 mod placing;
 mod replaying;
+mod standings;
 mod unreceived;
 mod waiters;
 mod written;

@@ -4,7 +4,10 @@ use crate::written::Written;
 use callorder::Program;
 use semantics::State;
 use std::alloc::AllocError;
-use waits::RankSet;
+use waits::{RankSet, Standing, standing_of};
+
+/// The most ranks, and the most messages, that a list tells.
+pub const MOST_TOLD: usize = 8;
 
 /// The end of a run, with the calls of its program as the text has them.
 #[derive(Drop)]
@@ -38,6 +41,38 @@ pub fn put_number_of(out: &mut String, calls: &[Written], call: usize) -> Result
         write!(out, "call {number} of rank {rank}")?;
     }
     Ok(())
+}
+
+/// Tells a call by its number alone.
+fn put_bare_number(out: &mut String, scene: &Scene, call: usize) -> Result<(), AllocError> {
+    if let Some(written) = scene.calls.get(call) {
+        let number = written.number;
+        write!(out, "{number}")?;
+    }
+    Ok(())
+}
+
+/// Tells in which call a rank waits, if it does.
+pub fn put_where(
+    out: &mut String,
+    program: &Program,
+    scene: &Scene,
+    rank: u32,
+) -> Result<(), AllocError> {
+    if let Standing::Waits { call } = standing_of(program, &scene.state, rank) {
+        write!(out, "rank {rank} waits in call ")?;
+        put_bare_number(out, scene, call)?;
+    }
+    Ok(())
+}
+
+/// Tells how many there are beyond those that a list tells, if there are more.
+pub fn put_more(out: &mut String, count: usize) -> Result<(), AllocError> {
+    let more = count.saturating_sub(MOST_TOLD);
+    if more == 0 {
+        return Ok(());
+    }
+    writeln!(out, "  and {more} more")
 }
 
 /// Tells that a receive or matched probe took the message of a send, or that a probe saw it, and begins a line below.

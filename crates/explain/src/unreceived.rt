@@ -1,6 +1,6 @@
 //! The messages that nobody received.
 
-use crate::placing::{Scene, put_call_of, put_number_of};
+use crate::placing::{MOST_TOLD, Scene, put_call_of, put_more, put_number_of};
 use callorder::Program;
 use std::alloc::{AllocError, Global};
 
@@ -15,16 +15,30 @@ fn put_message(out: &mut String, scene: &Scene, send: usize) -> Result<(), Alloc
     out.push('\n')
 }
 
+/// Whether the call is a send whose message is sent and that nobody received.
+fn is_unreceived(program: &Program, scene: &Scene, call: usize) -> bool {
+    match program.call(call) {
+        None => false,
+        Some(known) => {
+            known.kind.message().is_some()
+                && scene.state.is_issued(program, call)
+                && !scene.state.is_fetched(program, call)
+        }
+    }
+}
+
 /// Tells the messages that are sent and that nobody received.
 pub fn unreceived(alloc: Global, program: &Program, scene: &Scene) -> Result<String, AllocError> {
     let mut out = String::new(alloc);
-    for (place, call) in program.calls().iter().enumerate() {
-        if call.kind.message().is_some()
-            && scene.state.is_issued(program, place)
-            && !scene.state.is_fetched(program, place)
-        {
-            put_message(&mut out, scene, place)?;
+    let mut told: usize = 0;
+    for place in 0..program.calls().len() {
+        if is_unreceived(program, scene, place) {
+            if told < MOST_TOLD {
+                put_message(&mut out, scene, place)?;
+            }
+            told = told.saturating_add(1);
         }
     }
+    put_more(&mut out, told)?;
     Ok(out)
 }

@@ -23,7 +23,7 @@ pub struct Written {
     /// The rank that makes it, from 0.
     pub rank: u32,
     /// The number of its line, from 1.
-    line: usize,
+    pub line: usize,
     /// The words of its line.
     words: String,
     /// Which part of its line it is, where that is a `sendrecv`; else nothing.

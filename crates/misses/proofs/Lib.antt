@@ -1,0 +1,2 @@
+pub mod MissedParts
+pub mod NearMisses
