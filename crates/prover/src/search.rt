@@ -19,7 +19,7 @@ use std::thread;
 use std::thread::Threads;
 use steal::{Supply, deal, settle_all};
 use trees::Tree;
-use workers::{Begun, Common, EventCount, Exploring, Gate, open, work};
+use workers::{Begun, Common, EventCount, Exploring, Gate, KeptLines, open, work};
 
 /// What a worker's thread is handed.
 #[derive(Drop)]
@@ -239,6 +239,7 @@ fn search_in<B: Room + Send + Sync, G: Gate + Sync, R: Threads + Wait + Sync>(
         return Err(Why::Memory);
     };
     let events = EventCount::new();
+    let kept = KeptLines::new();
     let first = Common {
         encoded,
         shared: &shared,
@@ -247,6 +248,7 @@ fn search_in<B: Room + Send + Sync, G: Gate + Sync, R: Threads + Wait + Sync>(
         budget: options.budget(),
         exploring: exploring(options),
         begun: Begun::nothing(),
+        kept: &kept,
     };
     let begun = begun(rt, alloc, &first, seats.as_mut_slice(), cubes, options);
     let common = Common { begun, ..first };

@@ -22,7 +22,7 @@ use std::thread::Threads;
 use steal::{Supply, deal};
 use trail::{Noted, Trail};
 use trees::Tree;
-use workers::{Begun, Common, Cubes, EventCount, Exploring, work};
+use workers::{Begun, Common, Cubes, EventCount, Exploring, KeptLines, work};
 
 /// More conflicts than any search here needs.
 const ENOUGH: u32 = 1_000_000;
@@ -146,6 +146,7 @@ fn worked_on<R: Threads + Wait + Sync, C: Cubes>(
     budget: u32,
 ) -> Result<(), Fail> {
     let events = EventCount::new();
+    let kept = KeptLines::new();
     let common = Common {
         encoded,
         shared: share,
@@ -154,6 +155,7 @@ fn worked_on<R: Threads + Wait + Sync, C: Cubes>(
         budget,
         exploring: Exploring::Never,
         begun: Begun::nothing(),
+        kept: &kept,
     };
     let mut seat = WORKER;
     work(rt, alloc, &common, &mut seat, cubes, WORKER)?;
@@ -181,6 +183,41 @@ fn is_refuted(rt: &impl Wait, alloc: Global, share: &Fake) -> bool {
     }
 }
 
+/// How many lines the share's log has.
+fn logged(rt: &impl Wait, alloc: Global, share: &Fake) -> Result<usize, Fail> {
+    let lines = share.pool.lock(rt).fetch(alloc, WORKER, 0)?;
+    Ok(lines.len())
+}
+
+/// Has one worker take the leaves of this share.
+fn worked_on_leaves<R: Threads + Wait + Sync>(
+    rt: &R,
+    alloc: Global,
+    text: &str,
+    share: &Fake,
+    budget: u32,
+) -> Result<(), Fail> {
+    let mut cubes = leaves(rt, alloc, share)?;
+    worked(rt, alloc, text, share, &mut cubes, budget)
+}
+
+/// What one worker comes to over this share.
+fn searched_in<R: Threads + Wait + Sync>(
+    rt: &R,
+    alloc: Global,
+    text: &str,
+    share: &Fake,
+    budget: u32,
+) -> Result<Outcome, Fail> {
+    worked_on_leaves(rt, alloc, text, share, budget)?;
+    Ok(Outcome {
+        status: share.status(rt),
+        is_refuted: is_refuted(rt, alloc, share),
+        logged: logged(rt, alloc, share)?,
+        noted: share.trail.noted(),
+    })
+}
+
 /// What one worker comes to that begins with a tree of this depth.
 fn searched<R: Threads + Wait + Sync>(
     rt: &R,
@@ -191,15 +228,7 @@ fn searched<R: Threads + Wait + Sync>(
     budget: u32,
 ) -> Result<Outcome, Fail> {
     let share = opened(rt, alloc, text, depth, lie)?;
-    let mut cubes = leaves(rt, alloc, &share)?;
-    worked(rt, alloc, text, &share, &mut cubes, budget)?;
-    let lines = share.pool.lock(rt).fetch(alloc, WORKER, 0)?;
-    Ok(Outcome {
-        status: share.status(rt),
-        is_refuted: is_refuted(rt, alloc, &share),
-        logged: lines.len(),
-        noted: share.trail.noted(),
-    })
+    searched_in(rt, alloc, text, &share, budget)
 }
 
 /// Why the worker leaves a share that lies, and how many calls it makes after the first that is refused.
@@ -218,6 +247,17 @@ fn evidence_of(rt: &impl Wait, alloc: Global, share: &Fake) -> Result<Vec<u8>, F
     Ok(write_evidence(alloc, &evidence)?)
 }
 
+/// The text of the evidence that one worker comes to over this share.
+fn found_in<R: Threads + Wait + Sync>(
+    rt: &R,
+    alloc: Global,
+    text: &str,
+    share: &Fake,
+) -> Result<Vec<u8>, Fail> {
+    worked_on_leaves(rt, alloc, text, share, ENOUGH)?;
+    evidence_of(rt, alloc, share)
+}
+
 /// The text of the evidence that one worker comes to.
 fn found_by_one<R: Threads + Wait + Sync>(
     rt: &R,
@@ -225,9 +265,7 @@ fn found_by_one<R: Threads + Wait + Sync>(
     text: &str,
 ) -> Result<Vec<u8>, Fail> {
     let share = opened(rt, alloc, text, 4, Lie::Nothing)?;
-    let mut cubes = leaves(rt, alloc, &share)?;
-    worked(rt, alloc, text, &share, &mut cubes, ENOUGH)?;
-    evidence_of(rt, alloc, &share)
+    found_in(rt, alloc, text, &share)
 }
 
 /// What the text of an evidence shows of the program.
@@ -309,16 +347,34 @@ fn the_first_refusal_is_left_for(rt: HostRuntime) -> Result<(), Fail> {
     Ok(())
 }
 
+/// Has one worker take the leaves of this share, which can't put one back.
+fn worked_without_room<R: Threads + Wait + Sync>(
+    rt: &R,
+    alloc: Global,
+    share: &Fake,
+) -> Result<(), Fail> {
+    let cubes = leaves(rt, alloc, share)?;
+    let mut cubes = Narrow { cubes };
+    worked(rt, alloc, SENDERS, share, &mut cubes, ENOUGH)
+}
+
 /// How many cubes the worker takes that can't put one back, and why it leaves.
+fn without_room_in<R: Threads + Wait + Sync>(
+    rt: &R,
+    alloc: Global,
+    share: &Fake,
+) -> Result<(u64, Option<Why>), Fail> {
+    worked_without_room(rt, alloc, share)?;
+    Ok((share.trail.noted().cubes, share.status(rt).why))
+}
+
+/// The same of a share of its own.
 fn without_room<R: Threads + Wait + Sync>(
     rt: &R,
     alloc: Global,
 ) -> Result<(u64, Option<Why>), Fail> {
     let share = opened(rt, alloc, SENDERS, 0, Lie::Nothing)?;
-    let cubes = leaves(rt, alloc, &share)?;
-    let mut cubes = Narrow { cubes };
-    worked(rt, alloc, SENDERS, &share, &mut cubes, ENOUGH)?;
-    Ok((share.trail.noted().cubes, share.status(rt).why))
+    without_room_in(rt, alloc, &share)
 }
 
 #[test]

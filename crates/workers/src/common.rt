@@ -1,6 +1,7 @@
 //! What the workers of a search have in common.
 
 use crate::events::EventCount;
+use crate::kept::KeptLines;
 use encode::Encoded;
 use pool::Why;
 
@@ -54,6 +55,8 @@ pub struct Common<'s, S, G> {
     pub exploring: Exploring,
     /// What was done before.
     pub begun: Begun,
+    /// What is kept of the log.
+    pub kept: &'s KeptLines,
 }
 
 impl<S, G> Common<'_, S, G> {

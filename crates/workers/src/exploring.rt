@@ -2,6 +2,7 @@
 
 use crate::common::{Common, Exploring};
 use crate::gate::{Gate, Searched};
+use crate::kept::KeptLines;
 use crate::numbers::{line_place, number_of};
 use crate::stop::Stop;
 use crate::worker::Worker;
@@ -9,17 +10,21 @@ use batches::Batch;
 use cdcl::Found;
 use clauses::Clause;
 use encode::Encoded;
-use pool::{Share, Why};
+use pool::{MOST_LINES, Share, Why};
 use statesearch::StateSearch;
 use std::alloc::{AllocError, Global};
 use std::ops::Range;
 use std::sync::Wait;
 
 /// How many lines one search writes at most.
-const MOST_LINES: u64 = 2_000;
+const LINES_AT_A_TIME: u64 = 2_000;
 
 /// How many lines all of them write at most: the log has room for more, but not for twice as many, as one send more to a wildcard would take.
 const MOST_IN_ALL: u64 = 600_000;
+
+/// How many lines of the log others leave free beside those that are kept for the search over sets of matched calls, since all that search below cubes
+/// may publish once more before they see that the log has room for no more.
+const MARGIN: u64 = 150_000;
 
 /// How many literals a line of others has at most that is taken in. What longer ones let follow tells states apart that differ in nothing else, so
 /// that there are far more of them.
@@ -111,7 +116,7 @@ impl<'e> Exploration<'e> {
 
     /// Searches on, until so many lines and conflicts were counted at most.
     fn search(&mut self, alloc: Global, most: u64) -> Result<Found, Stop> {
-        let budget = most.min(self.left).min(MOST_LINES);
+        let budget = most.min(self.left).min(LINES_AT_A_TIME);
         let found = self.search.search(alloc, budget)?;
         let counted = self.search.conflicts();
         self.left = self.left.saturating_sub(counted);
@@ -184,6 +189,27 @@ impl Worker<'_> {
         }
     }
 
+    /// How many lines of the log are kept for the exploration, which needs none once it has refuted the formula.
+    fn kept(&self) -> u64 {
+        if self.refuted.is_some() {
+            return 0;
+        }
+        match &self.exploration {
+            Some(exploration) => exploration.left,
+            None => 0,
+        }
+    }
+
+    /// Whether the log has room for no more lines than are kept for the exploration of another worker.
+    pub(crate) fn leaves_room(&self, kept: &KeptLines) -> bool {
+        let kept = kept.count();
+        if kept == 0 || self.exploration.is_some() || self.refuted.is_some() {
+            return false;
+        }
+        let taken = (self.seen() as u64).saturating_add(kept);
+        taken.saturating_add(MARGIN) >= MOST_LINES as u64
+    }
+
     /// Drops the exploration where it may write no more lines.
     fn drop_used_up(&mut self) {
         let is_used_up = match &self.exploration {
@@ -195,6 +221,24 @@ impl Worker<'_> {
         }
     }
 
+    /// Hands on what a search over sets of matched calls found after so many lines, and calls the gate.
+    fn tell_states<S: Share, G: Gate, R: Wait>(
+        &mut self,
+        rt: &R,
+        common: &Common<S, G>,
+        seat: &mut S::Seat,
+        worker: u32,
+        found: &Found,
+        counted: u64,
+    ) -> Result<(), Stop> {
+        let next = self.hand_on_states(rt, common.shared, seat, found);
+        let open = common.shared.status(rt).open_leaves;
+        common
+            .gate
+            .after(worker, Searched::of(found, open, counted, true));
+        next
+    }
+
     /// One search over sets of matched calls, with all lines that the log has by now, after which the gate is called.
     pub(crate) fn explore<S: Share, G: Gate, R: Wait>(
         &mut self,
@@ -203,17 +247,13 @@ impl Worker<'_> {
         seat: &mut S::Seat,
         worker: u32,
     ) -> Result<(), Stop> {
-        let shared = common.shared;
-        self.catch_up(rt, shared, seat)?;
+        self.catch_up(rt, common.shared, seat)?;
         let Some((found, counted)) = self.search_states()? else {
             return Ok(());
         };
-        let next = self.hand_on_states(rt, shared, seat, &found);
-        let open = shared.status(rt).open_leaves;
-        common
-            .gate
-            .after(worker, Searched::of(&found, open, counted, true));
+        let next = self.tell_states(rt, common, seat, worker, &found, counted);
         self.drop_used_up();
+        common.kept.keep(self.kept());
         next
     }
 }

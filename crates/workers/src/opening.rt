@@ -49,7 +49,40 @@ fn hand_on<S: Share, R: Wait>(
     }
 }
 
+/// Hands on what the first search found after so many conflicts, and calls the gate.
+fn tell<S: Share, G: Gate, R: Wait>(
+    rt: &R,
+    worker: &Worker<'_>,
+    common: &Common<S, G>,
+    seat: &mut S::Seat,
+    cubes: &[u32],
+    found: &Found,
+    conflicts: u64,
+) -> Result<(), Stop> {
+    hand_on(rt, worker, common.shared, seat, cubes, found)?;
+    let open = common.shared.status(rt).open_leaves;
+    common
+        .gate
+        .after(0, Searched::of(found, open, conflicts, false));
+    Ok(())
+}
+
 /// Searches with no cube, and answers how many conflicts that took.
+fn search<S: Share, G: Gate, R: Wait>(
+    rt: &R,
+    worker: &mut Worker<'_>,
+    common: &Common<S, G>,
+    seat: &mut S::Seat,
+    cubes: &[u32],
+) -> Result<u64, Stop> {
+    let (found, conflicts) = worker.search(&[], MOST_CONFLICTS)?;
+    match tell(rt, worker, common, seat, cubes, &found, conflicts) {
+        Ok(()) => Ok(conflicts),
+        Err(stop) => Err(stop),
+    }
+}
+
+/// Searches with no cube by a worker of its own, and answers how many conflicts that took.
 fn search_all<S: Share, G: Gate, R: Wait>(
     rt: &R,
     alloc: Global,
@@ -58,13 +91,7 @@ fn search_all<S: Share, G: Gate, R: Wait>(
     cubes: &[u32],
 ) -> Result<u64, Stop> {
     let mut worker = Worker::new(alloc, common, 0)?;
-    let (found, conflicts) = worker.search(&[], MOST_CONFLICTS)?;
-    hand_on(rt, &worker, common.shared, seat, cubes, &found)?;
-    let open = common.shared.status(rt).open_leaves;
-    common
-        .gate
-        .after(0, Searched::of(&found, open, conflicts, false));
-    Ok(conflicts)
+    search(rt, &mut worker, common, seat, cubes)
 }
 
 /// Searches the whole formula, with no cube, before the workers begin: match variables are probed, and at most 4,000 conflicts are

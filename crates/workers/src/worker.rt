@@ -114,17 +114,32 @@ impl<'e> Worker<'e> {
         })
     }
 
-    /// The worker of this number, from 0. Worker 0 searches over sets of matched calls too, where that is wanted.
+    /// Makes worker 0 search over sets of matched calls too, where that is wanted.
+    fn explore_too<S, G>(
+        &mut self,
+        common: &Common<'e, S, G>,
+        worker: u32,
+    ) -> Result<(), AllocError> {
+        if worker == 0 {
+            self.exploration = Exploration::make(self.alloc, common.encoded, common.exploring)?;
+        }
+        Ok(())
+    }
+
+    /// The worker of this number, from 0.
     fn explorer<S, G>(
         alloc: Global,
         common: &Common<'e, S, G>,
         worker: u32,
     ) -> Result<Worker<'e>, AllocError> {
         let mut made = Worker::new(alloc, common, worker)?;
-        if worker == 0 {
-            made.exploration = Exploration::make(alloc, common.encoded, common.exploring)?;
-        }
+        made.explore_too(common, worker)?;
         Ok(made)
+    }
+
+    /// How many lines of the log were seen.
+    pub(crate) fn seen(&self) -> usize {
+        self.seen
     }
 
     /// How many clauses the formula has.
@@ -294,6 +309,48 @@ impl<'e> Worker<'e> {
         }
     }
 
+    /// Hands on what a search below a cube with this path found after so many conflicts, and calls the gate.
+    fn tell_found<S: Share, C: Cubes, G: Gate, R: Wait>(
+        &mut self,
+        rt: &R,
+        common: &Common<S, G>,
+        seat: &mut S::Seat,
+        cubes: &mut C,
+        worker: u32,
+        cube: u32,
+        path: &[Lit],
+        found: &Found,
+        conflicts: u64,
+    ) -> Result<Next, Stop>
+        ensures { C.deques cubes.new ≡ C.deques cubes.old }
+    {
+        let next = self.hand_on(rt, common.shared, seat, cubes, cube, path, found);
+        let open = common.shared.status(rt).open_leaves;
+        common
+            .gate
+            .after(worker, Searched::of(found, open, conflicts, false));
+        next
+    }
+
+    /// One search below a cube with this path.
+    fn search_below<S: Share, C: Cubes, G: Gate, R: Wait>(
+        &mut self,
+        rt: &R,
+        common: &Common<S, G>,
+        seat: &mut S::Seat,
+        cubes: &mut C,
+        worker: u32,
+        cube: u32,
+        path: &[Lit],
+    ) -> Result<Next, Stop>
+        ensures { C.deques cubes.new ≡ C.deques cubes.old }
+    {
+        let (found, conflicts) = self.search(path, MOST_CONFLICTS)?;
+        self.tell_found(
+            rt, common, seat, cubes, worker, cube, path, &found, conflicts,
+        )
+    }
+
     /// One search below a cube, with all lines that the log has by now, after which the gate is called; none where the formula is refuted.
     fn step<S: Share, C: Cubes, G: Gate, R: Wait>(
         &mut self,
@@ -313,13 +370,7 @@ impl<'e> Worker<'e> {
             return Ok(Next::Another);
         }
         let path = shared.path(rt, self.alloc, cube)?;
-        let (found, conflicts) = self.search(&path, MOST_CONFLICTS)?;
-        let next = self.hand_on(rt, shared, seat, cubes, cube, &path, &found);
-        let open = shared.status(rt).open_leaves;
-        common
-            .gate
-            .after(worker, Searched::of(&found, open, conflicts, false));
-        next
+        self.search_below(rt, common, seat, cubes, worker, cube, &path)
     }
 
     /// Searches below one cube after another, until the search is over. Without a cube it pauses, and ends too where another worker left for a
@@ -346,6 +397,10 @@ impl<'e> Worker<'e> {
             if self.explores() {
                 self.explore(rt, common, seat, worker)?;
                 common.events.advance();
+                continue;
+            }
+            if self.leaves_room(common.kept) {
+                rest(rt, common.events, seen, &pause);
                 continue;
             }
             let Some(cube) = cube_after(current, cubes, common.gate, worker) else {
@@ -375,6 +430,14 @@ fn rest<R: Wait>(rt: &R, events: &EventCount, seen: u32, pause: &Backoff) {
     }
 }
 
+/// Why a worker's run ends; none where it is done.
+fn reason_of(end: Result<(), Stop>) -> Option<Why> {
+    match end {
+        Ok(()) => None,
+        Err(stop) => Some(stop.why),
+    }
+}
+
 /// Why the worker leaves; none where it is done.
 fn reason<S: Share, C: Cubes, G: Gate, R: Wait>(
     rt: &R,
@@ -395,10 +458,7 @@ fn reason<S: Share, C: Cubes, G: Gate, R: Wait>(
     let Ok(mut search) = Worker::explorer(alloc, common, worker) else {
         return Some(Why::Memory);
     };
-    match search.run(rt, common, seat, cubes, worker) {
-        Ok(()) => None,
-        Err(stop) => Some(stop.why),
-    }
+    reason_of(search.run(rt, common, seat, cubes, worker))
 }
 
 /// Searches below one cube after another, and tells the share what it found: lines, a clause for each cube that is refuted,
@@ -410,7 +470,8 @@ fn reason<S: Share, C: Cubes, G: Gate, R: Wait>(
 /// have no value below its path; where there is none, on the first variable that isn't on it, match variables first, in the branching order.
 ///
 /// Worker 0 searches over sets of matched calls, where that is wanted, at most 2,000 lines at a time and 600,000 in all; each counts as a
-/// conflict of its budget. Where the log has an empty clause, each cube is closed by it. Of the lines of others a worker takes in the shortest, up
+/// conflict of its budget. Meanwhile the log has room for what it may still write: where others have come close to that, they wait until it has
+/// ended. Where the log has an empty clause, each cube is closed by it. Of the lines of others a worker takes in the shortest, up
 /// to 6,000 after each search, and all with at most two literals.
 ///
 /// The worker leaves with no reason once a schedule was found or no leaf is open, or, without a cube, once another worker left for a
@@ -430,6 +491,9 @@ pub fn work<S: Share, C: Cubes, G: Gate, R: Wait>(
     ensures { C.deques cubes.new ≡ C.deques cubes.old }
 {
     let why = reason(rt, alloc, common, seat, cubes, worker);
+    if worker == 0 {
+        common.kept.keep(0);
+    }
     let left = common.shared.leave(rt, seat, why);
     common.events.advance();
     left

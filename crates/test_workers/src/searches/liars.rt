@@ -20,7 +20,7 @@ use std::test::Fail;
 use std::thread;
 use std::thread::Threads;
 use steal::{Supply, deal};
-use workers::{Begun, Common, EventCount, Exploring, Gate, work};
+use workers::{Begun, Common, EventCount, Exploring, Gate, KeptLines, work};
 
 /// How often each liar makes each of its three calls.
 const ROUNDS: u32 = 1_000;
@@ -160,6 +160,7 @@ fn all_act<B: Room + Send + Sync, R: Threads + Wait + Sync>(
         first: u64::from(liars) * u64::from(ROUNDS / 2),
     };
     let events = EventCount::new();
+    let kept = KeptLines::new();
     let common = Common {
         encoded,
         shared,
@@ -168,6 +169,7 @@ fn all_act<B: Room + Send + Sync, R: Threads + Wait + Sync>(
         budget: ENOUGH,
         exploring: Exploring::Never,
         begun: Begun::nothing(),
+        kept: &kept,
     };
     let threads = stations.len().max(1);
     thread::for_each_mut(
@@ -213,6 +215,45 @@ fn seats_of<B: Room>(alloc: Global, stations: Vec<Station<B>>) -> Result<Vec<Sea
     Ok(seats)
 }
 
+/// The seats, once all have acted.
+fn acted<B: Room + Send + Sync, R: Threads + Wait + Sync>(
+    rt: &R,
+    alloc: Global,
+    shared: &SharedPool<B>,
+    seats: Vec<Seat<B>>,
+    encoded: &Encoded,
+    lie: &Batch,
+    liars: u32,
+    workers: u32,
+) -> Result<Vec<Seat<B>>, Fail>
+    requires { workers ≤ 64 }
+{
+    let mut stations = stations(alloc, seats, workers)?;
+    all_act(
+        rt,
+        alloc,
+        shared,
+        encoded,
+        lie,
+        liars,
+        stations.as_mut_slice(),
+    );
+    seats_of(alloc, stations)
+}
+
+/// The pool that is left where all these seats come back.
+fn finished<B: Room, R: Wait>(
+    rt: &R,
+    alloc: Global,
+    shared: SharedPool<B>,
+    seats: Vec<Seat<B>>,
+) -> Result<Pool, Fail> {
+    match shared.finish(rt, alloc, seats) {
+        Ok((pool, _counts)) => Ok(pool),
+        Err(_back) => Err(Fail::from("not finished")),
+    }
+}
+
 /// The pool that all leave, in a room that has a name.
 fn left_by<B: Room + Send + Sync, R: Threads + Wait + Sync>(
     rt: &R,
@@ -221,6 +262,7 @@ fn left_by<B: Room + Send + Sync, R: Threads + Wait + Sync>(
     keeper: Token,
     pool: Pool,
     encoded: &Encoded,
+    lie: &Batch,
     liars: u32,
     workers: u32,
 ) -> Result<Pool, Fail>
@@ -230,22 +272,16 @@ fn left_by<B: Room + Send + Sync, R: Threads + Wait + Sync>(
     requires some { 1 ≤ workers }
     requires few { workers ≤ 64 }
 {
-    let lie = lie(alloc, encoded)?;
     let (shared, seats) = SharedPool::<B>::new(alloc, cell, keeper, pool, workers)?;
-    let mut stations = stations(alloc, seats, workers)?;
-    let places = stations.as_mut_slice();
-    all_act(rt, alloc, &shared, encoded, &lie, liars, places);
-    let seats = seats_of(alloc, stations)?;
-    match shared.finish(rt, alloc, seats) {
-        Ok((pool, _counts)) => Ok(pool),
-        Err(_back) => Err(Fail::from("not finished")),
-    }
+    let seats = acted(rt, alloc, &shared, seats, encoded, lie, liars, workers)?;
+    finished(rt, alloc, shared, seats)
 }
 
 /// A pool over the program, in which all leaves are open.
-fn opened(alloc: Global, encoded: Encoded) -> Result<Pool, Fail>
+fn opened(rt: &(impl Threads + Sync), alloc: Global) -> Result<Pool, Fail>
     ensures { IfOk result (λ pool. pool.history ≡ []) }
 {
+    let encoded = encoded(rt, alloc, RELAY)?;
     let tree = tree_of(alloc, &encoded, 2)?;
     Ok(Pool::new(alloc, encoded, tree)?)
 }
@@ -319,6 +355,39 @@ fn outcome_of(
     })
 }
 
+/// The pool that so many workers leave, the first of which are liars.
+fn left<R: Threads + Wait + Sync>(
+    rt: &R,
+    alloc: Global,
+    encoded: &Encoded,
+    lie: &Batch,
+    liars: u32,
+    workers: u32,
+) -> Result<Pool, Fail>
+    requires some { 1 ≤ workers }
+    requires few { workers ≤ 64 }
+{
+    let (cell, keeper) = open_room(alloc)?;
+    let pool = opened(rt, alloc)?;
+    left_by::<Brand, R>(rt, alloc, cell, keeper, pool, encoded, lie, liars, workers)
+}
+
+/// What so many workers leave of this formula, the first of which are liars.
+fn left_of<R: Threads + Wait + Sync>(
+    rt: &R,
+    alloc: Global,
+    encoded: &Encoded,
+    liars: u32,
+    workers: u32,
+) -> Result<Outcome, Fail>
+    requires some { 1 ≤ workers }
+    requires few { workers ≤ 64 }
+{
+    let lie = lie(alloc, encoded)?;
+    let pool = left(rt, alloc, encoded, &lie, liars, workers)?;
+    outcome_of(rt, alloc, &pool, liars)
+}
+
 /// What so many workers leave, the first of which are liars.
 fn beside<R: Threads + Wait + Sync>(
     rt: &R,
@@ -329,11 +398,8 @@ fn beside<R: Threads + Wait + Sync>(
     requires some { 1 ≤ workers }
     requires few { workers ≤ 64 }
 {
-    let lent = encoded(rt, alloc, RELAY)?;
-    let pool = opened(alloc, encoded(rt, alloc, RELAY)?)?;
-    let (cell, keeper) = open_room(alloc)?;
-    let pool = left_by::<Brand, R>(rt, alloc, cell, keeper, pool, &lent, liars, workers)?;
-    outcome_of(rt, alloc, &pool, liars)
+    let encoded = encoded(rt, alloc, RELAY)?;
+    left_of(rt, alloc, &encoded, liars, workers)
 }
 
 fn judge(rt: &impl Abort, outcome: &Outcome, liars: u32)
