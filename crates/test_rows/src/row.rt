@@ -6,7 +6,7 @@ use std::time::Clock;
 use test_runs::{Ended, Scene, run};
 
 /// The columns of a row. In each text `/` stands for the end of a line, and in the two files that are read `{N PART}` stands for
-/// N times PART.
+/// N times PART, in which others may stand.
 #[derive(Clone, Copy)]
 pub struct Row<'a> {
     /// The words of each run, with ` ; ` between those of two. `FIRST then SECOND` are two runs, and the second gets what the first
@@ -139,15 +139,30 @@ fn lines(alloc: Global, text: &str) -> Result<String, AllocError> {
     text.replace(alloc, '/', "\n")
 }
 
-/// A text with each `{N PART}` in it written out.
+/// A text with the first `{N PART}` in it that holds no other one written out; none where there is none.
+fn innermost_unfolded(alloc: Global, text: &str) -> Result<Option<String>, AllocError> {
+    let Some((front, rest)) = text.split_once("}") else {
+        return Ok(None);
+    };
+    let Some((before, repeated)) = front.rsplit_once("{") else {
+        return Ok(None);
+    };
+    let (count, part) = repeated.split_once(" ").unwrap_or(("0", ""));
+    let count = count.parse::<usize>().unwrap_or(0);
+    let mut whole = String::from_str(alloc, before)?;
+    whole.push_str(&part.repeat(alloc, count)?)?;
+    whole.push_str(rest)?;
+    Ok(Some(whole))
+}
+
+/// A text with each `{N PART}` in it written out, from the inmost ones on.
 fn unfolded(alloc: Global, text: &str) -> Result<String, AllocError> {
-    let mut whole = String::new(alloc);
-    for piece in text.split("}") {
-        let (front, repeated) = piece.split_once("{").unwrap_or((piece, ""));
-        let (count, part) = repeated.split_once(" ").unwrap_or(("0", ""));
-        let count = count.parse::<usize>().unwrap_or(0);
-        whole.push_str(front)?;
-        whole.push_str(&part.repeat(alloc, count)?)?;
+    let mut whole = String::from_str(alloc, text)?;
+    for _ in 0..text.len() {
+        match innermost_unfolded(alloc, &whole)? {
+            Some(next) => whole = next,
+            None => return Ok(whole),
+        }
     }
     Ok(whole)
 }
