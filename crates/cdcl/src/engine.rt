@@ -1,6 +1,8 @@
 //! What the search knows, and how clauses come in.
 
+use crate::analysis::Learnt;
 use crate::order::Order;
+use crate::stamps::Stamps;
 use clauses::{Clause, Formula, Lit};
 use propagation::{
     Marks, NONE, OWN, Store, Trail, Truth, Watches, bring_unset, code_of, propagate, variable_of,
@@ -15,6 +17,9 @@ pub(crate) struct Engine {
     pub(crate) watches: Watches,
     pub(crate) marks: Marks,
     pub(crate) order: Order,
+    /// The lists of the clause that was learnt last, and which levels it has.
+    pub(crate) scratch: Learnt,
+    pub(crate) stamps: Stamps,
     /// A clause that is false at level 0.
     pub(crate) refuted: Option<u32>,
     /// The clauses of the last batch's lines, and how many of them were imported since.
@@ -68,6 +73,8 @@ impl Engine {
             watches: Watches::new(alloc, variables)?,
             marks: Marks::new(alloc, variables)?,
             order: Order::new(alloc, variables)?,
+            scratch: Learnt::new(alloc),
+            stamps: Stamps::new(alloc, variables)?,
             refuted: None,
             pending: Vec::new(alloc),
             returned: 0,
@@ -96,6 +103,7 @@ impl Engine {
             fill(&mut codes, clause.literals())?;
             engine.attach(number, 0, codes.as_mut_slice())?;
         }
+        engine.store.fix();
         Ok(engine)
     }
 

@@ -13,6 +13,7 @@ mod probing;
 mod reduction;
 mod search;
 mod solver;
+mod stamps;
 mod units;
 
 pub use solver::{Found, SolveFault, Solver};

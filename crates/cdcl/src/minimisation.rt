@@ -2,7 +2,7 @@
 
 use crate::analysis::Resolved;
 use propagation::{Marks, NONE, Store, Trail, variable_of};
-use std::alloc::{AllocError, Global};
+use std::alloc::AllocError;
 
 /// The bit of a level, which it shares with each 64th.
 fn level_bit(level: u32) -> u64 {
@@ -95,21 +95,23 @@ fn leave_out(
     Ok(false)
 }
 
-/// The literals that don't follow from the others.
+/// Leaves out the literals that follow from the others.
 pub(crate) fn minimise(
-    alloc: Global,
     store: &Store,
     trail: &Trail,
     marks: &mut Marks,
-    literals: &[u32],
+    literals: &mut Vec<u32>,
     resolved: &mut Resolved,
-) -> Result<Vec<u32>, AllocError> {
+) -> Result<(), AllocError> {
     let levels = level_bits(trail, literals);
-    let mut kept = Vec::with_capacity(alloc, literals.len())?;
-    for code in literals {
-        if !leave_out(store, trail, marks, resolved, levels, *code)? {
-            kept.push(*code)?;
+    let mut end = 0;
+    for read in 0..literals.len() {
+        let code = literals[read];
+        if !leave_out(store, trail, marks, resolved, levels, code)? {
+            literals[end] = code;
+            end += 1;
         }
     }
-    Ok(kept)
+    literals.truncate(end);
+    Ok(())
 }

@@ -10,6 +10,7 @@ use batches::{Batch, Hint};
 use clauses::{Assignment, Formula, Lit};
 use propagation::{Truth, add_line, hint_of, variable_of};
 use std::alloc::{AllocError, Global};
+use std::mem;
 
 /// Where propagation and decisions stop.
 #[derive(Clone, Copy)]
@@ -153,25 +154,40 @@ impl Engine {
         Ok(())
     }
 
-    /// Learns from the clause that is false.
-    fn learn(&mut self, alloc: Global, conflict: u32, batch: &mut Batch) -> Result<(), AllocError> {
-        let learnt = analyse(
-            alloc,
+    /// Learns from the clause that is false, in these lists.
+    fn learn_in(
+        &mut self,
+        alloc: Global,
+        conflict: u32,
+        batch: &mut Batch,
+        learnt: &mut Learnt,
+    ) -> Result<(), AllocError> {
+        analyse(
             &self.store,
             &self.trail,
             &mut self.marks,
             &mut self.order,
+            &mut self.stamps,
+            learnt,
             conflict,
         )?;
-        self.derive_units(alloc, &learnt.roots, batch)?;
-        let mut tags = self.tags(alloc, &learnt.places)?;
+        self.derive_units(alloc, &learnt.resolved.roots, batch)?;
+        let mut tags = self.tags(alloc, &learnt.resolved.places)?;
         tags.push(self.store.tag(conflict))?;
         let tag = add_line(alloc, batch, &learnt.literals, &tags)?;
         self.back(learnt.level);
         match tag {
-            Some(tag) => self.take_learnt(&learnt, tag),
+            Some(tag) => self.take_learnt(learnt, tag),
             None => Ok(()),
         }
+    }
+
+    /// Learns from the clause that is false.
+    fn learn(&mut self, alloc: Global, conflict: u32, batch: &mut Batch) -> Result<(), AllocError> {
+        let mut learnt = mem::replace(&mut self.scratch, Learnt::new(alloc));
+        let result = self.learn_in(alloc, conflict, batch, &mut learnt);
+        self.scratch = learnt;
+        result
     }
 
     fn close_root(

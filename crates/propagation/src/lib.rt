@@ -8,6 +8,7 @@
 mod batch;
 mod codes;
 mod marks;
+mod moves;
 mod store;
 mod trail;
 mod units;
@@ -17,6 +18,7 @@ mod watches;
 pub use batch::{OWN, add_line, hint_of, no_lines};
 pub use codes::{NONE, code_of, literal_of, negated, number_at, variable_of};
 pub use marks::Marks;
+pub use moves::Moves;
 pub use store::{Store, Watching, bring_unset};
 pub use trail::{Trail, Truth};
 pub use units::{unit_tags, with_reasons};

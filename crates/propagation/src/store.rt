@@ -1,6 +1,7 @@
 //! Clauses in one list of numbers.
 
 use crate::codes::number_at;
+use crate::moves::Moves;
 use crate::trail::{Trail, Truth};
 use std::alloc::{AllocError, Global};
 
@@ -11,10 +12,11 @@ const HEAD: usize = 3;
 const BEST_GLUE: u32 = 2;
 
 /// Clauses, each as its length, its tag, its glue and its literals. A clause is named by the place where it begins.
-/// Where two literals are watched, they are the first two.
+/// Where two literals are watched, they are the first two. The first ones may be made to stay for good.
 #[derive(Drop)]
 pub struct Store {
     words: Vec<u32>,
+    fixed: usize,
 }
 
 /// What becomes of a clause one of whose watched literals is false now.
@@ -73,7 +75,35 @@ impl Store {
     pub fn new(alloc: Global) -> Store {
         Store {
             words: Vec::new(alloc),
+            fixed: 0,
         }
+    }
+
+    /// All clauses so far stay for good.
+    pub fn fix(&mut self) {
+        self.fixed = self.words.len();
+    }
+
+    /// The place after the clauses that stay for good.
+    pub fn fixed(&self) -> usize {
+        self.fixed
+    }
+
+    /// Drops all clauses but those that stay for good and those at these places, which rise, and tells where each is then.
+    pub fn keep(&mut self, alloc: Global, places: &[u32]) -> Result<Moves, AllocError> {
+        let old = self.words.split_off(self.fixed.min(self.words.len()))?;
+        let mut moves = Moves::new(alloc, self.fixed, old.len())?;
+        for place in places {
+            let start = (*place as usize).saturating_sub(self.fixed);
+            let length = number_at(&old, start) as usize;
+            if let Some(clause) = old.as_slice().get(start..start + HEAD + length)
+                && let Ok(now) = u32::try_from(self.words.len())
+            {
+                self.words.extend_from_slice(clause)?;
+                moves.set(*place, now);
+            }
+        }
+        Ok(moves)
     }
 
     /// One more clause, and its place; none where there is no number left for that.

@@ -1,6 +1,7 @@
 //! Values of variables, in the order in which they came.
 
 use crate::codes::{NONE, negated, number_at, variable_of};
+use crate::moves::Moves;
 use std::alloc::{AllocError, Global};
 
 /// The value of a literal.
@@ -116,6 +117,13 @@ impl Trail {
     pub fn set_reason(&mut self, variable: usize, reason: u32) {
         if let Some(note) = self.notes.get_mut(variable) {
             note.reason = reason;
+        }
+    }
+
+    /// Follows the clauses that gave values to where they are now.
+    pub fn move_reasons(&mut self, moves: &Moves) {
+        for note in self.notes.iter_mut() {
+            note.reason = moves.place(note.reason).unwrap_or(NONE);
         }
     }
 
