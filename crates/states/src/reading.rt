@@ -120,10 +120,11 @@ fn is_never_fetched(shape: &Shape<'_>, state: &State, taker: &CallShape) -> bool
     }
 }
 
+/// Whether nothing rests any more on the partner by which the send returns: one that is never fetched lets nobody go on.
 fn is_closed_send(shape: &Shape<'_>, state: &State, send: &CallShape, taker: &CallShape) -> bool {
     match send.part {
-        Part::Standard => { shape.policy == Policy::Always || state.is_settled(shape, send.waiter) }
-        Part::Synchronous => {
+        Part::Standard if shape.policy == Policy::Always => true,
+        Part::Standard | Part::Synchronous => {
             is_never_fetched(shape, state, taker) || state.is_settled(shape, send.waiter)
         }
         _ => true,

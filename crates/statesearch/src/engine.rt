@@ -11,6 +11,9 @@ use std::mem;
 /// The longest line that is watched.
 const MOST_WATCHED: usize = 30;
 
+/// The longest clause that a state which it closes shortens by a line of its own.
+const MOST_SHORTENED: usize = 12;
+
 /// What can't be.
 #[derive(Clone, Copy)]
 pub(crate) enum Conflict {
@@ -18,6 +21,17 @@ pub(crate) enum Conflict {
     Clause(u32),
     /// This assumption is false.
     Falsified(u32),
+}
+
+/// What the literals of a clause are.
+#[derive(Clone, Copy)]
+enum Standing {
+    /// All are false.
+    False,
+    /// All but this one, which is open, are false.
+    Unit(u32),
+    /// One is true, or several are open.
+    Open,
 }
 
 /// A clause that says why a conflict can't be.
@@ -153,6 +167,33 @@ impl Engine {
         self.propagate(alloc)
     }
 
+    /// What the clause's literals are.
+    fn standing(&self, clause: u32) -> Standing {
+        let mut open = None;
+        for code in self.store.literals(clause) {
+            if self.trail.is_false(*code) {
+                continue;
+            }
+            if open.is_some() || self.trail.is_true(*code) {
+                return Standing::Open;
+            }
+            open = Some(*code);
+        }
+        match open {
+            Some(code) => Standing::Unit(code),
+            None => Standing::False,
+        }
+    }
+
+    /// Propagates with a clause that needn't be watched, too, and answers which clause is false then.
+    pub(crate) fn apply(&mut self, alloc: Global, clause: u32) -> Result<Option<u32>, AllocError> {
+        match self.standing(clause) {
+            Standing::False => Ok(Some(clause)),
+            Standing::Unit(code) => self.exclude(alloc, negated(code), clause),
+            Standing::Open => Ok(None),
+        }
+    }
+
     /// Has the clauses that wait for level 0 watched.
     fn attach_waiting(&mut self, alloc: Global) -> Result<(), AllocError> {
         let waiting = mem::replace(&mut self.waiting, Vec::new(alloc));
@@ -221,6 +262,11 @@ impl Engine {
         let place = self.store.add(codes, tag, 0)?;
         self.lines.push(place.unwrap_or(NONE))?;
         Ok(place)
+    }
+
+    /// Whether a line that lacks one of the clause's literals is worth its place, as short clauses let much follow.
+    pub(crate) fn is_short(&self, clause: u32) -> bool {
+        self.store.literals(clause).len() <= MOST_SHORTENED
     }
 
     /// Has the clause of a line watched from the next return to level 0 on, unless it is long.

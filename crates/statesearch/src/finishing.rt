@@ -32,16 +32,12 @@ enum Against {
 }
 
 impl<'e> Explorer<'e> {
-    /// The clause of the state below the literal, where it is false.
+    /// The clause of the state below the literal.
     fn clause_below(&self, branch: &Branch) -> Option<u32> {
-        let Some(key) = &branch.key else {
-            return None;
-        };
-        let clause = self.clause_of(key)?;
-        if self.engine.is_false(clause) {
-            return Some(clause);
+        match &branch.key {
+            Some(key) => self.clause_of(key),
+            None => None,
         }
-        None
     }
 
     /// Makes the literal true, and answers which clause is false then.
@@ -54,7 +50,10 @@ impl<'e> Explorer<'e> {
         if conflict.is_some() {
             return Ok(conflict);
         }
-        Ok(self.clause_below(branch))
+        match self.clause_below(branch) {
+            Some(clause) => self.engine.apply(alloc, clause),
+            None => Ok(None),
+        }
     }
 
     /// Writes the line against a literal.
@@ -94,11 +93,13 @@ impl<'e> Explorer<'e> {
         Ok(Against::Closed(written.clause))
     }
 
-    /// Makes a literal false that has no value yet.
+    /// Makes a literal false that has no value yet, and answers the end that this comes to. Where that takes nothing but
+    /// the assumptions, its clause closes the state, too, with no line.
     fn exclude(
         &mut self,
         alloc: Global,
         place: usize,
+        is_first: bool,
         branch: &mut Branch,
         batch: &mut Batch,
     ) -> Result<Excluding, AllocError> {
@@ -109,28 +110,49 @@ impl<'e> Explorer<'e> {
         };
         branch.clause = Some(clause);
         match self.engine.exclude(alloc, branch.literal, clause)? {
+            Some(_) if is_first && !self.engine.is_short(clause) => Ok(Excluding::Closed(clause)),
             Some(conflict) => Ok(Excluding::Conflict(conflict)),
             None => Ok(Excluding::Going),
         }
     }
 
-    /// Makes a literal false.
+    /// Propagates with the clause of the state below the literal, and answers the end that this comes to. Where that
+    /// takes nothing but the assumptions, that clause closes the state, too, with no line.
+    fn propagate_below(
+        &mut self,
+        alloc: Global,
+        is_first: bool,
+        branch: &Branch,
+    ) -> Result<Excluding, AllocError> {
+        let Some(clause) = self.clause_below(branch) else {
+            return Ok(Excluding::Going);
+        };
+        match self.engine.apply(alloc, clause)? {
+            Some(_) if is_first && !self.engine.is_short(clause) => Ok(Excluding::Closed(clause)),
+            Some(conflict) => Ok(Excluding::Conflict(conflict)),
+            None => Ok(Excluding::Going),
+        }
+    }
+
+    /// Makes a literal false: by the clause of the state below it, or else by a line of its own.
     fn take_branch(
         &mut self,
         alloc: Global,
         place: usize,
+        assumed: usize,
         branch: &mut Branch,
         batch: &mut Batch,
     ) -> Result<Excluding, AllocError> {
         if self.engine.trail.is_false(branch.literal) {
             return Ok(Excluding::Going);
         }
-        if self.engine.trail.is_unset(branch.literal) {
-            return self.exclude(alloc, place, branch, batch);
-        }
-        match self.clause_below(branch) {
-            Some(clause) => Ok(Excluding::Conflict(clause)),
-            None => Ok(Excluding::Going),
+        let is_first = self.engine.trail.len() == assumed;
+        match self.propagate_below(alloc, is_first, branch)? {
+            Excluding::Going if self.engine.trail.is_unset(branch.literal) => {
+                let is_first = self.engine.trail.len() == assumed;
+                self.exclude(alloc, place, is_first, branch, batch)
+            }
+            end => Ok(end),
         }
     }
 
@@ -141,9 +163,10 @@ impl<'e> Explorer<'e> {
         branches: &mut [Branch],
         batch: &mut Batch,
     ) -> Result<Excluding, AllocError> {
+        let assumed = self.engine.trail.len();
         let mut place = 0usize;
         for branch in branches.iter_mut() {
-            match self.take_branch(alloc, place, branch, batch)? {
+            match self.take_branch(alloc, place, assumed, branch, batch)? {
                 Excluding::Going => {}
                 end => return Ok(end),
             }

@@ -342,10 +342,13 @@ impl<'e> Explorer<'e> {
         let Some(clause) = self.clause_of(&key) else {
             return Ok(None);
         };
-        if self.engine.trail.level() > 0 || !self.engine.is_false(clause) {
+        if self.engine.trail.level() > 0 {
             return Ok(None);
         }
-        self.close_root(alloc, clause, batch)
+        let Some(conflict) = self.engine.apply(alloc, clause)? else {
+            return Ok(None);
+        };
+        self.close_root(alloc, conflict, batch)
     }
 
     /// Closes the search, or has the learner do so.

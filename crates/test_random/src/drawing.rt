@@ -6,6 +6,20 @@ use crate::line::Line;
 use callorder::{Message, Mode, Pattern};
 use std::alloc::{AllocError, Global};
 
+/// The rank to which all others send.
+const HUB: u32 = 0;
+
+/// Which programs are drawn.
+#[derive(Clone, Copy, PartialEq, Eq)]
+pub enum Family {
+    /// Without probes.
+    Plain,
+    /// With probes.
+    Probing,
+    /// With probes, and all ranks send to rank 0, which takes their messages from any source and answers some.
+    Hub,
+}
+
 /// What a rank has begun and has to end by a later line.
 #[derive(Clone, Copy)]
 enum Pending {
@@ -22,24 +36,26 @@ struct RankLines {
 #[derive(Drop)]
 struct Drawing {
     chance: Chance,
-    /// Whether probes are drawn too.
-    has_probes: bool,
+    family: Family,
     ranks: Vec<RankLines>,
     /// How many requests and handles there are; they count from 1.
     names: u32,
 }
 
-/// The text of the program that is drawn by this seed, with 2 to 4 ranks and 3 to 5 messages, and with probes or without them. Where
-/// lines are swapped or receives dropped, it stays a program.
-pub fn draw(alloc: Global, seed: u64, has_probes: bool) -> Result<String, AllocError> {
+/// The text of the program of this family that is drawn by this seed, with 2 to 4 ranks and 3 to 5 messages; with a hub 3 or 4 ranks, and
+/// each sends one message or two. Where lines are swapped or receives dropped, it stays a program.
+pub fn draw(alloc: Global, seed: u64, family: Family) -> Result<String, AllocError> {
     let mut drawing = Drawing {
         chance: Chance::of_seed(seed),
-        has_probes,
+        family,
         ranks: Vec::new(alloc),
         names: 0,
     };
     drawing.add_ranks(alloc)?;
-    drawing.add_messages()?;
+    match family {
+        Family::Plain | Family::Probing => drawing.add_messages()?,
+        Family::Hub => drawing.add_rounds()?,
+    }
     drawing.end_ranks()?;
     drawing.swap_lines();
     drawing.drop_receive();
@@ -51,7 +67,7 @@ impl Drawing {
     fn draw_mode(&mut self) -> Mode {
         match self.chance.below(4) {
             0 => Mode::Synchronous,
-            1 => Mode::Buffered,
+            1 if self.family != Family::Hub => Mode::Buffered,
             _ => Mode::Standard,
         }
     }
@@ -148,7 +164,10 @@ impl Drawing {
     }
 
     fn add_ranks(&mut self, alloc: Global) -> Result<(), AllocError> {
-        let count = self.chance.below(3).saturating_add(2);
+        let count = match self.family {
+            Family::Plain | Family::Probing => self.chance.below(3).saturating_add(2),
+            Family::Hub => self.chance.below(2).saturating_add(3),
+        };
         for _ in 0..count {
             self.ranks.push(RankLines {
                 lines: Vec::new(alloc),
@@ -177,6 +196,52 @@ impl Drawing {
         let pattern = self.draw_pattern(sender, message);
         self.add_send(sender, message)?;
         self.add_taker(receiver, pattern)
+    }
+
+    /// Adds a message of each rank to the hub, and one more.
+    fn add_rounds(&mut self) -> Result<(), AllocError> {
+        let count = self.rank_count();
+        for rank in 1..count {
+            self.add_round(rank)?;
+        }
+        let further = self.draw_peer(HUB);
+        self.add_round(further)
+    }
+
+    /// Adds a message of this rank to the hub, and once in three times an answer.
+    fn add_round(&mut self, rank: u32) -> Result<(), AllocError> {
+        let communicator = 0;
+        let tag = self.chance.below(2);
+        let pattern = Pattern {
+            source: None,
+            tag: if self.chance.is_once_in(3) {
+                Some(tag)
+            } else {
+                None
+            },
+            communicator,
+        };
+        self.add_send(
+            rank,
+            Message {
+                destination: HUB,
+                tag,
+                communicator,
+            },
+        )?;
+        self.add_taker(HUB, pattern)?;
+        if self.chance.is_once_in(3) {
+            self.add_answer(rank)?;
+        }
+        Ok(())
+    }
+
+    /// Adds a message of the hub to this rank.
+    fn add_answer(&mut self, rank: u32) -> Result<(), AllocError> {
+        let message = self.draw_message(rank);
+        let pattern = self.draw_pattern(HUB, message);
+        self.add_send(HUB, message)?;
+        self.add_taker(rank, pattern)
     }
 
     /// Adds a `sendrecv`, the send of what it receives, and what takes the message that it sends.
@@ -216,7 +281,8 @@ impl Drawing {
     /// Adds a receive, or a matched probe. Where there are probes, one may stand before it, and one behind it.
     fn add_taker(&mut self, rank: u32, pattern: Pattern) -> Result<(), AllocError> {
         self.add_probe(rank, pattern, 3)?;
-        if self.chance.is_once_in(4) {
+        let times = if self.family == Family::Hub { 2 } else { 4 };
+        if self.chance.is_once_in(times) {
             let handle = self.new_name();
             self.add(rank, Line::MatchedProbe { handle, pattern })?;
             self.leave(rank, Pending::Handle(handle))?;
@@ -228,9 +294,14 @@ impl Drawing {
         self.end_some(rank)
     }
 
-    /// Adds a probe, once in so many times, where there are probes.
+    /// Adds a probe, once in so many times, where there are probes; with a hub more rarely.
     fn add_probe(&mut self, rank: u32, pattern: Pattern, times: u32) -> Result<(), AllocError> {
-        if self.has_probes && self.chance.is_once_in(times) {
+        let times = match self.family {
+            Family::Plain => return Ok(()),
+            Family::Probing => times,
+            Family::Hub => times.saturating_mul(4),
+        };
+        if self.chance.is_once_in(times) {
             self.add(rank, Line::Probe { pattern })?;
         }
         Ok(())

@@ -1,6 +1,6 @@
 //! Draws programs by a fixed generator, and compares the answers for each: the prover's by each of its searches, whose evidence the
 //! checker has to accept, and that of a plain exploration of all runs. Prints each program on which they differ, and at the end how many agree: first of programs
-//! without probes, then of programs with probes.
+//! without probes, then of programs with probes, then of programs in which all ranks send to one.
 #![tactic(auto)]
 
 mod chance;
@@ -12,7 +12,7 @@ mod rules;
 mod tally;
 
 use checker::program_of;
-use drawing::draw;
+use drawing::{Family, draw};
 use exploring::{Fate, explore};
 use prover::{Answer, Gate, Options, Searches, Verdict, prove, verdict};
 use std::alloc::Global;
@@ -27,6 +27,9 @@ const PROGRAMS: u64 = 300;
 
 /// How many programs with probes are drawn.
 const PROBING_PROGRAMS: u64 = 100;
+
+/// How many programs with a hub are drawn.
+const HUB_PROGRAMS: u64 = 300;
 
 /// Lets the worker go on at once.
 struct Open;
@@ -49,10 +52,12 @@ fn main(rt: HostRuntime) -> ExitCode {
 
 /// Compares the answers for all programs. Answers whether none differ.
 fn compare_all(rt: &HostRuntime, threads: &(impl Threads + Wait + Sync)) -> io::Result<bool> {
-    let plain_agree = compare_drawn(rt, threads, PROGRAMS, false)?;
+    let plain_agree = compare_drawn(rt, threads, PROGRAMS, Family::Plain)?;
     println!(rt; "with probes:")?;
-    let probing_agree = compare_drawn(rt, threads, PROBING_PROGRAMS, true)?;
-    Ok(plain_agree && probing_agree)
+    let probing_agree = compare_drawn(rt, threads, PROBING_PROGRAMS, Family::Probing)?;
+    println!(rt; "with a hub:")?;
+    let hub_agree = compare_drawn(rt, threads, HUB_PROGRAMS, Family::Hub)?;
+    Ok(plain_agree && probing_agree && hub_agree)
 }
 
 /// Compares the answers for each of so many programs, and prints what was counted. Answers whether none differ.
@@ -60,11 +65,11 @@ fn compare_drawn(
     rt: &HostRuntime,
     threads: &(impl Threads + Wait + Sync),
     programs: u64,
-    has_probes: bool,
+    family: Family,
 ) -> io::Result<bool> {
     let mut tally = Tally::new(rt.alloc());
     for seed in 0..programs {
-        let text = draw(rt.alloc(), seed, has_probes)?;
+        let text = draw(rt.alloc(), seed, family)?;
         compare(rt, threads, &text, &mut tally)?;
     }
     print_tally(rt, &tally)?;

@@ -12,6 +12,13 @@ fn number(word: Option<&str>) -> Result<u32, Trouble> {
     }
 }
 
+fn word(word: Option<&str>) -> Result<&str, Trouble> {
+    match word {
+        Some(word) => Ok(word),
+        None => Err(Trouble::Row("a word is missing")),
+    }
+}
+
 /// The program's text: the words themselves, or those of a family's name with its sizes.
 pub fn text_of(alloc: Global, words: &str) -> Result<String, Trouble> {
     let mut parts = words.split(' ');
@@ -26,7 +33,7 @@ pub fn text_of(alloc: Global, words: &str) -> Result<String, Trouble> {
     let text = match family {
         "star" => star(alloc, senders, number(parts.next())?)?,
         "seen" => seen(alloc, senders)?,
-        "probes" => probes(alloc, senders)?,
+        "probes" => probes(alloc, senders, word(parts.next())?)?,
         "waits" => waits(alloc, senders)?,
         "late" => late_waits(alloc, senders)?,
         "mixed" => mixed(alloc, senders)?,
@@ -79,8 +86,8 @@ fn seen(alloc: Global, senders: u32) -> Result<String, AllocError> {
     Ok(text)
 }
 
-/// Rank 0 takes a message of each by a matched probe, and receives them in the other order.
-fn probes(alloc: Global, senders: u32) -> Result<String, AllocError> {
+/// Rank 0 takes a message of each by a matched probe, and receives them in the other order. They are sent by this call.
+fn probes(alloc: Global, senders: u32, send: &str) -> Result<String, AllocError> {
     let mut text = heading(alloc, senders, "any")?;
     for place in 0..senders {
         write!(text, "mprobe h{place} * 1/")?;
@@ -88,7 +95,9 @@ fn probes(alloc: Global, senders: u32) -> Result<String, AllocError> {
     for place in (0..senders).rev() {
         write!(text, "mrecv h{place}/")?;
     }
-    push_senders(&mut text, senders, "ssend 0 1/")?;
+    for rank in 1..=senders {
+        write!(text, "rank {rank}/{send} 0 1/")?;
+    }
     Ok(text)
 }
 
