@@ -2,9 +2,10 @@
 
 ghost use Rattle.semantics.specs.Machine.{IsStuckRun};
 
-use crate::cause::{lacking, lacks_of, put_a_cycle};
+use crate::cause::{lacking, lacks_of};
 use crate::decisions::decisions;
 use crate::exchanged::exchanged;
+use crate::links::put_a_cycle;
 use crate::placing::{Scene, put_part};
 use crate::replaying::end_of;
 use crate::standings::standings;

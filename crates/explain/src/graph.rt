@@ -2,106 +2,199 @@
 
 ghost use Rattle.semantics.specs.Machine.{IsStuckRun};
 
-use crate::placing::are_several;
+use crate::cause::lacks;
+use crate::links::{cycle_of, next_on};
+use crate::missing::{MOST_MISSES, likely_misses};
+use crate::placing::{Scene, are_in_one_line, are_several, put_line};
 use crate::replaying::end_of;
-use callorder::{Kind, Mode, Program};
-use semantics::{State, Step};
+use crate::written::written_calls;
+use callorder::Program;
+use calltext::Source;
+use misses::{Part, misses_in};
+use semantics::Step;
 use std::alloc::{AllocError, Global};
-use waits::{Standing, awaited, standing_of};
+use waits::{Need, Standing, awaited, need_of, operation_of, standing_of};
 
-/// The word of a send.
-fn send_word(mode: Mode, blocking: bool) -> &'static str {
-    match (mode, blocking) {
-        (Mode::Standard, true) => "send",
-        (Mode::Standard, false) => "isend",
-        (Mode::Synchronous, true) => "ssend",
-        (Mode::Synchronous, false) => "issend",
-        (Mode::Buffered, true) => "bsend",
-        (Mode::Buffered, false) => "ibsend",
+/// The most ranks that are laid out in layers.
+const MOST_LAYERED: u32 = 16;
+
+/// Adds how the graph is laid out: of many ranks on a circle.
+fn put_layout(out: &mut String, ranks: u32) -> Result<(), AllocError> {
+    if ranks <= MOST_LAYERED {
+        return Ok(());
+    }
+    out.push_str("  layout=circo;\n")
+}
+
+/// How the node of a rank is drawn that waits: red where it is on the cycle, with a double border where nothing can come.
+fn node_style(program: &Program, scene: &Scene, ranks: &[u32], rank: u32) -> &'static str {
+    if next_on(ranks, rank).is_some() {
+        return ", color=red";
+    }
+    if lacks(program, scene, rank) {
+        ", peripheries=2"
+    } else {
+        ""
     }
 }
 
-/// The word of a call, as a program's text has it. The parts of a `sendrecv` are told as nonblocking calls and waits.
-fn word_of(kind: &Kind) -> &'static str {
-    match kind {
-        Kind::Send { mode, blocking, .. } => send_word(*mode, *blocking),
-        Kind::Receive { blocking: true, .. } => "recv",
-        Kind::Receive { .. } => "irecv",
-        Kind::MatchedProbe { .. } => "mprobe",
-        Kind::Probe { .. } => "probe",
-        Kind::MatchedReceive { blocking: true } => "mrecv",
-        Kind::MatchedReceive { .. } => "imrecv",
-        Kind::Wait { .. } => "wait",
+/// Adds the lines of a node's label: that of the call that its rank waits in, and that of the operation that this waits for, where it
+/// stands in another line.
+fn put_label(
+    out: &mut String,
+    program: &Program,
+    scene: &Scene,
+    call: usize,
+) -> Result<(), AllocError> {
+    put_line(out, &scene.calls, call)?;
+    let operation = operation_of(program, call);
+    if are_in_one_line(&scene.calls, call, operation) {
+        return Ok(());
     }
+    out.push_str("\\nfor ")?;
+    put_line(out, &scene.calls, operation)
 }
 
 /// Adds the node of a rank: a box where it is finished, else with the call that it waits in.
 fn put_node(
     out: &mut String,
     program: &Program,
-    state: &State,
+    scene: &Scene,
+    ranks: &[u32],
     rank: u32,
 ) -> Result<(), AllocError> {
-    match standing_of(program, state, rank) {
-        Standing::Waits { call } => put_waiting(out, program, rank, call),
-        _ => writeln!(
-            out,
-            "  r{rank} [shape=box, label=\"rank {rank}\\nfinished\"];"
-        ),
-    }
+    let Standing::Waits { call } = standing_of(program, &scene.state, rank) else {
+        write!(out, "  r{rank} [shape=box, label=\"rank {rank}\\n")?;
+        return out.push_str("finished\"];\n");
+    };
+    write!(out, "  r{rank} [label=\"rank {rank}\\n")?;
+    put_label(out, program, scene, call)?;
+    out.push('"')?;
+    out.push_str(node_style(program, scene, ranks, rank))?;
+    out.push_str("];\n")
 }
 
-/// Adds the node of a rank that waits in a call.
-fn put_waiting(
-    out: &mut String,
-    program: &Program,
-    rank: u32,
-    call: usize,
-) -> Result<(), AllocError> {
-    let Some(known) = program.call(call) else {
-        return Ok(());
-    };
-    let number = call.saturating_add(1);
-    let word = word_of(&known.kind);
-    writeln!(
-        out,
-        "  r{rank} [label=\"rank {rank}\\ncall {number}: {word}\"];"
-    )
+/// How an edge is drawn: dashed where it is one of several, red where it is on the cycle.
+fn edge_style(is_one_of_several: bool, is_on_cycle: bool) -> &'static str {
+    match (is_one_of_several, is_on_cycle) {
+        (false, false) => "",
+        (false, true) => " [color=red]",
+        (true, false) => " [style=dashed]",
+        (true, true) => " [style=dashed, color=red]",
+    }
 }
 
 /// Adds the edges from a rank.
 fn put_edges(
     out: &mut String,
     program: &Program,
-    state: &State,
+    scene: &Scene,
+    ranks: &[u32],
     rank: u32,
 ) -> Result<(), AllocError> {
-    let awaited = awaited(program, state, rank);
-    let style = if are_several(&awaited) {
-        " [style=dashed]"
-    } else {
-        ""
-    };
+    let awaited = awaited(program, &scene.state, rank);
+    let are_several = are_several(&awaited);
+    let next = next_on(ranks, rank);
     for other in 0..program.ranks() {
         if awaited.contains(other) {
+            let style = edge_style(are_several, next == Some(other));
             writeln!(out, "  r{rank} -> r{other}{style};")?;
         }
     }
     Ok(())
 }
 
-/// The graph of who waits for whom at the end of a run that ends stuck, in the language of Graphviz: a node for each
-/// rank, a box where it is finished; an edge for each rank that is waited for, solid where that rank is needed and dashed
-/// where any of several is enough. The only error is want of memory.
-pub fn wait_graph(alloc: Global, program: &Program, steps: &[Step]) -> Result<Vec<u8>, AllocError>
+/// What is another one than it would have to be, in words.
+fn part_word(part: Part) -> &'static str {
+    match part {
+        Part::Destination => "destination",
+        Part::Communicator => "communicator",
+        Part::Source => "source",
+        Part::Tag => "tag",
+    }
+}
+
+/// Adds the edge from a rank to that of a call that misses an operation.
+fn put_near_miss(
+    out: &mut String,
+    program: &Program,
+    scene: &Scene,
+    rank: u32,
+    operation: usize,
+    other: usize,
+) -> Result<(), AllocError> {
+    let (Some(part), Some(written)) = (misses_in(program, operation, other), scene.calls.get(other))
+    else {
+        return Ok(());
+    };
+    let owner = written.rank;
+    let line = written.line;
+    write!(out, "  r{rank} -> r{owner} [style=dashed, color=gray, ")?;
+    write!(out, "label=\"line {line}: other ")?;
+    out.push_str(part_word(part))?;
+    out.push_str("\"];\n")
+}
+
+/// Adds an edge from a rank for each near miss of the call that it waits in, where this waits for a match.
+fn put_near_misses(
+    out: &mut String,
+    alloc: Global,
+    program: &Program,
+    scene: &Scene,
+    rank: u32,
+) -> Result<(), AllocError> {
+    let Standing::Waits { call } = standing_of(program, &scene.state, rank) else {
+        return Ok(());
+    };
+    let operation = operation_of(program, call);
+    let Some(Need::Match) = need_of(program, &scene.state, operation) else {
+        return Ok(());
+    };
+    let likely = likely_misses(alloc, program, scene, operation)?;
+    for other in likely.iter().take(MOST_MISSES) {
+        put_near_miss(out, program, scene, rank, operation, *other)?;
+    }
+    Ok(())
+}
+
+/// Adds the nodes of all ranks, and the edges from them.
+fn put_ranks(
+    out: &mut String,
+    alloc: Global,
+    program: &Program,
+    scene: &Scene,
+    ranks: &[u32],
+) -> Result<(), AllocError> {
+    for rank in 0..program.ranks() {
+        put_node(out, program, scene, ranks, rank)?;
+        put_edges(out, program, scene, ranks, rank)?;
+        put_near_misses(out, alloc, program, scene, rank)?;
+    }
+    Ok(())
+}
+
+/// The graph of who waits for whom at the end of a run that ends stuck, in the language of Graphviz: a node for each rank with the line
+/// and the words of the call that it waits in, a box where it is finished, and with a double border where nothing can come; an edge for
+/// each rank that is waited for, solid where that rank is needed and dashed where any of several is enough; the nodes and the edges of a
+/// cycle in red; and dashed grey edges to near misses. More than 16 ranks are laid out on a circle. `text` is the program's text, `source`
+/// what it says, and `program` its calls. The only error is want of memory.
+pub fn wait_graph(
+    alloc: Global,
+    text: &[u8],
+    source: &Source,
+    program: &Program,
+    steps: &[Step],
+) -> Result<Vec<u8>, AllocError>
     requires { IsStuckRun program.now steps.now }
 {
-    let state = end_of(alloc, program, steps)?;
+    let scene = Scene {
+        calls: written_calls(alloc, text, source, program)?,
+        state: end_of(alloc, program, steps)?,
+    };
+    let ranks = cycle_of(alloc, program, &scene)?;
     let mut out = String::from_str(alloc, "digraph waits {\n")?;
-    for rank in 0..program.ranks() {
-        put_node(&mut out, program, &state, rank)?;
-        put_edges(&mut out, program, &state, rank)?;
-    }
+    put_layout(&mut out, program.ranks())?;
+    put_ranks(&mut out, alloc, program, &scene, &ranks)?;
     out.push_str("}\n")?;
     Ok(out.into_bytes())
 }

@@ -9,6 +9,7 @@ mod decisions;
 mod exchanged;
 mod explaining;
 mod graph;
+mod links;
 mod missing;
 mod numbering;
 mod placing;

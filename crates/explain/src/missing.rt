@@ -6,7 +6,7 @@ use misses::{Part, misses_in, near_misses};
 use std::alloc::{AllocError, Global};
 
 /// The most near misses of one call that are told.
-const MOST_MISSES: usize = 2;
+pub const MOST_MISSES: usize = 2;
 
 /// Tells what a send does, as far as a part is concerned.
 fn put_sent(out: &mut String, message: &Message, part: Part) -> Result<(), AllocError> {
@@ -88,7 +88,7 @@ fn put_miss(
 }
 
 /// The near misses of an operation: those whose ranks have come to them, or all, where no rank has.
-fn likely_misses(
+pub fn likely_misses(
     alloc: Global,
     program: &Program,
     scene: &Scene,

@@ -24,6 +24,22 @@ pub fn put_call(out: &mut String, calls: &[Written], call: usize) -> Result<(), 
     Ok(())
 }
 
+/// Tells a call by its line alone.
+pub fn put_line(out: &mut String, calls: &[Written], call: usize) -> Result<(), AllocError> {
+    match calls.get(call) {
+        None => Ok(()),
+        Some(written) => written.put_line(out),
+    }
+}
+
+/// Whether two calls stand in one line.
+pub fn are_in_one_line(calls: &[Written], one: usize, other: usize) -> bool {
+    match (calls.get(one), calls.get(other)) {
+        (Some(one), Some(other)) => one.line == other.line,
+        _ => false,
+    }
+}
+
 /// Tells a call by its number, its line and its rank.
 pub fn put_call_of(out: &mut String, calls: &[Written], call: usize) -> Result<(), AllocError> {
     if let Some(written) = calls.get(call) {

@@ -30,6 +30,16 @@ pub struct Written {
     part: &'static str,
 }
 
+impl Written {
+    /// Adds the number of the call's line, and its words.
+    pub fn put_line(&self, out: &mut String) -> Result<(), AllocError> {
+        let line = self.line;
+        write!(out, "line {line}: ")?;
+        out.push_str(&self.words)?;
+        out.push_str(self.part)
+    }
+}
+
 impl fmt::Display for Written {
     fn fmt<W: fmt::Write>(&self, f: &mut fmt::Formatter<W>) -> fmt::Result {
         write!(f, "call {}", self.number)?;

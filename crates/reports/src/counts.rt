@@ -1,8 +1,10 @@
-//! What is told of a refutation.
+//! What is told of a program and its refutation.
 
 ghost use Rattle.std.specs.Prelude.{◌≡◌, ◌++◌, IfOk, OnOk};
-ghost use Rattle.reports.specs.Explanations.{count_line, counts_text, end_of, front_of, leaves};
+ghost use Rattle.reports.specs.Explanations.{choice_lines, claim_lines, count_line, counts_text, end_of, front_of, leaves, size_lines};
 
+use crate::sizes::{choices, messages, open_sends};
+use callorder::Program;
 use prooflog::Refutation;
 use refutations::Node;
 use std::alloc::{AllocError, Global};
@@ -49,25 +51,78 @@ fn put_count(
     Ok(())
 }
 
-/// The text that tells a refutation's size: as lines, or as a graph without a node, with the lines as comments.
+/// Adds the lines on the size of a program.
+fn put_sizes(
+    alloc: Global,
+    out: &mut Vec<u8>,
+    front: &str,
+    program: &Program,
+) -> Result<(), AllocError>
+    ensures { OnOk result (out.new.items ≡ out.old.items ++ size_lines front.now program.now) }
+{
+    let ranks = program.ranks() as usize;
+    put_count(alloc, out, front, "ranks ", ranks)?;
+    put_count(alloc, out, front, "calls ", program.calls().len())?;
+    let messages = messages(program.calls());
+    put_count(alloc, out, front, "messages ", messages)
+}
+
+/// Adds the lines on what a program leaves open.
+fn put_choices(
+    alloc: Global,
+    out: &mut Vec<u8>,
+    front: &str,
+    program: &Program,
+) -> Result<(), AllocError>
+    ensures { OnOk result (out.new.items ≡ out.old.items ++ choice_lines front.now program.now) }
+{
+    let choices = choices(program.calls());
+    put_count(alloc, out, front, "wildcards with a choice ", choices)?;
+    let sends = open_sends(program.policy(), program.calls());
+    put_count(
+        alloc,
+        out,
+        front,
+        "sends that may be buffered or not ",
+        sends,
+    )
+}
+
+/// Adds the lines on a refutation.
+fn put_claim(
+    alloc: Global,
+    out: &mut Vec<u8>,
+    front: &str,
+    refutation: &Refutation,
+) -> Result<(), AllocError>
+    ensures { OnOk result (out.new.items ≡ out.old.items ++ claim_lines front.now refutation.now) }
+{
+    let variables = refutation.variables() as usize;
+    put_count(alloc, out, front, "variables ", variables)?;
+    let clauses = refutation.clauses() as usize;
+    put_count(alloc, out, front, "clauses ", clauses)?;
+    put_count(alloc, out, front, "lines ", refutation.lines().len())?;
+    let leaves = leaves(refutation.tree().nodes());
+    put_count(alloc, out, front, "leaves ", leaves)
+}
+
+/// The text that tells the numbers of a program and of what refutes it: as lines, or as a graph without a node, with the lines as
+/// comments.
 pub fn counts_text(
     alloc: Global,
+    program: &Program,
     refutation: &Refutation,
     graph: bool,
 ) -> Result<Vec<u8>, AllocError>
-    ensures { IfOk result (λ text. text.items ≡ counts_text graph refutation.now) }
+    ensures { IfOk result (λ text. text.items ≡ counts_text graph program.now refutation.now) }
 {
     let front = front_of(graph);
     let mut out = Vec::new(alloc);
     out.extend_from_slice(front.as_bytes())?;
     out.extend_from_slice(b"no deadlock\n")?;
-    let variables = refutation.variables() as usize;
-    put_count(alloc, &mut out, front, "variables ", variables)?;
-    let clauses = refutation.clauses() as usize;
-    put_count(alloc, &mut out, front, "clauses ", clauses)?;
-    put_count(alloc, &mut out, front, "lines ", refutation.lines().len())?;
-    let leaves = leaves(refutation.tree().nodes());
-    put_count(alloc, &mut out, front, "leaves ", leaves)?;
+    put_sizes(alloc, &mut out, front, program)?;
+    put_choices(alloc, &mut out, front, program)?;
+    put_claim(alloc, &mut out, front, refutation)?;
     out.extend_from_slice(end_of(graph).as_bytes())?;
     Ok(out)
 }

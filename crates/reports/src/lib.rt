@@ -6,6 +6,7 @@ mod counts;
 mod explained;
 mod exported;
 mod laws;
+mod sizes;
 mod trimmed;
 
 pub use explained::{Explained, explain_evidence};
