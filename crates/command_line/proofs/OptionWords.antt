@@ -1,13 +1,13 @@
 -- Words in other orders, with every option.
-use Rattle.std.proofs.Common.{◌≡◌, ◌∙◌, ap, refl, true, false, List, [], ◌∷◌, Some, codes}
+use Rattle.std.proofs.Common.{◌≡◌, ◌∙◌, ap, refl, true, false, List, [], ◌∷◌, Some, None, codes}
 use Rattle.std.specs.Prelude.{fold, unwrap_or, Option}
 use Rattle.clap.specs.Lexer.{without_minus}
 use Rattle.clap.specs.Words.{Text}
 use Rattle.clap.specs.Walk.{Walk, finished, walked}
 use Rattle.clap.proofs.OnLiterals.{clap_on_literals}
-use Rattle.command_line.specs.Requests.{Task, number_of, to_check, to_prove}
+use Rattle.command_line.specs.Requests.{Task, number_of, to_check, to_explain, to_prove}
 use Rattle.command_line.specs.UsualWords.{OptionWordsAreRead, begins_with_hyphen}
-use Rattle.command_line.proofs.PlainWords.{after_free, check_rules, check_walk, made_check, made_prove, prove_rules, read_by, start, two_words, unstripped, walked_free}
+use Rattle.command_line.proofs.PlainWords.{after_free, check_rules, check_walk, explain_alone_walk, explain_rules, explain_word, made_check, made_explain, made_prove, prove_rules, read_by, start, two_words, unstripped, walked_free}
 use Rattle.command_line.proofs.ReadTasks.{read}
 
 -- ---- check
@@ -147,6 +147,46 @@ last_read : (p file workers depth budget : Text) → begins_with_hyphen workers 
 unfolding clap_on_literals
 last_read p file workers depth budget fw fd fb = λ i. all_options p file (bare workers fw i) (bare depth fd i) (bare budget fb i)
 
+-- ---- explain
+
+-- an option and its value
+abbrev explain_valued : Walk → Text → Text → Walk
+explain_valued w option value = after_free explain_rules (walked explain_rules [] w option) value
+
+abbrev three : Walk → Text → Text → Text → Walk
+three w workers depth budget =
+    explain_valued (explain_valued (explain_valued w (codes "--workers") workers) (codes "--depth") depth) (codes "--budget") budget
+
+-- the options after the program, and then `--dot`
+abbrev explain_words : Text → Text → Text → Text → List Text
+explain_words p workers depth budget =
+    p ∷ codes "--workers" ∷ workers ∷ codes "--depth" ∷ depth ∷ codes "--budget" ∷ budget ∷ codes "--dot" ∷ []
+
+abbrev explain_last : Text → Text → Text → Text → Walk
+explain_last p workers depth budget = walked explain_rules [] (three (explain_word p) workers depth budget) (codes "--dot")
+
+explain_last_walk : (p workers depth budget : Text) → begins_with_hyphen p ≡ false → begins_with_hyphen workers ≡ false
+    → begins_with_hyphen depth ≡ false → begins_with_hyphen budget ≡ false
+    → fold (walked explain_rules []) start (explain_words p workers depth budget) ≡ explain_last p workers depth budget
+unfolding clap_on_literals
+explain_last_walk p workers depth budget fp fw fd fb =
+    let one = explain_valued (explain_word p) (codes "--workers") workers in
+    let two = explain_valued one (codes "--depth") depth in
+    ap (λ (w : Walk). walked explain_rules [] w (codes "--dot"))
+    (ap (λ (w : Walk). walked explain_rules [] (walked explain_rules [] w (codes "--budget")) budget)
+    (ap (λ (w : Walk). walked explain_rules [] (walked explain_rules [] w (codes "--depth")) depth)
+    (ap (λ (w : Walk). walked explain_rules [] (walked explain_rules [] w (codes "--workers")) workers) (explain_alone_walk p fp)
+    ∙ walked_free explain_rules (walked explain_rules [] (explain_word p) (codes "--workers")) workers refl refl fw)
+    ∙ walked_free explain_rules (walked explain_rules [] one (codes "--depth")) depth refl refl fd)
+    ∙ walked_free explain_rules (walked explain_rules [] two (codes "--budget")) budget refl refl fb)
+
+explain_last_read : (p workers depth budget : Text) → begins_with_hyphen workers ≡ false → begins_with_hyphen depth ≡ false → begins_with_hyphen budget ≡ false
+    → read (codes "explain") (finished explain_rules (explain_last p workers depth budget).held)
+    ≡ to_explain p None (number_of workers) (number_of depth) (number_of budget) true
+unfolding clap_on_literals
+explain_last_read p workers depth budget fw fd fb =
+    λ i. to_explain p None (number_of (bare workers fw i)) (number_of (bare depth fd i)) (number_of (bare budget fb i)) true
+
 pub option_words_are_read : OptionWordsAreRead
 option_words_are_read = record {
   check_json_first = λ name p e task fp fe asks.
@@ -166,4 +206,8 @@ option_words_are_read = record {
       read_by (codes "prove") prove_rules (p ∷ option_words file workers depth budget []) (options_last p file workers depth budget) task
       (all_options p file workers depth budget) (last_walk p file workers depth budget fp ff fw fd fb)
       (made_prove name (p ∷ option_words file workers depth budget []) task asks.named) (last_read p file workers depth budget fw fd fb);
+  explain_options_last = λ name p workers depth budget task fp fw fd fb asks.
+      read_by (codes "explain") explain_rules (explain_words p workers depth budget) (explain_last p workers depth budget) task
+      (to_explain p None (number_of workers) (number_of depth) (number_of budget) true) (explain_last_walk p workers depth budget fp fw fd fb)
+      (made_explain name (explain_words p workers depth budget) task asks.named) (explain_last_read p workers depth budget fw fd fb);
 }

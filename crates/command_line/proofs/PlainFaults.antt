@@ -14,7 +14,7 @@ use Rattle.command_line.specs.CommandLine.{command_line}
 use Rattle.command_line.specs.UsualWords.{PlainWordsAreFaultless, SpellsPieces, begins_with_hyphen}
 use Rattle.command_line.proofs.OptionWords.{pieces_last, pieces_walk}
 use Rattle.command_line.proofs.PieceWords.{pieces_are_free, pieces_pass}
-use Rattle.command_line.proofs.PlainWords.{after_free, check_rules, check_walk, encode_rules, encode_walk, encode_word, explain_rules, explain_walk, export_out, export_out_walk, export_rules, export_walk, free_met, no_dashes, no_long, no_short, out_walk, prove_out, prove_rules, prove_walk, prove_word, replay_rules, replay_walk, start, trim_out, trim_out_walk, trim_rules, trim_walk, trim_word, two_words, walked_free}
+use Rattle.command_line.proofs.PlainWords.{after_free, check_rules, check_walk, encode_rules, encode_walk, encode_word, explain_alone_walk, explain_rules, explain_walk, explain_word, export_out, export_out_walk, export_rules, export_walk, free_met, no_dashes, no_long, no_short, out_walk, prove_out, prove_rules, prove_walk, prove_word, replay_rules, replay_walk, start, trim_out, trim_out_walk, trim_rules, trim_walk, trim_word, two_words, walked_free}
 
 -- ---- one free word
 
@@ -262,6 +262,22 @@ explain_dot_leaf p e fp fe =
     leaf_by_walk explain_shape (p ∷ e ∷ codes "--dot" ∷ []) (walked explain_rules [] (two_words explain_rules p e) (codes "--dot")) turns
     (ap (λ (w : Walk). walked explain_rules [] w (codes "--dot")) (explain_walk p e fp fe))
 
+explain_alone_leaf : (p : Text) → begins_with_hyphen p ≡ false → leaf_fault explain_shape (p ∷ []) ≡ []
+unfolding clap_on_literals
+explain_alone_leaf p fp =
+    let turns : walk_fault explain_shape [] start (p ∷ []) ≡ [] = ap (λ (a : Kinds). or_else a []) (explain_first p fp) in
+    leaf_by_walk explain_shape (p ∷ []) (explain_word p) turns (explain_alone_walk p fp)
+
+explain_alone_dot_leaf : (p : Text) → begins_with_hyphen p ≡ false → leaf_fault explain_shape (p ∷ codes "--dot" ∷ []) ≡ []
+unfolding clap_on_literals
+explain_alone_dot_leaf p fp =
+    let second : turn_fault explain_shape [] (walked explain_rules [] start p) (codes "--dot") ≡ [] =
+    ap (λ (w : Walk). turn_fault explain_shape [] w (codes "--dot")) (explain_alone_walk p fp) in
+    let turns : walk_fault explain_shape [] start (p ∷ codes "--dot" ∷ []) ≡ [] =
+    ap₂ (λ (a b : Kinds). or_else a (or_else b [])) (explain_first p fp) second in
+    leaf_by_walk explain_shape (p ∷ codes "--dot" ∷ []) (walked explain_rules [] (explain_word p) (codes "--dot")) turns
+    (ap (λ (w : Walk). walked explain_rules [] w (codes "--dot")) (explain_alone_walk p fp))
+
 prove_first : (p : Text) → begins_with_hyphen p ≡ false → turn_fault prove_shape [] start p ≡ []
 unfolding clap_on_literals
 prove_first p fp = turn_at_rest prove_shape start p fp
@@ -356,6 +372,15 @@ pub explain_dot_faultless : (name p e : Text) → begins_with_hyphen p ≡ false
 unfolding clap_on_literals
 explain_dot_faultless name p e fp fe = ap (whole_fault (codes "explain" ∷ p ∷ e ∷ codes "--dot" ∷ [])) (explain_dot_leaf p e fp fe)
 
+pub explain_alone_faultless : (name p : Text) → begins_with_hyphen p ≡ false → fault_of command_line (name ∷ codes "explain" ∷ p ∷ []) ≡ []
+unfolding clap_on_literals
+explain_alone_faultless name p fp = ap (whole_fault (codes "explain" ∷ p ∷ [])) (explain_alone_leaf p fp)
+
+pub explain_alone_dot_faultless : (name p : Text) → begins_with_hyphen p ≡ false
+    → fault_of command_line (name ∷ codes "explain" ∷ p ∷ codes "--dot" ∷ []) ≡ []
+unfolding clap_on_literals
+explain_alone_dot_faultless name p fp = ap (whole_fault (codes "explain" ∷ p ∷ codes "--dot" ∷ [])) (explain_alone_dot_leaf p fp)
+
 pub replay_faultless : (name p e : Text) → begins_with_hyphen p ≡ false → begins_with_hyphen e ≡ false
     → fault_of command_line (name ∷ codes "replay" ∷ p ∷ e ∷ []) ≡ []
 unfolding clap_on_literals
@@ -393,6 +418,8 @@ plain_words_are_faultless = record {
   trim_as_json = trim_json_faultless;
   explain = explain_faultless;
   explain_dot = explain_dot_faultless;
+  explain_alone = explain_alone_faultless;
+  explain_alone_dot = explain_alone_dot_faultless;
   prove = prove_faultless;
   prove_as_json = prove_json_faultless;
   prove_progress = prove_progress_faultless;

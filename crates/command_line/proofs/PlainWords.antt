@@ -129,6 +129,12 @@ export_out_walk program evidence file p e f =
 abbrev pub prove_word : Text → Walk
 prove_word program = after_free prove_rules start program
 
+abbrev pub explain_word : Text → Walk
+explain_word program = after_free explain_rules start program
+
+pub explain_alone_walk : (program : Text) → begins_with_hyphen program ≡ false → walked explain_rules [] start program ≡ explain_word program
+explain_alone_walk program p = walked_free explain_rules start program refl refl p
+
 -- the walk after a program's name
 abbrev pub encode_word : Text → Walk
 encode_word program = after_free encode_rules start program
@@ -196,13 +202,21 @@ of_encode_dimacs : (p : Text) → read (codes "encode") (finished encode_rules (
 unfolding clap_on_literals
 of_encode_dimacs p = refl
 
-of_explain : (p e : Text) → read (codes "explain") (finished explain_rules (two_words explain_rules p e).held) ≡ to_explain p e false
+of_explain : (p e : Text) → read (codes "explain") (finished explain_rules (two_words explain_rules p e).held) ≡ to_explain p (Some e) 4 4 1000000 false
 unfolding clap_on_literals
 of_explain p e = refl
 
-of_explain_dot : (p e : Text) → read (codes "explain") (finished explain_rules (walked explain_rules [] (two_words explain_rules p e) (codes "--dot")).held) ≡ to_explain p e true
+of_explain_dot : (p e : Text) → read (codes "explain") (finished explain_rules (walked explain_rules [] (two_words explain_rules p e) (codes "--dot")).held) ≡ to_explain p (Some e) 4 4 1000000 true
 unfolding clap_on_literals
 of_explain_dot p e = refl
+
+of_explain_alone : (p : Text) → read (codes "explain") (finished explain_rules (explain_word p).held) ≡ to_explain p None 4 4 1000000 false
+unfolding clap_on_literals
+of_explain_alone p = refl
+
+of_explain_alone_dot : (p : Text) → read (codes "explain") (finished explain_rules (walked explain_rules [] (explain_word p) (codes "--dot")).held) ≡ to_explain p None 4 4 1000000 true
+unfolding clap_on_literals
+of_explain_alone_dot p = refl
 
 of_export : (p e file : Text) → read (codes "export") (finished export_rules (export_out p e file).held) ≡ to_export p e file
 unfolding clap_on_literals
@@ -247,7 +261,7 @@ made_encode : (name : Text) (words : List Text) (task : Task) → NamesTask (nam
 unfolding clap_on_literals
 made_encode name words task asks = at name (codes "encode") words task refl asks
 
-made_explain : (name : Text) (words : List Text) (task : Task) → NamesTask (name ∷ codes "explain" ∷ words) task
+pub made_explain : (name : Text) (words : List Text) (task : Task) → NamesTask (name ∷ codes "explain" ∷ words) task
     → Makes (codes "explain") (finished explain_rules (fold (walked explain_rules []) start words).held) task
 unfolding clap_on_literals
 made_explain name words task asks = at name (codes "explain") words task refl asks
@@ -285,11 +299,17 @@ plain_words_are_read = record {
       read_by (codes "encode") encode_rules (p ∷ codes "--dimacs" ∷ []) (walked encode_rules [] (encode_word p) (codes "--dimacs")) task (to_encode p true) (ap (λ (w : Walk). walked encode_rules [] w (codes "--dimacs")) (encode_walk p fp))
       (made_encode name (p ∷ codes "--dimacs" ∷ []) task asks.named) (of_encode_dimacs p);
   explain = λ name p e task fp fe asks.
-      read_by (codes "explain") explain_rules (p ∷ e ∷ []) (two_words explain_rules p e) task (to_explain p e false) (explain_walk p e fp fe)
+      read_by (codes "explain") explain_rules (p ∷ e ∷ []) (two_words explain_rules p e) task (to_explain p (Some e) 4 4 1000000 false) (explain_walk p e fp fe)
       (made_explain name (p ∷ e ∷ []) task asks.named) (of_explain p e);
   explain_dot = λ name p e task fp fe asks.
-      read_by (codes "explain") explain_rules (p ∷ e ∷ codes "--dot" ∷ []) (walked explain_rules [] (two_words explain_rules p e) (codes "--dot")) task (to_explain p e true) (ap (λ (w : Walk). walked explain_rules [] w (codes "--dot")) (explain_walk p e fp fe))
+      read_by (codes "explain") explain_rules (p ∷ e ∷ codes "--dot" ∷ []) (walked explain_rules [] (two_words explain_rules p e) (codes "--dot")) task (to_explain p (Some e) 4 4 1000000 true) (ap (λ (w : Walk). walked explain_rules [] w (codes "--dot")) (explain_walk p e fp fe))
       (made_explain name (p ∷ e ∷ codes "--dot" ∷ []) task asks.named) (of_explain_dot p e);
+  explain_alone = λ name p task fp asks.
+      read_by (codes "explain") explain_rules (p ∷ []) (explain_word p) task (to_explain p None 4 4 1000000 false) (explain_alone_walk p fp)
+      (made_explain name (p ∷ []) task asks.named) (of_explain_alone p);
+  explain_alone_dot = λ name p task fp asks.
+      read_by (codes "explain") explain_rules (p ∷ codes "--dot" ∷ []) (walked explain_rules [] (explain_word p) (codes "--dot")) task (to_explain p None 4 4 1000000 true) (ap (λ (w : Walk). walked explain_rules [] w (codes "--dot")) (explain_alone_walk p fp))
+      (made_explain name (p ∷ codes "--dot" ∷ []) task asks.named) (of_explain_alone_dot p);
   export = λ name p e file task fp fe ffile asks.
       read_by (codes "export") export_rules (p ∷ e ∷ codes "--out" ∷ file ∷ []) (export_out p e file) task (to_export p e file) (export_out_walk p e file fp fe ffile)
       (made_export name (p ∷ e ∷ codes "--out" ∷ file ∷ []) task asks.named) (of_export p e file);

@@ -28,7 +28,8 @@ read name rows =
     else (if bytes_eq name (codes "encode")
     then to_encode (text_in (first_of (codes "PROGRAM") rows)) (is_true (one_of (codes "dimacs") rows))
     else (if bytes_eq name (codes "explain")
-    then to_explain (text_in (first_of (codes "PROGRAM") rows)) (text_in (first_of (codes "EVIDENCE") rows)) (is_true (one_of (codes "dot") rows))
+    then to_explain (text_in (first_of (codes "PROGRAM") rows)) (first_of (codes "EVIDENCE") rows) (number_in (one_of (codes "workers") rows))
+    (number_in (one_of (codes "depth") rows)) (number_in (one_of (codes "budget") rows)) (is_true (one_of (codes "dot") rows))
     else (if bytes_eq name (codes "export")
     then to_export (text_in (first_of (codes "PROGRAM") rows)) (text_in (first_of (codes "EVIDENCE") rows)) (text_in (first_of (codes "out") rows))
     else to_trim (text_in (first_of (codes "EVIDENCE") rows)) (text_in (first_of (codes "out") rows)) (is_true (one_of (codes "json") rows)))))))
@@ -56,9 +57,10 @@ is_read name rows (to_replay p e) makes =
 is_read name rows (to_encode p dimacs) makes =
     let v = makes.values in
     (λ i. to_encode (given _ p v.0 i) (v.1 i)) ∙ ap (λ (n : Text). read n rows) (sym makes.command)
-is_read name rows (to_explain p e graph) makes =
+is_read name rows (to_explain p e w d b graph) makes =
     let v = makes.values in
-    (λ i. to_explain (given _ p v.0 i) (given _ e v.1 i) (v.2 i)) ∙ ap (λ (n : Text). read n rows) (sym makes.command)
+    (λ i. to_explain (given _ p v.0 i) (sym v.1 i) (spelled rows (codes "workers") w v.2 i) (spelled rows (codes "depth") d v.3 i)
+    (spelled rows (codes "budget") b v.4 i) (v.5 i)) ∙ ap (λ (n : Text). read n rows) (sym makes.command)
 is_read name rows (to_export p e out) makes =
     let v = makes.values in
     (λ i. to_export (given _ p v.0 i) (given _ e v.1 i) (given _ out v.2 i)) ∙ ap (λ (n : Text). read n rows) (sym makes.command)

@@ -54,9 +54,24 @@ check_app =
 abbrev pub dot_rule : Rule
 dot_rule = record (option_rule (codes "dot")) { action = Some SetTrue }
 
+-- the same, which need not be named
+abbrev pub optional_evidence_rule : Rule
+optional_evidence_rule = record evidence_rule { required = false }
+
 -- the command `explain`
 abbrev pub explain_app : App
-explain_app = with_rule (with_rule (with_rule (new_app (codes "explain")) program_rule) evidence_rule) dot_rule
+explain_app =
+    with_rule
+    (with_rule
+    (with_rule
+    (with_rule
+    (with_rule
+    (with_rule (new_app (codes "explain")) program_rule)
+    optional_evidence_rule)
+    (number_with (codes "workers") 1 64 (codes "4")))
+    (number_with (codes "depth") 0 15 (codes "4")))
+    (number_with (codes "budget") 0 1000000000 (codes "1000000")))
+    dot_rule
 
 -- `--dimacs`, which takes no value
 abbrev pub dimacs_rule : Rule

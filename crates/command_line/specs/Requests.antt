@@ -10,14 +10,14 @@ use Rattle.command_line.specs.declared.request.Request.TheVariants as ask
 -- What may be asked for: to prove a program, with the file for the evidence, where one is named, the numbers of workers, the depth and the
 -- budget, whether the progress is told, and whether the answer is a JSON object; to check a program by an evidence, in so many pieces, with
 -- the answer as a JSON object or not; to replay an evidence on a program; to encode a program, in the DIMACS format or not; to explain what an
--- evidence shows of a program, by a graph or not; to export the proof that an evidence makes of a program, to a file; and to trim an evidence,
--- to a file, with the answer as a JSON object or not.
+-- evidence, or where none is named the answer to a search with these numbers, shows of a program, by a graph or not; to export the proof that an
+-- evidence makes of a program, to a file; and to trim an evidence, to a file, with the answer as a JSON object or not.
 pub data Task : Type 0 where
   to_prove : Text → Option Text → ℕ → ℕ → ℕ → Bool → Bool → Task
   to_check : Text → Text → ℕ → Bool → Task
   to_replay : Text → Text → Task
   to_encode : Text → Bool → Task
-  to_explain : Text → Text → Bool → Task
+  to_explain : Text → Option Text → ℕ → ℕ → ℕ → Bool → Task
   to_export : Text → Text → Text → Task
   to_trim : Text → Text → Bool → Task
 
@@ -28,7 +28,8 @@ task_of (ask.Prove program out options progress json) =
 task_of (ask.Check program evidence pieces json) = to_check program.now evidence.now pieces.number json
 task_of (ask.Replay program evidence) = to_replay program.now evidence.now
 task_of (ask.Encode program dimacs) = to_encode program.now dimacs
-task_of (ask.Explain program evidence graph) = to_explain program.now evidence.now graph
+task_of (ask.Explain program evidence options graph) =
+    to_explain program.now (option_map (λ path. path.now) evidence) options.workers options.depth options.budget graph
 task_of (ask.Export program evidence out) = to_export program.now evidence.now out.now
 task_of (ask.Trim evidence out json) = to_trim evidence.now out.now json
 
@@ -38,7 +39,7 @@ command_of (to_prove program out workers depth budget progress json) = codes "pr
 command_of (to_check program evidence pieces json) = codes "check"
 command_of (to_replay program evidence) = codes "replay"
 command_of (to_encode program dimacs) = codes "encode"
-command_of (to_explain program evidence graph) = codes "explain"
+command_of (to_explain program evidence workers depth budget graph) = codes "explain"
 command_of (to_export program evidence out) = codes "export"
 command_of (to_trim evidence out json) = codes "trim"
 
@@ -75,8 +76,9 @@ HasValues rows (to_check program evidence pieces json) =
     Gives rows (codes "PROGRAM") program × Gives rows (codes "EVIDENCE") evidence × Reads rows (codes "pieces") pieces × Flags rows (codes "json") json
 HasValues rows (to_replay program evidence) = Gives rows (codes "PROGRAM") program × Gives rows (codes "EVIDENCE") evidence
 HasValues rows (to_encode program dimacs) = Gives rows (codes "PROGRAM") program × Flags rows (codes "dimacs") dimacs
-HasValues rows (to_explain program evidence graph) =
-    Gives rows (codes "PROGRAM") program × Gives rows (codes "EVIDENCE") evidence × Flags rows (codes "dot") graph
+HasValues rows (to_explain program evidence workers depth budget graph) =
+    Gives rows (codes "PROGRAM") program × (first_of (codes "EVIDENCE") rows ≡ evidence) × Reads rows (codes "workers") workers
+    × Reads rows (codes "depth") depth × Reads rows (codes "budget") budget × Flags rows (codes "dot") graph
 HasValues rows (to_export program evidence out) =
     Gives rows (codes "PROGRAM") program × Gives rows (codes "EVIDENCE") evidence × Gives rows (codes "out") out
 HasValues rows (to_trim evidence out json) =

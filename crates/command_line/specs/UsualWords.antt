@@ -29,9 +29,13 @@ pub record PlainWordsAreRead : Type 0 where
   pub encode_dimacs : (name p : Text) (task : Task) → begins_with_hyphen p ≡ false
       → AskFor (name ∷ codes "encode" ∷ p ∷ codes "--dimacs" ∷ []) task → task ≡ to_encode p true
   pub explain : (name p e : Text) (task : Task) → begins_with_hyphen p ≡ false → begins_with_hyphen e ≡ false
-      → AskFor (name ∷ codes "explain" ∷ p ∷ e ∷ []) task → task ≡ to_explain p e false
+      → AskFor (name ∷ codes "explain" ∷ p ∷ e ∷ []) task → task ≡ to_explain p (Some e) 4 4 1000000 false
   pub explain_dot : (name p e : Text) (task : Task) → begins_with_hyphen p ≡ false → begins_with_hyphen e ≡ false
-      → AskFor (name ∷ codes "explain" ∷ p ∷ e ∷ codes "--dot" ∷ []) task → task ≡ to_explain p e true
+      → AskFor (name ∷ codes "explain" ∷ p ∷ e ∷ codes "--dot" ∷ []) task → task ≡ to_explain p (Some e) 4 4 1000000 true
+  pub explain_alone : (name p : Text) (task : Task) → begins_with_hyphen p ≡ false
+      → AskFor (name ∷ codes "explain" ∷ p ∷ []) task → task ≡ to_explain p None 4 4 1000000 false
+  pub explain_alone_dot : (name p : Text) (task : Task) → begins_with_hyphen p ≡ false
+      → AskFor (name ∷ codes "explain" ∷ p ∷ codes "--dot" ∷ []) task → task ≡ to_explain p None 4 4 1000000 true
   pub export : (name p e file : Text) (task : Task) → begins_with_hyphen p ≡ false → begins_with_hyphen e ≡ false → begins_with_hyphen file ≡ false
       → AskFor (name ∷ codes "export" ∷ p ∷ e ∷ codes "--out" ∷ file ∷ []) task → task ≡ to_export p e file
   pub trim : (name e file : Text) (task : Task) → begins_with_hyphen e ≡ false → begins_with_hyphen file ≡ false
@@ -66,6 +70,10 @@ pub record OptionWordsAreRead : Type 0 where
       → AskFor (name ∷ codes "prove" ∷ p ∷ codes "--out" ∷ file ∷ codes "--workers" ∷ workers
       ∷ codes "--depth" ∷ depth ∷ codes "--budget" ∷ budget ∷ codes "--progress" ∷ codes "--json" ∷ []) task
       → task ≡ to_prove p (Some file) (number_of workers) (number_of depth) (number_of budget) true true
+  pub explain_options_last : (name p workers depth budget : Text) (task : Task) → begins_with_hyphen p ≡ false
+      → begins_with_hyphen workers ≡ false → begins_with_hyphen depth ≡ false → begins_with_hyphen budget ≡ false
+      → AskFor (name ∷ codes "explain" ∷ p ∷ codes "--workers" ∷ workers ∷ codes "--depth" ∷ depth ∷ codes "--budget" ∷ budget ∷ codes "--dot" ∷ []) task
+      → task ≡ to_explain p None (number_of workers) (number_of depth) (number_of budget) true
 
 -- words in their usual order, where no file's name begins with a hyphen, have no fault
 pub record PlainWordsAreFaultless : Type 0 where
@@ -89,6 +97,9 @@ pub record PlainWordsAreFaultless : Type 0 where
       → fault_of command_line (name ∷ codes "explain" ∷ p ∷ e ∷ []) ≡ []
   pub explain_dot : (name p e : Text) → begins_with_hyphen p ≡ false → begins_with_hyphen e ≡ false
       → fault_of command_line (name ∷ codes "explain" ∷ p ∷ e ∷ codes "--dot" ∷ []) ≡ []
+  pub explain_alone : (name p : Text) → begins_with_hyphen p ≡ false → fault_of command_line (name ∷ codes "explain" ∷ p ∷ []) ≡ []
+  pub explain_alone_dot : (name p : Text) → begins_with_hyphen p ≡ false
+      → fault_of command_line (name ∷ codes "explain" ∷ p ∷ codes "--dot" ∷ []) ≡ []
   pub prove : (name p : Text) → begins_with_hyphen p ≡ false → fault_of command_line (name ∷ codes "prove" ∷ p ∷ []) ≡ []
   pub prove_as_json : (name p : Text) → begins_with_hyphen p ≡ false → fault_of command_line (name ∷ codes "prove" ∷ p ∷ codes "--json" ∷ []) ≡ []
   pub prove_progress : (name p : Text) → begins_with_hyphen p ≡ false

@@ -1,7 +1,7 @@
 //! The arguments of the commands.
 
 ghost use Rattle.std.specs.Prelude.{codes};
-ghost use Rattle.command_line.specs.CommandLine.{IsRuled, dimacs_rule, dot_rule, evidence_rule, json_rule, number_rule, number_with, option_rule, out_rule, program_rule, progress_rule, proof_rule};
+ghost use Rattle.command_line.specs.CommandLine.{IsRuled, dimacs_rule, dot_rule, evidence_rule, json_rule, number_rule, number_with, option_rule, optional_evidence_rule, out_rule, program_rule, progress_rule, proof_rule};
 
 use clap::builder::ValueParser;
 use clap::{Arg, ArgAction, value_parser};
@@ -45,6 +45,14 @@ pub fn evidence<'a>(alloc: Global) -> Arg<'a>
         .required(true)
         .action(ArgAction::Set)
         .help("The file with the evidence text")
+}
+
+pub fn optional_evidence<'a>(alloc: Global) -> Arg<'a>
+    ensures { IsRuled result optional_evidence_rule }
+{
+    Arg::new(alloc, EVIDENCE).action(ArgAction::Set).help(
+        "The file with the evidence text; without it the program is proved first, and with it --workers, --depth and --budget have no effect",
+    )
 }
 
 pub fn json<'a>(alloc: Global) -> Arg<'a>

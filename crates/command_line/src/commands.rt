@@ -5,8 +5,8 @@ ghost use Rattle.clap.specs.Words.{App, Rule, new_app, with_rule, with_subcomman
 ghost use Rattle.command_line.specs.CommandLine.{IsRuled, IsShaped, check_app, command_line, encode_app, explain_app, export_app, prove_app, replay_app, trim_app, version_line};
 
 use crate::arguments::{
-    budget, depth, dimacs, dot, evidence, json, out, pieces, program, progress, proof, trimmed,
-    workers,
+    budget, depth, dimacs, dot, evidence, json, optional_evidence, out, pieces, program, progress,
+    proof, trimmed, workers,
 };
 use crate::help_ends::{
     CHECK_END, ENCODE_END, EXPLAIN_END, EXPORT_END, HELP_END, PROVE_END, REPLAY_END, TRIM_END,
@@ -125,11 +125,14 @@ fn explain_command<'a>(alloc: Global) -> Result<Command<'a>, AllocError>
     let command = named(
         alloc,
         "explain",
-        "Explains what an evidence shows of a program",
+        "Explains what an evidence, or a search, shows of a program",
         EXPLAIN_END,
     );
     let command = with(Ok(command), program(alloc));
-    let command = with(command, evidence(alloc));
+    let command = with(command, optional_evidence(alloc));
+    let command = with(command, workers(alloc));
+    let command = with(command, depth(alloc));
+    let command = with(command, budget(alloc));
     with(command, dot(alloc))
 }
 

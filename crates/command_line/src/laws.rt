@@ -24,7 +24,8 @@ pub fn plain_words_are_faultless()
 {}
 
 /// `--json` may stand before, between and after the files of `check`, and the options of `prove`
-/// before and after its file; `--pieces` after the files of `check`.
+/// before and after its file; `--pieces` after the files of `check`, and the options of `explain` after
+/// its program.
 pub fn option_words_are_read()
     ensures { OptionWordsAreRead }
 {}

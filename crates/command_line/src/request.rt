@@ -3,7 +3,7 @@
 ghost use Rattle.std.specs.Prelude.{◌≡◌, ◌⊎◌, IfErr, IfOk, IfSome, codes, map, string_bytes};
 ghost use Rattle.clap.specs.Words.{IsAmong, fault_of, found_of, kind_of, rows_of, subcommand_rows_of};
 ghost use Rattle.command_line.specs.CommandLine.{command_line};
-ghost use Rattle.command_line.specs.Requests.{AskFor, Flags, Makes, MakesSome, task_of};
+ghost use Rattle.command_line.specs.Requests.{AskFor, Flags, Makes, MakesSome, Reads, task_of};
 
 use crate::arguments::{
     BUDGET, DEPTH, DIMACS, DOT, EVIDENCE, JSON, OUT, PIECES, PROGRAM, PROGRESS, WORKERS,
@@ -42,10 +42,11 @@ pub enum Request<'a> {
         program: &'a str,
         dimacs: bool,
     },
-    /// Explain what an evidence shows of a program, by a text or by a graph.
+    /// Explain what an evidence shows of a program, by a text or by a graph. Where none is named, one is searched for first.
     Explain {
         program: &'a str,
-        evidence: &'a str,
+        evidence: Option<&'a str>,
+        options: Options,
         graph: bool,
     },
     /// Write the proof that an evidence makes of a program's formula to the file `out`.
@@ -114,13 +115,10 @@ fn requested<'a>(subcommand: (&'a str, &ArgMatches<'a>)) -> Option<Request<'a>>
 fn prove_request<'a>(matches: &ArgMatches<'a>) -> Option<Request<'a>>
     ensures { IfSome result (λ request. Makes (codes "prove") (rows_of (found_of matches.now)) (task_of request)) }
 {
-    let workers = matches.get_one::<u32>(WORKERS)?;
-    let depth = matches.get_one::<u32>(DEPTH)?;
-    let budget = matches.get_one::<u32>(BUDGET)?;
     Some(Request::Prove {
         program: matches.get_str(PROGRAM)?,
         out: matches.get_str(OUT),
-        options: Options::make(workers, depth, budget)?,
+        options: options_of(matches)?,
         progress: is_set(matches, PROGRESS),
         json: is_set(matches, JSON),
     })
@@ -166,7 +164,8 @@ fn explain_request<'a>(matches: &ArgMatches<'a>) -> Option<Request<'a>>
 {
     Some(Request::Explain {
         program: matches.get_str(PROGRAM)?,
-        evidence: matches.get_str(EVIDENCE)?,
+        evidence: matches.get_str(EVIDENCE),
+        options: options_of(matches)?,
         graph: is_set(matches, DOT),
     })
 }
@@ -192,6 +191,18 @@ fn trim_request<'a>(matches: &ArgMatches<'a>) -> Option<Request<'a>>
         out,
         json: is_set(matches, JSON),
     })
+}
+
+/// The options of a search.
+fn options_of(matches: &ArgMatches<'_>) -> Option<Options>
+    ensures workers { IfSome result (λ options. Reads (rows_of (found_of matches.now)) (codes "workers") options.workers) }
+    ensures depth { IfSome result (λ options. Reads (rows_of (found_of matches.now)) (codes "depth") options.depth) }
+    ensures budget { IfSome result (λ options. Reads (rows_of (found_of matches.now)) (codes "budget") options.budget) }
+{
+    let workers = matches.get_one::<u32>(WORKERS)?;
+    let depth = matches.get_one::<u32>(DEPTH)?;
+    let budget = matches.get_one::<u32>(BUDGET)?;
+    Options::make(workers, depth, budget)
 }
 
 /// Whether the words set a flag.

@@ -39,11 +39,17 @@ plain_words_are_answered = record {
       answered (name ∷ codes "encode" ∷ p ∷ codes "--dimacs" ∷ []) (to_encode p true) (plain_words_are_faultless.encode_dimacs name p fp)
       (λ task. plain_words_are_read.encode_dimacs name p task fp);
   explain = λ name p e fp fe.
-      answered (name ∷ codes "explain" ∷ p ∷ e ∷ []) (to_explain p e false) (plain_words_are_faultless.explain name p e fp fe)
+      answered (name ∷ codes "explain" ∷ p ∷ e ∷ []) (to_explain p (Some e) 4 4 1000000 false) (plain_words_are_faultless.explain name p e fp fe)
       (λ task. plain_words_are_read.explain name p e task fp fe);
   explain_dot = λ name p e fp fe.
-      answered (name ∷ codes "explain" ∷ p ∷ e ∷ codes "--dot" ∷ []) (to_explain p e true) (plain_words_are_faultless.explain_dot name p e fp fe)
+      answered (name ∷ codes "explain" ∷ p ∷ e ∷ codes "--dot" ∷ []) (to_explain p (Some e) 4 4 1000000 true) (plain_words_are_faultless.explain_dot name p e fp fe)
       (λ task. plain_words_are_read.explain_dot name p e task fp fe);
+  explain_alone = λ name p fp.
+      answered (name ∷ codes "explain" ∷ p ∷ []) (to_explain p None 4 4 1000000 false) (plain_words_are_faultless.explain_alone name p fp)
+      (λ task. plain_words_are_read.explain_alone name p task fp);
+  explain_alone_dot = λ name p fp.
+      answered (name ∷ codes "explain" ∷ p ∷ codes "--dot" ∷ []) (to_explain p None 4 4 1000000 true) (plain_words_are_faultless.explain_alone_dot name p fp)
+      (λ task. plain_words_are_read.explain_alone_dot name p task fp);
   export = λ name p e file fp fe ffile.
       answered (name ∷ codes "export" ∷ p ∷ e ∷ codes "--out" ∷ file ∷ []) (to_export p e file) (plain_words_are_faultless.export name p e file fp fe ffile)
       (λ task. plain_words_are_read.export name p e file task fp fe ffile);

@@ -1,5 +1,5 @@
 -- The laws of how a run ended.
-use Rattle.std.proofs.Common.{◌≡◌, ◌∙◌, ◌<◌, ◌⊎◌, arith, ap, inl, inr, refl, sym, subst, ℕ, List, Bool, true, false, Some, Option, option_map}
+use Rattle.std.proofs.Common.{◌≡◌, ◌∙◌, ◌<◌, ◌⊎◌, arith, ap, inl, inr, refl, sym, subst, ℕ, List, Bool, true, false, Some, None, Option, option_map}
 use Rattle.std.specs.Io.KnownBytes.{Appends}
 use Rattle.clap.specs.Words.{Text}
 use Rattle.clap.specs.declared.error.kind.ErrorKind.{ErrorKind}
@@ -16,10 +16,10 @@ use Rattle.prover.specs.declared.steps.Replayed.{Replayed}
 use Rattle.prover.specs.declared.steps.Replayed.TheVariants as replays
 use Rattle.command_line.specs.CommandLine.{version_line}
 use Rattle.command_line.specs.Requests.{AskFor, Task, to_check, to_encode, to_explain, to_export, to_prove, to_replay, to_trim}
-use Rattle.session.specs.Deadlocks.{ReadFilesAreNotBlamed, AskToCheck, AskToProve, AskToReplay, CheckedDeadlockIsPrinted, CheckedDeadlockIsShown, CheckedSafetyIsPrinted, CheckedSafetyIsTrue, EncodedFormulaIsPrinted, ExportedAnswerIsPrinted, ExportedProofIsWritten, ExportedSafetyIsTrue, IsRightlyTold, ProvedDeadlockIsPrinted, ProvedDeadlockIsShown, ProvedSafetyIsPrinted, ProvedSafetyIsTrue, ProvedUnknownFinishes, RefutedIsChecked, ReplayedDeadlockIsShown, ReplayedRunIsPrinted, ShownDeadlockIsChecked, ShownDeadlockIsReplayed, TellsDeadlock, TellsSafety, ToldDeadlockIsShown, TrimmedRefutationIsWritten, WrittenDeadlockIsShown, WrittenSafetyIsRefuted}
+use Rattle.session.specs.Deadlocks.{ReadFilesAreNotBlamed, AskToCheck, AskToExplain, AskToProve, AskToReplay, CheckedDeadlockIsPrinted, CheckedDeadlockIsShown, CheckedSafetyIsPrinted, CheckedSafetyIsTrue, EncodedFormulaIsPrinted, ExplainedDeadlockIsShown, ExplainedSafetyIsTrue, ExplainedUnknownFinishes, ExportedAnswerIsPrinted, ExportedProofIsWritten, ExportedSafetyIsTrue, IsRightlyTold, ProvedDeadlockIsPrinted, ProvedDeadlockIsShown, ProvedSafetyIsPrinted, ProvedSafetyIsTrue, ProvedUnknownFinishes, RefutedIsChecked, ReplayedDeadlockIsShown, ReplayedRunIsPrinted, ShownDeadlockIsChecked, ShownDeadlockIsReplayed, TellsDeadlock, TellsSafety, ToldDeadlockIsShown, TrimmedRefutationIsWritten, WrittenDeadlockIsShown, WrittenSafetyIsRefuted}
 use Rattle.session.specs.Endings.{Complains, Ends, EndsFollowed, EndsUnasked, Explains, FailsEarly, IsFollowed, Prints, PrintsAlone, SessionEnds, TaskEnds}
 use Rattle.session.specs.Lines.{IsLine, deadlock_line, early_line, line_text, lines_words, memory_line, no_deadlock_line, told_of_answer, told_of_untrimmed, told_of_verdict, told_status}
-use Rattle.session.specs.Pages.{FilesTold, HasTextOfFormula, IsProgram, IsChecked, IsEither, IsEncoded, IsExplained, IsExported, IsExportedTo, IsExportFile, IsProveFile, IsProved, IsReplayPage, IsReplayed, IsTrimFile, IsTrimmed, IsWritten}
+use Rattle.session.specs.Pages.{FilesTold, HasTextOfFormula, IsProgram, IsChecked, IsEither, IsEncoded, IsExplained, IsExplainFile, IsExplainPage, IsExported, IsExportedTo, IsExportFile, IsProveFile, IsProved, IsReplayPage, IsReplayed, IsSearched, IsTrimFile, IsTrimmed, IsWritten, explain_want}
 use Rattle.files.specs.Contents.{AreAll}
 use Rattle.reports.specs.Trimming.{Shortens}
 use Rattle.reports.specs.declared.trimmed.Shortened.{Shortened}
@@ -30,7 +30,7 @@ use Rattle.session.specs.declared.page.Want.{Want}
 use Rattle.session.specs.declared.page.Want.TheVariants as want
 use Rattle.session.specs.declared.told.Told.TheVariants as told
 use Rattle.session.proofs.DeadlockLines.{PageTells, PageTellsSafety, deadlock_page, deadlock_printed, deadlock_untold, dimacs_untold, formula_untold, help_untold, line_tells, lines_untold, one_told, safe_line, safety_page, safety_untold, stuck_line, unknown_page, unknown_untold, version_untold, zero_told}
-use Rattle.session.proofs.Deadlocks.{all_are, check_never, check_shows, explained_shows, exported_checked, exported_proof, file_refutes, file_shows, held_as_read, prove_finishes, prove_never, prove_shows, read_as_held, read_shows, refused_above, refused_differs, replayed_shows, safe_differs}
+use Rattle.session.proofs.Deadlocks.{all_are, check_never, check_shows, explained_finishes, explained_never, explained_shows, exported_checked, exported_proof, file_refutes, file_shows, held_as_read, prove_finishes, prove_never, prove_shows, read_as_held, read_shows, refused_above, refused_differs, replayed_shows, safe_differs, searched_shows}
 use Rattle.session.proofs.TaskEnds.{task_ends}
 
 -- a run that complains with another status tells no deadlock
@@ -386,6 +386,41 @@ unknown_finishes words p out budget progress as_json tells before after program 
       | inr fails ↦ absurd (unknown_untold says.0 old new status (λ two. omega (arith, fails.0, two)) fails.1 says.2)
     ]
 
+-- ---- explain
+
+module _ (words : List Text) (p : Text) (e : Option Text) (budget : ℕ) (graph : Bool) (tells : FilesTold) (before after : List ℕ → Option (List ℕ)) (old new told_old told_new : Option (List ℕ)) (status : ℕ) where
+  abbrev ExplainEnds : Type 0
+  ExplainEnds =
+      Ends (IsExplainPage before p e budget graph) (IsExplainFile tells.reads p e) (explain_want e) false before after old new told_old told_new status
+      ⊎ FailsEarly old new told_old told_new status
+
+  explain_ends : AskToExplain words p e budget graph → SessionEnds words tells before after old new told_old told_new status → ExplainEnds
+  explain_ends asks ends = ended (task_ends words tells before after old new told_old told_new status (to_explain p e asks.0 asks.1 budget graph) asks.2 ends)
+
+pub explained : ExplainedDeadlockIsShown
+explained = record {
+  given = λ graph words p e tells before after program evidence old new told_old told_new status asks held_p held_e ends says.
+      let page = page_that_told (IsExplained (before p) (before e) graph) (IsEither tells.reads p e) want.Refused false before after old new told_old told_new status
+      (explain_ends words p (Some e) asks.0 graph tells before after old new told_old told_new status asks.1 ends) says in
+      explained_shows (before p) (before e) graph page.0 page.1 program evidence page.2 page.3 held_p held_e;
+  found = λ words p budget graph tells before after program old new told_old told_new status asks held ends says.
+      let page = page_that_told (IsSearched (before p) budget graph) (IsProgram tells.reads p) want.Unknown false before after old new told_old told_new status
+      (explain_ends words p None budget graph tells before after old new told_old told_new status asks ends) says in
+      searched_shows (before p) budget graph page.0 page.1 program page.2 page.3 held;
+}
+
+pub explained_safe : ExplainedSafetyIsTrue
+explained_safe words p e budget graph tells before after program old new told_old told_new status asks held ends zero =
+    let page = page_printed 0 (omega arith) (IsExplainPage before p e budget graph) (IsExplainFile tells.reads p e) (explain_want e) false before after old new told_old told_new status
+    (explain_ends words p e budget graph tells before after old new told_old told_new status asks ends) zero in
+    explained_never before p e budget graph page.0 program page.1 held
+
+pub explained_unknown : ExplainedUnknownFinishes
+explained_unknown words p e budget graph tells before after program old new told_old told_new status asks some held ends two =
+    let page = page_printed 2 (omega arith) (IsExplainPage before p e budget graph) (IsExplainFile tells.reads p e) (explain_want e) false before after old new told_old told_new status
+    (explain_ends words p e budget graph tells before after old new told_old told_new status asks ends) two in
+    explained_finishes before p e budget graph page.0 program page.1 some held
+
 -- ---- export
 
 module _ (words : List Text) (p e out : Text) (tells : FilesTold) (before after : List ℕ → Option (List ℕ)) (old new told_old told_new : Option (List ℕ)) (status : ℕ) where
@@ -492,11 +527,7 @@ asked_told : (words : List Text) (tells : FilesTold) (before after : List ℕ �
 asked_told words tells before after old new told_old told_new status (to_prove p out workers depth budget progress json) asks ends says =
     inl (
       p,
-      out,
-      budget,
-      progress,
-      json,
-      (workers, depth, asks),
+      inl (out, budget, progress, json, (workers, depth, asks)),
       λ program held.
           let page = search_that_told p out budget progress json tells before after old new told_old told_new status (inl ends.1) says in
           prove_shows tells.writes before after p out budget json page.0 page.1 program page.2 page.3 held,
@@ -519,11 +550,19 @@ asked_told words tells before after old new told_old told_new status (to_replay 
           let page = deadlock_page (IsReplayed (before p) (before e)) (IsEither tells.reads p e) want.Refused false before after old new told_old told_new status ends.1 says in
           replayed_shows (before p) (before e) page.0 page.1 program evidence page.2 page.3 held_p held_e,
     )
-asked_told words tells before after old new told_old told_new status (to_explain p e graph) asks ends says =
+asked_told words tells before after old new told_old told_new status (to_explain p None workers depth budget graph) asks ends says =
+    inl (
+      p,
+      inr (budget, graph, (workers, depth, asks)),
+      λ program held.
+          let page = deadlock_page (IsSearched (before p) budget graph) (IsProgram tells.reads p) want.Unknown false before after old new told_old told_new status ends.1 says in
+          searched_shows (before p) budget graph page.0 page.1 program page.2 page.3 held,
+    )
+asked_told words tells before after old new told_old told_new status (to_explain p (Some e) workers depth budget graph) asks ends says =
     inr (
       p,
       e,
-      inr (inr (inl (graph, asks))),
+      inr (inr (inl (graph, (budget, (workers, depth, asks))))),
       λ program evidence held_p held_e.
           let page = deadlock_page (IsExplained (before p) (before e) graph) (IsEither tells.reads p e) want.Refused false before after old new told_old told_new status ends.1 says in
           explained_shows (before p) (before e) graph page.0 page.1 program evidence page.2 page.3 held_p held_e,

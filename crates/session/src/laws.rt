@@ -5,6 +5,9 @@ ghost use Rattle.session.specs.Deadlocks.{
   CheckedSafetyIsPrinted,
   CheckedSafetyIsTrue,
   EncodedFormulaIsPrinted,
+  ExplainedDeadlockIsShown,
+  ExplainedSafetyIsTrue,
+  ExplainedUnknownFinishes,
   ExportedAnswerIsPrinted,
   ExportedProofIsWritten,
   ExportedSafetyIsTrue,
@@ -120,6 +123,23 @@ pub fn proved_deadlock_is_printed()
 /// or ended with the status 2, some run of the program of the file ends with all ranks finished.
 pub fn proved_unknown_finishes()
     ensures { ProvedUnknownFinishes }
+{}
+
+/// Where words ask to explain a program, and the run printed the line that tells a deadlock or ended with the status 1, the evidence that
+/// they name shows a stuck run of it; and where they name none, some evidence does.
+pub fn explained_deadlock_is_shown()
+    ensures { ExplainedDeadlockIsShown }
+{}
+
+/// Where words ask to explain a program, by an evidence or by a search, and the run ended with the status 0, no run of the program ends stuck.
+pub fn explained_safety_is_true()
+    ensures { ExplainedSafetyIsTrue }
+{}
+
+/// Where it ended with the status 2, the words name no evidence; and with a budget above 0 some run of the program ends with all ranks
+/// finished.
+pub fn explained_unknown_finishes()
+    ensures { ExplainedUnknownFinishes }
 {}
 
 /// Where words ask to export a proof, and the run printed the line that tells that there is no deadlock or ended with the status 0, no

@@ -12,7 +12,8 @@ mod told;
 
 pub use laws::{
     checked_deadlock_is_printed, checked_deadlock_is_shown, checked_safety_is_printed,
-    checked_safety_is_true, encoded_formula_is_printed, exported_answer_is_printed,
+    checked_safety_is_true, encoded_formula_is_printed, explained_deadlock_is_shown,
+    explained_safety_is_true, explained_unknown_finishes, exported_answer_is_printed,
     exported_proof_is_written, exported_safety_is_true, plain_words_are_answered,
     proved_deadlock_is_printed, proved_deadlock_is_shown, proved_safety_is_printed,
     proved_safety_is_true, proved_unknown_finishes, read_files_are_not_blamed, refuted_is_checked,

@@ -3,5 +3,8 @@ use Rattle.command_line.proofs.commands.explain_command.Goals as goal
 pub returns : goal.returns
 returns c =
     let one = c.with-command.ensures _ _ c.named-command.ensures c.program.ensures in
-    let two = c.with-command-2.ensures _ _ one c.evidence.ensures in
-    c.with.ensures _ _ two c.dot.ensures
+    let two = c.with-command-2.ensures _ _ one c.optional_evidence.ensures in
+    let three = c.with-command-3.ensures _ _ two c.workers.ensures in
+    let four = c.with-command-4.ensures _ _ three c.depth.ensures in
+    let five = c.with-command-5.ensures _ _ four c.budget.ensures in
+    c.with.ensures _ _ five c.dot.ensures

@@ -9,7 +9,10 @@ returns c =
       command = refl;
       values = (
         given_by_rows m _ c.get_str.result c.get_str.ensures ∙ ap (option_map (λ s. s.now)) c.in_ok-get_str.was,
-        given_by_rows m _ c.get_str-2.result c.get_str-2.ensures ∙ ap (option_map (λ s. s.now)) c.in_ok-get_str-2.was,
+        given_by_rows m _ c.get_str-2.result c.get_str-2.ensures,
+        c.in_ok-options_of.ensures.workers,
+        c.in_ok-options_of.ensures.depth,
+        c.in_ok-options_of.ensures.budget,
         c.is_set.ensures,
       );
     }

@@ -1,8 +1,8 @@
 -- A command ends by its page, by want of memory or by a file that failed.
-use Rattle.std.proofs.Common.{◌≡◌, IfErr, IfOk, ℕ, List, Bool, Result, Ok, Err, inl, inr, option_map}
+use Rattle.std.proofs.Common.{◌≡◌, IfErr, IfOk, ℕ, List, Bool, Result, Ok, Err, inl, inr, option_map, subst, false}
 use Rattle.std.specs.Prelude.{Option}
 use Rattle.session.specs.Endings.{Ends, Finishes}
-use Rattle.session.specs.Pages.{IsChecked, IsEither, IsEncoded, IsExplained, IsExported, IsExportFile, IsProveFile, IsProgram, IsProved, IsReplayed, IsTrimFile, IsTrimmed, StopsBy}
+use Rattle.session.specs.Pages.{IsChecked, IsEither, IsEncoded, IsExplainFile, IsExplainPage, IsExported, IsExportFile, IsProveFile, IsProgram, IsProved, IsReplayed, IsTrimFile, IsTrimmed, StopsBy}
 use Rattle.session.specs.declared.commands.Stop.{Stop}
 use Rattle.session.specs.declared.commands.Stop.TheVariants as stop
 use Rattle.session.specs.declared.page.Page.{Page}
@@ -71,13 +71,20 @@ returns-in-Replay g c =
 pub returns-in-Explain : goal.returns-in-Explain
 returns-in-Explain g c =
     let before = g.F.FileSet.held c.args.files.now in
+    let after = g.F.FileSet.held c.explain_page-page.new.files in
     let program = c.in-Explain.program.now in
-    let evidence = c.in-Explain.evidence.now in
+    let evidence = option_map (λ path. path.now) c.in-Explain.evidence in
+    let IsPage = IsExplainPage before program evidence c.in-Explain.options.budget c.in-Explain.graph in
+    let IsFile = IsExplainFile (g.F.FileSet.reads c.args.files.now) program evidence in
+    let told_new = g.E.Write.contents c.finish-in-Explain.new.err in
+    let new = g.O.Write.contents c.finish-in-Explain.new.out in
+    let told_old = g.E.Write.contents c.args.err.now in
+    let old = g.O.Write.contents c.args.out.now in
     rw c.in-Explain.is (
       c.explain_page-page.ensures.same,
-      ended (IsExplained (before program) (before evidence) c.in-Explain.graph) (IsEither (g.F.FileSet.reads c.args.files.now) program evidence) _ _ _
-          before (g.F.FileSet.held c.explain_page-page.new.files) _ _ _ _ _
-          c.explain_page-page.ensures.page c.explain_page-page.ensures.stop c.finish-in-Explain.ensures,
+      subst (λ (w : Want). Ends IsPage IsFile w false before after old new told_old told_new c.finish-in-Explain.result) c.explain_want.ensures
+          (ended IsPage IsFile _ _ _ before after _ _ _ _ _
+          c.explain_page-page.ensures.page c.explain_page-page.ensures.stop c.finish-in-Explain.ensures),
     )
 
 pub returns-in-Export : goal.returns-in-Export

@@ -1,7 +1,7 @@
 -- The bytes of both files are those that were read, and the page is that of the explanation.
 use Rattle.std.proofs.Common.{subst, sym}
 use Rattle.files.specs.Contents.{AreAll}
-use Rattle.session.proofs.commands.explain_page.Goals as goal
+use Rattle.session.proofs.commands.given_page.Goals as goal
 
 pub returns-clause-page : goal.returns-clause-page
 returns-clause-page g c =

@@ -1,0 +1,117 @@
+//! What is wrong with a call line among the others.
+
+use crate::lines::{bytes_at, lines_of, put_shown};
+use crate::shapes::{Slot, shape_of, slot_of};
+use crate::syntax::ranks_of;
+use callorder::CallFault;
+use calltext::Verb;
+use plaintext::{number_of, words_of};
+use std::alloc::{AllocError, Global};
+
+const UNKNOWN_REQUEST: &str = " isn't started above, or was waited for already";
+
+const OPEN_REQUEST: &str = " was started above, and not waited for yet";
+
+const UNKNOWN_HANDLE: &str = " isn't probed above, or its message was received already";
+
+const OPEN_HANDLE: &str = " was probed above, and its message not received yet";
+
+const TOO_MANY: &str = "with this line there are more than 1024 calls of all ranks";
+
+/// The number of the line, from 1, in this place, from 1, of a rank.
+fn line_number(lines: &[&[u8]], rank: u32, place: usize) -> usize {
+    let heading = lines
+        .iter()
+        .enumerate()
+        .filter(|(_index, line)| line.starts_with(b"rank "))
+        .nth(rank as usize);
+    match heading {
+        Some((index, _line)) => index.saturating_add(place).saturating_add(1),
+        None => 0,
+    }
+}
+
+/// The word of the line that stands for this, if the line can have only one such.
+fn named<'a>(slot: Slot, words: &[&'a [u8]]) -> Option<&'a [u8]> {
+    let first = words.first()?;
+    let verb = Verb::find(first)?;
+    if let Verb::WaitAll = verb {
+        return None;
+    }
+    let (_place, word) = shape_of(verb)
+        .split(' ')
+        .zip(words.iter())
+        .find(|(place, _word)| slot_of(place).0 == slot)?;
+    Some(*word)
+}
+
+/// The rank of the line that the program lacks.
+fn stray_rank<'a>(words: &[&'a [u8]], ranks: usize) -> Option<&'a [u8]> {
+    let first = words.first()?;
+    let verb = Verb::find(first)?;
+    let (_place, word) = shape_of(verb).split(' ').zip(words.iter()).find(|(place, word)| {
+        slot_of(place).0 == Slot::Rank && number_of(word).is_some_and(|n| n as usize >= ranks)
+    })?;
+    Some(*word)
+}
+
+/// Tells a fault of the request or the handle of a line.
+fn put_named(out: &mut String, slot: Slot, words: &[&[u8]], fault: &str) -> Result<(), AllocError> {
+    let kind = if slot == Slot::Request {
+        "request "
+    } else {
+        "handle "
+    };
+    out.push_str(kind)?;
+    put_shown(out, named(slot, words).unwrap_or(b"of it"))?;
+    out.push_str(fault)
+}
+
+/// Tells which rank the program lacks.
+fn put_stray(out: &mut String, lines: &[&[u8]], words: &[&[u8]]) -> Result<(), AllocError> {
+    let ranks = ranks_of(lines);
+    out.push_str("rank ")?;
+    put_shown(out, stray_rank(words, ranks).unwrap_or(b"?"))?;
+    let last = ranks.saturating_sub(1);
+    write!(out, " isn't there: the ranks are 0 to {last}")
+}
+
+/// Tells the fault of a call line.
+fn put_fault(
+    out: &mut String,
+    lines: &[&[u8]],
+    words: &[&[u8]],
+    fault: CallFault,
+) -> Result<(), AllocError> {
+    let (slot, told) = match fault {
+        CallFault::RequestUnknown => (Slot::Request, UNKNOWN_REQUEST),
+        CallFault::RequestOpen => (Slot::Request, OPEN_REQUEST),
+        CallFault::RequestLeft => (Slot::Request, " is never waited for"),
+        CallFault::HandleUnknown => (Slot::Handle, UNKNOWN_HANDLE),
+        CallFault::HandleOpen => (Slot::Handle, OPEN_HANDLE),
+        CallFault::HandleLeft => (Slot::Handle, " is never received"),
+        CallFault::PeerRange => return put_stray(out, lines, words),
+        CallFault::TooManyCalls => return out.push_str(TOO_MANY),
+    };
+    put_named(out, slot, words, told)
+}
+
+/// Tells what is wrong with the call line in this place, from 1, of a rank.
+pub fn put_resolve(
+    out: &mut String,
+    alloc: Global,
+    program: &[u8],
+    rank: u32,
+    place: usize,
+    fault: CallFault,
+) -> Result<(), AllocError> {
+    let lines = lines_of(alloc, program)?;
+    let number = line_number(&lines, rank, place);
+    let line = bytes_at(&lines, number);
+    write!(out, "rank {rank}, line {number}: ")?;
+    put_shown(out, line)?;
+    out.push_str(": ")?;
+    let words = words_of(alloc, line)?;
+    put_fault(out, &lines, &words, fault)?;
+    out.push('\n')
+}

@@ -1,0 +1,5 @@
+use Rattle.session.proofs.RunLaws.{explained_unknown}
+use Rattle.session.proofs.laws.explained_unknown_finishes.Goals as goal
+
+pub returns : goal.returns
+returns c = explained_unknown
