@@ -5,6 +5,7 @@ use Rattle.clap.specs.Lexer.{without_minus}
 use Rattle.clap.specs.Words.{Text}
 use Rattle.clap.specs.Walk.{Walk, finished, walked}
 use Rattle.clap.proofs.OnLiterals.{clap_on_literals}
+use Rattle.settings.specs.declared.form.Form.TheVariants.{Graph}
 use Rattle.command_line.specs.Requests.{Task, number_of, to_check, to_explain, to_prove}
 use Rattle.command_line.specs.UsualWords.{OptionWordsAreRead, begins_with_hyphen}
 use Rattle.command_line.proofs.PlainWords.{after_free, check_rules, check_walk, explain_alone_walk, explain_rules, explain_word, made_check, made_explain, made_prove, prove_rules, read_by, start, two_words, unstripped, walked_free}
@@ -182,10 +183,10 @@ explain_last_walk p workers depth budget fp fw fd fb =
 
 explain_last_read : (p workers depth budget : Text) → begins_with_hyphen workers ≡ false → begins_with_hyphen depth ≡ false → begins_with_hyphen budget ≡ false
     → read (codes "explain") (finished explain_rules (explain_last p workers depth budget).held)
-    ≡ to_explain p None (number_of workers) (number_of depth) (number_of budget) true
+    ≡ to_explain p None (number_of workers) (number_of depth) (number_of budget) Graph
 unfolding clap_on_literals
 explain_last_read p workers depth budget fw fd fb =
-    λ i. to_explain p None (number_of (bare workers fw i)) (number_of (bare depth fd i)) (number_of (bare budget fb i)) true
+    λ i. to_explain p None (number_of (bare workers fw i)) (number_of (bare depth fd i)) (number_of (bare budget fb i)) Graph
 
 pub option_words_are_read : OptionWordsAreRead
 option_words_are_read = record {
@@ -208,6 +209,6 @@ option_words_are_read = record {
       (made_prove name (p ∷ option_words file workers depth budget []) task asks.named) (last_read p file workers depth budget fw fd fb);
   explain_options_last = λ name p workers depth budget task fp fw fd fb asks.
       read_by (codes "explain") explain_rules (explain_words p workers depth budget) (explain_last p workers depth budget) task
-      (to_explain p None (number_of workers) (number_of depth) (number_of budget) true) (explain_last_walk p workers depth budget fp fw fd fb)
+      (to_explain p None (number_of workers) (number_of depth) (number_of budget) Graph) (explain_last_walk p workers depth budget fp fw fd fb)
       (made_explain name (explain_words p workers depth budget) task asks.named) (explain_last_read p workers depth budget fw fd fb);
 }

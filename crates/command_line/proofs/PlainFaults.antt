@@ -10,11 +10,13 @@ use Rattle.clap.specs.Walk.{Held, Step, Waiting, Walk, answers_to, finished, not
 use Rattle.clap.specs.Simple.{help_shape, label_of, names_of}
 use Rattle.clap.proofs.OnLiterals.{clap_on_literals}
 use Rattle.clap.specs.declared.error.kind.ErrorKind.TheVariants.{ValueValidation}
+use Rattle.settings.specs.declared.form.Form.{Form}
+use Rattle.settings.specs.declared.form.Form.TheVariants.{Brief, Whole, Graph, Chart, Picture, Object}
 use Rattle.command_line.specs.CommandLine.{command_line}
-use Rattle.command_line.specs.UsualWords.{PlainWordsAreFaultless, SpellsPieces, begins_with_hyphen}
+use Rattle.command_line.specs.UsualWords.{PlainWordsAreFaultless, SpellsPieces, begins_with_hyphen, form_words}
 use Rattle.command_line.proofs.OptionWords.{pieces_last, pieces_walk}
 use Rattle.command_line.proofs.PieceWords.{pieces_are_free, pieces_pass}
-use Rattle.command_line.proofs.PlainWords.{after_free, check_rules, check_walk, encode_rules, encode_walk, encode_word, explain_alone_walk, explain_rules, explain_walk, explain_word, export_out, export_out_walk, export_rules, export_walk, free_met, no_dashes, no_long, no_short, out_walk, prove_out, prove_rules, prove_walk, prove_word, replay_rules, replay_walk, start, trim_out, trim_out_walk, trim_rules, trim_walk, trim_word, two_words, walked_free}
+use Rattle.command_line.proofs.PlainWords.{after_free, check_rules, check_walk, encode_rules, encode_walk, encode_word, explain_alone_walk, explain_rules, explain_walk, explain_word, export_out, export_out_walk, export_rules, export_walk, free_met, no_dashes, no_long, no_short, out_walk, prove_out, prove_rules, prove_walk, prove_word, replay_rules, replay_walk, shrink_out, shrink_out_walk, shrink_rules, shrink_walk, shrink_word, start, trim_out, trim_out_walk, trim_rules, trim_walk, trim_word, two_words, walked_free}
 
 -- ---- one free word
 
@@ -243,40 +245,97 @@ explain_second p e fp fe =
     ap (λ (w : Walk). turn_fault explain_shape [] w e) (walked_free explain_rules start p refl refl fp)
     ∙ turn_at_rest explain_shape (after_free explain_rules start p) e fe
 
-explain_leaf : (p e : Text) → begins_with_hyphen p ≡ false → begins_with_hyphen e ≡ false → leaf_fault explain_shape (p ∷ e ∷ []) ≡ []
+-- one flag after the program's and the evidence's names
+explain_flag_leaf : (p e flag : Text) → begins_with_hyphen p ≡ false → begins_with_hyphen e ≡ false
+    → turn_fault explain_shape [] (two_words explain_rules p e) flag ≡ []
+    → end_fault explain_shape (walked explain_rules [] (two_words explain_rules p e) flag) ≡ []
+    → leaf_fault explain_shape (p ∷ e ∷ flag ∷ []) ≡ []
 unfolding clap_on_literals
-explain_leaf p e fp fe =
+explain_flag_leaf p e flag fp fe sound ends =
+    let third : turn_fault explain_shape [] (walked explain_rules [] (walked explain_rules [] start p) e) flag ≡ [] =
+    ap (λ (w : Walk). turn_fault explain_shape [] w flag) (explain_walk p e fp fe) ∙ sound in
+    let turns : walk_fault explain_shape [] start (p ∷ e ∷ flag ∷ []) ≡ [] =
+    ap₂ (λ (a b : Kinds). or_else a b) (explain_first p fp)
+    (ap₂ (λ (a b : Kinds). or_else a (or_else b [])) (explain_second p e fp fe) third) in
+    leaf_by_walk explain_shape (p ∷ e ∷ flag ∷ []) (walked explain_rules [] (two_words explain_rules p e) flag) turns
+    (ap (λ (w : Walk). walked explain_rules [] w flag) (explain_walk p e fp fe)) ∙ ends
+
+explain_leaf : (p e : Text) (form : Form) → begins_with_hyphen p ≡ false → begins_with_hyphen e ≡ false
+    → leaf_fault explain_shape (p ∷ e ∷ form_words form) ≡ []
+unfolding clap_on_literals
+explain_leaf p e Brief fp fe =
     let turns : walk_fault explain_shape [] start (p ∷ e ∷ []) ≡ [] =
     ap₂ (λ (a b : Kinds). or_else a (or_else b [])) (explain_first p fp) (explain_second p e fp fe) in
     leaf_by_walk explain_shape (p ∷ e ∷ []) (two_words explain_rules p e) turns (explain_walk p e fp fe)
+explain_leaf p e Whole fp fe = explain_flag_leaf p e (codes "--all") fp fe refl refl
+explain_leaf p e Graph fp fe = explain_flag_leaf p e (codes "--dot") fp fe refl refl
+explain_leaf p e Chart fp fe = explain_flag_leaf p e (codes "--chart") fp fe refl refl
+explain_leaf p e Picture fp fe = explain_flag_leaf p e (codes "--svg") fp fe refl refl
+explain_leaf p e Object fp fe = explain_flag_leaf p e (codes "--json") fp fe refl refl
 
-explain_dot_leaf : (p e : Text) → begins_with_hyphen p ≡ false → begins_with_hyphen e ≡ false
-    → leaf_fault explain_shape (p ∷ e ∷ codes "--dot" ∷ []) ≡ []
+-- one flag after the program's name
+explain_alone_flag_leaf : (p flag : Text) → begins_with_hyphen p ≡ false → turn_fault explain_shape [] (explain_word p) flag ≡ []
+    → end_fault explain_shape (walked explain_rules [] (explain_word p) flag) ≡ [] → leaf_fault explain_shape (p ∷ flag ∷ []) ≡ []
 unfolding clap_on_literals
-explain_dot_leaf p e fp fe =
-    let third : turn_fault explain_shape [] (walked explain_rules [] (walked explain_rules [] start p) e) (codes "--dot") ≡ [] =
-    ap (λ (w : Walk). turn_fault explain_shape [] w (codes "--dot")) (explain_walk p e fp fe) in
-    let turns : walk_fault explain_shape [] start (p ∷ e ∷ codes "--dot" ∷ []) ≡ [] =
-    ap₂ (λ (a b : Kinds). or_else a b) (explain_first p fp)
-    (ap₂ (λ (a b : Kinds). or_else a (or_else b [])) (explain_second p e fp fe) third) in
-    leaf_by_walk explain_shape (p ∷ e ∷ codes "--dot" ∷ []) (walked explain_rules [] (two_words explain_rules p e) (codes "--dot")) turns
-    (ap (λ (w : Walk). walked explain_rules [] w (codes "--dot")) (explain_walk p e fp fe))
+explain_alone_flag_leaf p flag fp sound ends =
+    let second : turn_fault explain_shape [] (walked explain_rules [] start p) flag ≡ [] =
+    ap (λ (w : Walk). turn_fault explain_shape [] w flag) (explain_alone_walk p fp) ∙ sound in
+    let turns : walk_fault explain_shape [] start (p ∷ flag ∷ []) ≡ [] =
+    ap₂ (λ (a b : Kinds). or_else a (or_else b [])) (explain_first p fp) second in
+    leaf_by_walk explain_shape (p ∷ flag ∷ []) (walked explain_rules [] (explain_word p) flag) turns
+    (ap (λ (w : Walk). walked explain_rules [] w flag) (explain_alone_walk p fp)) ∙ ends
 
-explain_alone_leaf : (p : Text) → begins_with_hyphen p ≡ false → leaf_fault explain_shape (p ∷ []) ≡ []
+explain_alone_leaf : (p : Text) (form : Form) → begins_with_hyphen p ≡ false → leaf_fault explain_shape (p ∷ form_words form) ≡ []
 unfolding clap_on_literals
-explain_alone_leaf p fp =
+explain_alone_leaf p Brief fp =
     let turns : walk_fault explain_shape [] start (p ∷ []) ≡ [] = ap (λ (a : Kinds). or_else a []) (explain_first p fp) in
     leaf_by_walk explain_shape (p ∷ []) (explain_word p) turns (explain_alone_walk p fp)
+explain_alone_leaf p Whole fp = explain_alone_flag_leaf p (codes "--all") fp refl refl
+explain_alone_leaf p Graph fp = explain_alone_flag_leaf p (codes "--dot") fp refl refl
+explain_alone_leaf p Chart fp = explain_alone_flag_leaf p (codes "--chart") fp refl refl
+explain_alone_leaf p Picture fp = explain_alone_flag_leaf p (codes "--svg") fp refl refl
+explain_alone_leaf p Object fp = explain_alone_flag_leaf p (codes "--json") fp refl refl
 
-explain_alone_dot_leaf : (p : Text) → begins_with_hyphen p ≡ false → leaf_fault explain_shape (p ∷ codes "--dot" ∷ []) ≡ []
+replay_lines_leaf : (p e : Text) → begins_with_hyphen p ≡ false → begins_with_hyphen e ≡ false
+    → leaf_fault replay_shape (p ∷ e ∷ codes "--lines" ∷ []) ≡ []
 unfolding clap_on_literals
-explain_alone_dot_leaf p fp =
-    let second : turn_fault explain_shape [] (walked explain_rules [] start p) (codes "--dot") ≡ [] =
-    ap (λ (w : Walk). turn_fault explain_shape [] w (codes "--dot")) (explain_alone_walk p fp) in
-    let turns : walk_fault explain_shape [] start (p ∷ codes "--dot" ∷ []) ≡ [] =
-    ap₂ (λ (a b : Kinds). or_else a (or_else b [])) (explain_first p fp) second in
-    leaf_by_walk explain_shape (p ∷ codes "--dot" ∷ []) (walked explain_rules [] (explain_word p) (codes "--dot")) turns
-    (ap (λ (w : Walk). walked explain_rules [] w (codes "--dot")) (explain_alone_walk p fp))
+replay_lines_leaf p e fp fe =
+    let first : turn_fault replay_shape [] start p ≡ [] = turn_at_rest replay_shape start p fp in
+    let second : turn_fault replay_shape [] (walked replay_rules [] start p) e ≡ [] =
+    ap (λ (w : Walk). turn_fault replay_shape [] w e) (walked_free replay_rules start p refl refl fp)
+    ∙ turn_at_rest replay_shape (after_free replay_rules start p) e fe in
+    let third : turn_fault replay_shape [] (walked replay_rules [] (walked replay_rules [] start p) e) (codes "--lines") ≡ [] =
+    ap (λ (w : Walk). turn_fault replay_shape [] w (codes "--lines")) (replay_walk p e fp fe) in
+    let turns : walk_fault replay_shape [] start (p ∷ e ∷ codes "--lines" ∷ []) ≡ [] =
+    ap₂ (λ (a b : Kinds). or_else a b) first (ap₂ (λ (a b : Kinds). or_else a (or_else b [])) second third) in
+    leaf_by_walk replay_shape (p ∷ e ∷ codes "--lines" ∷ []) (walked replay_rules [] (two_words replay_rules p e) (codes "--lines")) turns
+    (ap (λ (w : Walk). walked replay_rules [] w (codes "--lines")) (replay_walk p e fp fe))
+
+abbrev shrink_shape : Shape
+shrink_shape = shape_in (find (λ s. answers_to (codes "shrink") (label_of s)) (built command_line).subs)
+
+shrink_first : (p : Text) → begins_with_hyphen p ≡ false → turn_fault shrink_shape [] start p ≡ []
+unfolding clap_on_literals
+shrink_first p fp = turn_at_rest shrink_shape start p fp
+
+shrink_leaf : (p : Text) → begins_with_hyphen p ≡ false → leaf_fault shrink_shape (p ∷ []) ≡ []
+unfolding clap_on_literals
+shrink_leaf p fp =
+    let turns : walk_fault shrink_shape [] start (p ∷ []) ≡ [] = ap (λ (a : Kinds). or_else a []) (shrink_first p fp) in
+    leaf_by_walk shrink_shape (p ∷ []) (shrink_word p) turns (shrink_walk p fp)
+
+shrink_out_leaf : (p file : Text) → begins_with_hyphen p ≡ false → begins_with_hyphen file ≡ false
+    → leaf_fault shrink_shape (p ∷ codes "--out" ∷ file ∷ []) ≡ []
+unfolding clap_on_literals
+shrink_out_leaf p file fp ff =
+    let second : turn_fault shrink_shape [] (walked shrink_rules [] start p) (codes "--out") ≡ [] =
+    ap (λ (w : Walk). turn_fault shrink_shape [] w (codes "--out")) (shrink_walk p fp) in
+    let third : turn_fault shrink_shape [] (walked shrink_rules [] (walked shrink_rules [] start p) (codes "--out")) file ≡ [] =
+    ap (λ (w : Walk). turn_fault shrink_shape [] (walked shrink_rules [] w (codes "--out")) file) (shrink_walk p fp)
+    ∙ turn_at_rest shrink_shape (walked shrink_rules [] (shrink_word p) (codes "--out")) file ff in
+    let turns : walk_fault shrink_shape [] start (p ∷ codes "--out" ∷ file ∷ []) ≡ [] =
+    ap₂ (λ (a b : Kinds). or_else a b) (shrink_first p fp) (ap₂ (λ (a b : Kinds). or_else a (or_else b [])) second third) in
+    leaf_by_walk shrink_shape (p ∷ codes "--out" ∷ file ∷ []) (shrink_out p file) turns (shrink_out_walk p file fp ff)
 
 prove_first : (p : Text) → begins_with_hyphen p ≡ false → turn_fault prove_shape [] start p ≡ []
 unfolding clap_on_literals
@@ -362,24 +421,39 @@ unfolding clap_on_literals
 trim_json_faultless name e file fe ff =
     ap (whole_fault (codes "trim" ∷ e ∷ codes "--out" ∷ file ∷ codes "--json" ∷ [])) (trim_json_leaf e file fe ff)
 
-pub explain_faultless : (name p e : Text) → begins_with_hyphen p ≡ false → begins_with_hyphen e ≡ false
-    → fault_of command_line (name ∷ codes "explain" ∷ p ∷ e ∷ []) ≡ []
+pub explain_faultless : (name p e : Text) (form : Form) → begins_with_hyphen p ≡ false → begins_with_hyphen e ≡ false
+    → fault_of command_line (name ∷ codes "explain" ∷ p ∷ e ∷ form_words form) ≡ []
 unfolding clap_on_literals
-explain_faultless name p e fp fe = ap (whole_fault (codes "explain" ∷ p ∷ e ∷ [])) (explain_leaf p e fp fe)
+explain_faultless name p e Brief fp fe = ap (whole_fault (codes "explain" ∷ p ∷ e ∷ [])) (explain_leaf p e Brief fp fe)
+explain_faultless name p e Whole fp fe = ap (whole_fault (codes "explain" ∷ p ∷ e ∷ codes "--all" ∷ [])) (explain_leaf p e Whole fp fe)
+explain_faultless name p e Graph fp fe = ap (whole_fault (codes "explain" ∷ p ∷ e ∷ codes "--dot" ∷ [])) (explain_leaf p e Graph fp fe)
+explain_faultless name p e Chart fp fe = ap (whole_fault (codes "explain" ∷ p ∷ e ∷ codes "--chart" ∷ [])) (explain_leaf p e Chart fp fe)
+explain_faultless name p e Picture fp fe = ap (whole_fault (codes "explain" ∷ p ∷ e ∷ codes "--svg" ∷ [])) (explain_leaf p e Picture fp fe)
+explain_faultless name p e Object fp fe = ap (whole_fault (codes "explain" ∷ p ∷ e ∷ codes "--json" ∷ [])) (explain_leaf p e Object fp fe)
 
-pub explain_dot_faultless : (name p e : Text) → begins_with_hyphen p ≡ false → begins_with_hyphen e ≡ false
-    → fault_of command_line (name ∷ codes "explain" ∷ p ∷ e ∷ codes "--dot" ∷ []) ≡ []
+pub explain_alone_faultless : (name p : Text) (form : Form) → begins_with_hyphen p ≡ false
+    → fault_of command_line (name ∷ codes "explain" ∷ p ∷ form_words form) ≡ []
 unfolding clap_on_literals
-explain_dot_faultless name p e fp fe = ap (whole_fault (codes "explain" ∷ p ∷ e ∷ codes "--dot" ∷ [])) (explain_dot_leaf p e fp fe)
+explain_alone_faultless name p Brief fp = ap (whole_fault (codes "explain" ∷ p ∷ [])) (explain_alone_leaf p Brief fp)
+explain_alone_faultless name p Whole fp = ap (whole_fault (codes "explain" ∷ p ∷ codes "--all" ∷ [])) (explain_alone_leaf p Whole fp)
+explain_alone_faultless name p Graph fp = ap (whole_fault (codes "explain" ∷ p ∷ codes "--dot" ∷ [])) (explain_alone_leaf p Graph fp)
+explain_alone_faultless name p Chart fp = ap (whole_fault (codes "explain" ∷ p ∷ codes "--chart" ∷ [])) (explain_alone_leaf p Chart fp)
+explain_alone_faultless name p Picture fp = ap (whole_fault (codes "explain" ∷ p ∷ codes "--svg" ∷ [])) (explain_alone_leaf p Picture fp)
+explain_alone_faultless name p Object fp = ap (whole_fault (codes "explain" ∷ p ∷ codes "--json" ∷ [])) (explain_alone_leaf p Object fp)
 
-pub explain_alone_faultless : (name p : Text) → begins_with_hyphen p ≡ false → fault_of command_line (name ∷ codes "explain" ∷ p ∷ []) ≡ []
+pub replay_lines_faultless : (name p e : Text) → begins_with_hyphen p ≡ false → begins_with_hyphen e ≡ false
+    → fault_of command_line (name ∷ codes "replay" ∷ p ∷ e ∷ codes "--lines" ∷ []) ≡ []
 unfolding clap_on_literals
-explain_alone_faultless name p fp = ap (whole_fault (codes "explain" ∷ p ∷ [])) (explain_alone_leaf p fp)
+replay_lines_faultless name p e fp fe = ap (whole_fault (codes "replay" ∷ p ∷ e ∷ codes "--lines" ∷ [])) (replay_lines_leaf p e fp fe)
 
-pub explain_alone_dot_faultless : (name p : Text) → begins_with_hyphen p ≡ false
-    → fault_of command_line (name ∷ codes "explain" ∷ p ∷ codes "--dot" ∷ []) ≡ []
+pub shrink_faultless : (name p : Text) → begins_with_hyphen p ≡ false → fault_of command_line (name ∷ codes "shrink" ∷ p ∷ []) ≡ []
 unfolding clap_on_literals
-explain_alone_dot_faultless name p fp = ap (whole_fault (codes "explain" ∷ p ∷ codes "--dot" ∷ [])) (explain_alone_dot_leaf p fp)
+shrink_faultless name p fp = ap (whole_fault (codes "shrink" ∷ p ∷ [])) (shrink_leaf p fp)
+
+pub shrink_out_faultless : (name p file : Text) → begins_with_hyphen p ≡ false → begins_with_hyphen file ≡ false
+    → fault_of command_line (name ∷ codes "shrink" ∷ p ∷ codes "--out" ∷ file ∷ []) ≡ []
+unfolding clap_on_literals
+shrink_out_faultless name p file fp ff = ap (whole_fault (codes "shrink" ∷ p ∷ codes "--out" ∷ file ∷ [])) (shrink_out_leaf p file fp ff)
 
 pub replay_faultless : (name p e : Text) → begins_with_hyphen p ≡ false → begins_with_hyphen e ≡ false
     → fault_of command_line (name ∷ codes "replay" ∷ p ∷ e ∷ []) ≡ []
@@ -417,9 +491,10 @@ plain_words_are_faultless = record {
   trim = trim_faultless;
   trim_as_json = trim_json_faultless;
   explain = explain_faultless;
-  explain_dot = explain_dot_faultless;
   explain_alone = explain_alone_faultless;
-  explain_alone_dot = explain_alone_dot_faultless;
+  replay_lines = replay_lines_faultless;
+  shrink = shrink_faultless;
+  shrink_out = shrink_out_faultless;
   prove = prove_faultless;
   prove_as_json = prove_json_faultless;
   prove_progress = prove_progress_faultless;

@@ -8,9 +8,11 @@ use Rattle.clap.specs.Lexer.{long_of, long_of_rest, short_of, short_of_rest, str
 use Rattle.clap.specs.Walk.{Held, Step, Walk, after_step, answers_to, finished, idle, long_or_other, nothing_held, short_or_plain, trailing, walk_from, walked, walked_from, word_met, Waiting, option, positional, plain_word, subcommand_met, subcommand_or_other}
 use Rattle.clap.specs.Simple.{label_of}
 use Rattle.clap.proofs.OnLiterals.{clap_on_literals}
+use Rattle.settings.specs.declared.form.Form.{Form}
+use Rattle.settings.specs.declared.form.Form.TheVariants.{Brief, Whole, Graph, Chart, Picture, Object}
 use Rattle.command_line.specs.CommandLine.{command_line}
-use Rattle.command_line.specs.Requests.{Makes, NamesTask, Task, to_check, to_encode, to_explain, to_export, to_prove, to_replay, to_trim}
-use Rattle.command_line.specs.UsualWords.{PlainWordsAreRead, begins_with_hyphen}
+use Rattle.command_line.specs.Requests.{Makes, NamesTask, Task, to_check, to_encode, to_explain, to_export, to_prove, to_replay, to_shrink, to_trim}
+use Rattle.command_line.specs.UsualWords.{PlainWordsAreRead, begins_with_hyphen, form_words}
 use Rattle.command_line.proofs.ReadTasks.{is_read, read}
 use Rattle.command_line.proofs.SecondWords.{at}
 
@@ -163,6 +165,31 @@ trim_word evidence = after_free trim_rules start evidence
 pub trim_walk : (evidence : Text) → begins_with_hyphen evidence ≡ false → walked trim_rules [] start evidence ≡ trim_word evidence
 trim_walk evidence e = walked_free trim_rules start evidence refl refl e
 
+abbrev pub shrink_rules : List Rule
+shrink_rules = rules_in (find (λ s. answers_to (codes "shrink") (label_of s)) (built command_line).subs)
+
+-- the walk after a program's name
+abbrev pub shrink_word : Text → Walk
+shrink_word program = after_free shrink_rules start program
+
+pub shrink_walk : (program : Text) → begins_with_hyphen program ≡ false → walked shrink_rules [] start program ≡ shrink_word program
+shrink_walk program p = walked_free shrink_rules start program refl refl p
+
+-- the walk after `--out` and a file's name too
+abbrev pub shrink_out : Text → Text → Walk
+shrink_out program file = after_free shrink_rules (walked shrink_rules [] (shrink_word program) (codes "--out")) file
+
+pub shrink_out_walk : (program file : Text) → begins_with_hyphen program ≡ false → begins_with_hyphen file ≡ false
+    → fold (walked shrink_rules []) start (program ∷ codes "--out" ∷ file ∷ []) ≡ shrink_out program file
+unfolding clap_on_literals
+shrink_out_walk program file p f =
+    ap (λ (w : Walk). walked shrink_rules [] (walked shrink_rules [] w (codes "--out")) file) (shrink_walk program p)
+    ∙ walked_free shrink_rules (walked shrink_rules [] (shrink_word program) (codes "--out")) file refl refl f
+
+-- the walk after the words of a form
+abbrev pub in_form : Walk → Form → Walk
+in_form w form = fold (walked explain_rules []) w (form_words form)
+
 -- the walk after `--out` and a file's name too
 abbrev pub trim_out : Text → Text → Walk
 trim_out evidence file = after_free trim_rules (walked trim_rules [] (trim_word evidence) (codes "--out")) file
@@ -190,9 +217,13 @@ of_check_json : (p e : Text) → read (codes "check") (finished check_rules (wal
 unfolding clap_on_literals
 of_check_json p e = refl
 
-of_replay : (p e : Text) → read (codes "replay") (finished replay_rules (two_words replay_rules p e).held) ≡ to_replay p e
+of_replay : (p e : Text) → read (codes "replay") (finished replay_rules (two_words replay_rules p e).held) ≡ to_replay p e false
 unfolding clap_on_literals
 of_replay p e = refl
+
+of_replay_lines : (p e : Text) → read (codes "replay") (finished replay_rules (walked replay_rules [] (two_words replay_rules p e) (codes "--lines")).held) ≡ to_replay p e true
+unfolding clap_on_literals
+of_replay_lines p e = refl
 
 of_encode : (p : Text) → read (codes "encode") (finished encode_rules (encode_word p).held) ≡ to_encode p false
 unfolding clap_on_literals
@@ -202,21 +233,31 @@ of_encode_dimacs : (p : Text) → read (codes "encode") (finished encode_rules (
 unfolding clap_on_literals
 of_encode_dimacs p = refl
 
-of_explain : (p e : Text) → read (codes "explain") (finished explain_rules (two_words explain_rules p e).held) ≡ to_explain p (Some e) 4 4 1000000 false
+of_explain : (p e : Text) (form : Form) → read (codes "explain") (finished explain_rules (in_form (two_words explain_rules p e) form).held) ≡ to_explain p (Some e) 4 4 1000000 form
 unfolding clap_on_literals
-of_explain p e = refl
+of_explain p e Brief = refl
+of_explain p e Whole = refl
+of_explain p e Graph = refl
+of_explain p e Chart = refl
+of_explain p e Picture = refl
+of_explain p e Object = refl
 
-of_explain_dot : (p e : Text) → read (codes "explain") (finished explain_rules (walked explain_rules [] (two_words explain_rules p e) (codes "--dot")).held) ≡ to_explain p (Some e) 4 4 1000000 true
+of_explain_alone : (p : Text) (form : Form) → read (codes "explain") (finished explain_rules (in_form (explain_word p) form).held) ≡ to_explain p None 4 4 1000000 form
 unfolding clap_on_literals
-of_explain_dot p e = refl
+of_explain_alone p Brief = refl
+of_explain_alone p Whole = refl
+of_explain_alone p Graph = refl
+of_explain_alone p Chart = refl
+of_explain_alone p Picture = refl
+of_explain_alone p Object = refl
 
-of_explain_alone : (p : Text) → read (codes "explain") (finished explain_rules (explain_word p).held) ≡ to_explain p None 4 4 1000000 false
+of_shrink : (p : Text) → read (codes "shrink") (finished shrink_rules (shrink_word p).held) ≡ to_shrink p None
 unfolding clap_on_literals
-of_explain_alone p = refl
+of_shrink p = refl
 
-of_explain_alone_dot : (p : Text) → read (codes "explain") (finished explain_rules (walked explain_rules [] (explain_word p) (codes "--dot")).held) ≡ to_explain p None 4 4 1000000 true
+of_shrink_out : (p file : Text) → read (codes "shrink") (finished shrink_rules (shrink_out p file).held) ≡ to_shrink p (Some file)
 unfolding clap_on_literals
-of_explain_alone_dot p = refl
+of_shrink_out p file = refl
 
 of_export : (p e file : Text) → read (codes "export") (finished export_rules (export_out p e file).held) ≡ to_export p e file
 unfolding clap_on_literals
@@ -276,6 +317,11 @@ made_trim : (name : Text) (words : List Text) (task : Task) → NamesTask (name 
 unfolding clap_on_literals
 made_trim name words task asks = at name (codes "trim") words task refl asks
 
+made_shrink : (name : Text) (words : List Text) (task : Task) → NamesTask (name ∷ codes "shrink" ∷ words) task
+    → Makes (codes "shrink") (finished shrink_rules (fold (walked shrink_rules []) start words).held) task
+unfolding clap_on_literals
+made_shrink name words task asks = at name (codes "shrink") words task refl asks
+
 pub made_prove : (name : Text) (words : List Text) (task : Task) → NamesTask (name ∷ codes "prove" ∷ words) task
     → Makes (codes "prove") (finished prove_rules (fold (walked prove_rules []) start words).held) task
 unfolding clap_on_literals
@@ -290,26 +336,29 @@ plain_words_are_read = record {
       read_by (codes "check") check_rules (p ∷ e ∷ codes "--json" ∷ []) (walked check_rules [] (two_words check_rules p e) (codes "--json")) task (to_check p e 4 true) (ap (λ (w : Walk). walked check_rules [] w (codes "--json")) (check_walk p e fp fe))
       (made_check name (p ∷ e ∷ codes "--json" ∷ []) task asks.named) (of_check_json p e);
   replay = λ name p e task fp fe asks.
-      read_by (codes "replay") replay_rules (p ∷ e ∷ []) (two_words replay_rules p e) task (to_replay p e) (replay_walk p e fp fe)
+      read_by (codes "replay") replay_rules (p ∷ e ∷ []) (two_words replay_rules p e) task (to_replay p e false) (replay_walk p e fp fe)
       (made_replay name (p ∷ e ∷ []) task asks.named) (of_replay p e);
+  replay_lines = λ name p e task fp fe asks.
+      read_by (codes "replay") replay_rules (p ∷ e ∷ codes "--lines" ∷ []) (walked replay_rules [] (two_words replay_rules p e) (codes "--lines")) task (to_replay p e true) (ap (λ (w : Walk). walked replay_rules [] w (codes "--lines")) (replay_walk p e fp fe))
+      (made_replay name (p ∷ e ∷ codes "--lines" ∷ []) task asks.named) (of_replay_lines p e);
   encode = λ name p task fp asks.
       read_by (codes "encode") encode_rules (p ∷ []) (encode_word p) task (to_encode p false) (encode_walk p fp)
       (made_encode name (p ∷ []) task asks.named) (of_encode p);
   encode_dimacs = λ name p task fp asks.
       read_by (codes "encode") encode_rules (p ∷ codes "--dimacs" ∷ []) (walked encode_rules [] (encode_word p) (codes "--dimacs")) task (to_encode p true) (ap (λ (w : Walk). walked encode_rules [] w (codes "--dimacs")) (encode_walk p fp))
       (made_encode name (p ∷ codes "--dimacs" ∷ []) task asks.named) (of_encode_dimacs p);
-  explain = λ name p e task fp fe asks.
-      read_by (codes "explain") explain_rules (p ∷ e ∷ []) (two_words explain_rules p e) task (to_explain p (Some e) 4 4 1000000 false) (explain_walk p e fp fe)
-      (made_explain name (p ∷ e ∷ []) task asks.named) (of_explain p e);
-  explain_dot = λ name p e task fp fe asks.
-      read_by (codes "explain") explain_rules (p ∷ e ∷ codes "--dot" ∷ []) (walked explain_rules [] (two_words explain_rules p e) (codes "--dot")) task (to_explain p (Some e) 4 4 1000000 true) (ap (λ (w : Walk). walked explain_rules [] w (codes "--dot")) (explain_walk p e fp fe))
-      (made_explain name (p ∷ e ∷ codes "--dot" ∷ []) task asks.named) (of_explain_dot p e);
-  explain_alone = λ name p task fp asks.
-      read_by (codes "explain") explain_rules (p ∷ []) (explain_word p) task (to_explain p None 4 4 1000000 false) (explain_alone_walk p fp)
-      (made_explain name (p ∷ []) task asks.named) (of_explain_alone p);
-  explain_alone_dot = λ name p task fp asks.
-      read_by (codes "explain") explain_rules (p ∷ codes "--dot" ∷ []) (walked explain_rules [] (explain_word p) (codes "--dot")) task (to_explain p None 4 4 1000000 true) (ap (λ (w : Walk). walked explain_rules [] w (codes "--dot")) (explain_alone_walk p fp))
-      (made_explain name (p ∷ codes "--dot" ∷ []) task asks.named) (of_explain_alone_dot p);
+  explain = λ name p e form task fp fe asks.
+      read_by (codes "explain") explain_rules (p ∷ e ∷ form_words form) (in_form (two_words explain_rules p e) form) task (to_explain p (Some e) 4 4 1000000 form) (ap (λ (w : Walk). in_form w form) (explain_walk p e fp fe))
+      (made_explain name (p ∷ e ∷ form_words form) task asks.named) (of_explain p e form);
+  explain_alone = λ name p form task fp asks.
+      read_by (codes "explain") explain_rules (p ∷ form_words form) (in_form (explain_word p) form) task (to_explain p None 4 4 1000000 form) (ap (λ (w : Walk). in_form w form) (explain_alone_walk p fp))
+      (made_explain name (p ∷ form_words form) task asks.named) (of_explain_alone p form);
+  shrink = λ name p task fp asks.
+      read_by (codes "shrink") shrink_rules (p ∷ []) (shrink_word p) task (to_shrink p None) (shrink_walk p fp)
+      (made_shrink name (p ∷ []) task asks.named) (of_shrink p);
+  shrink_out = λ name p file task fp ff asks.
+      read_by (codes "shrink") shrink_rules (p ∷ codes "--out" ∷ file ∷ []) (shrink_out p file) task (to_shrink p (Some file)) (shrink_out_walk p file fp ff)
+      (made_shrink name (p ∷ codes "--out" ∷ file ∷ []) task asks.named) (of_shrink_out p file);
   export = λ name p e file task fp fe ffile asks.
       read_by (codes "export") export_rules (p ∷ e ∷ codes "--out" ∷ file ∷ []) (export_out p e file) task (to_export p e file) (export_out_walk p e file fp fe ffile)
       (made_export name (p ∷ e ∷ codes "--out" ∷ file ∷ []) task asks.named) (of_export p e file);

@@ -5,7 +5,7 @@ use Rattle.std.specs.Str.{bytes_eq}
 use Rattle.clap.specs.Words.{Row, Text, first_of, one_of, subcommand_of}
 use Rattle.clap.proofs.OnLiterals.{clap_on_literals}
 use Rattle.command_line.specs.CommandLine.{command_line}
-use Rattle.command_line.specs.Requests.{Makes, MakesSome, OneTaskIsAsked, Reads, Task, is_true, number_of, to_check, to_encode, to_explain, to_export, to_prove, to_replay, to_trim}
+use Rattle.command_line.specs.Requests.{Makes, MakesSome, OneTaskIsAsked, Reads, Task, form_in, is_true, number_of, to_check, to_encode, to_explain, to_export, to_prove, to_replay, to_shrink, to_trim}
 
 abbrev text_in : Option Text → Text
 text_in o = unwrap_or o []
@@ -24,15 +24,17 @@ read name rows =
     then to_check (text_in (first_of (codes "PROGRAM") rows)) (text_in (first_of (codes "EVIDENCE") rows)) (number_in (one_of (codes "pieces") rows))
     (is_true (one_of (codes "json") rows))
     else (if bytes_eq name (codes "replay")
-    then to_replay (text_in (first_of (codes "PROGRAM") rows)) (text_in (first_of (codes "EVIDENCE") rows))
+    then to_replay (text_in (first_of (codes "PROGRAM") rows)) (text_in (first_of (codes "EVIDENCE") rows)) (is_true (one_of (codes "lines") rows))
     else (if bytes_eq name (codes "encode")
     then to_encode (text_in (first_of (codes "PROGRAM") rows)) (is_true (one_of (codes "dimacs") rows))
     else (if bytes_eq name (codes "explain")
     then to_explain (text_in (first_of (codes "PROGRAM") rows)) (first_of (codes "EVIDENCE") rows) (number_in (one_of (codes "workers") rows))
-    (number_in (one_of (codes "depth") rows)) (number_in (one_of (codes "budget") rows)) (is_true (one_of (codes "dot") rows))
+    (number_in (one_of (codes "depth") rows)) (number_in (one_of (codes "budget") rows)) (form_in rows)
     else (if bytes_eq name (codes "export")
     then to_export (text_in (first_of (codes "PROGRAM") rows)) (text_in (first_of (codes "EVIDENCE") rows)) (text_in (first_of (codes "out") rows))
-    else to_trim (text_in (first_of (codes "EVIDENCE") rows)) (text_in (first_of (codes "out") rows)) (is_true (one_of (codes "json") rows)))))))
+    else (if bytes_eq name (codes "trim")
+    then to_trim (text_in (first_of (codes "EVIDENCE") rows)) (text_in (first_of (codes "out") rows)) (is_true (one_of (codes "json") rows))
+    else to_shrink (text_in (first_of (codes "PROGRAM") rows)) (first_of (codes "out") rows)))))))
 
 given : (o : Option Text) (text : Text) → o ≡ Some text → text ≡ text_in o
 given o text e = sym (ap text_in e)
@@ -51,13 +53,13 @@ is_read name rows (to_check p e n json) makes =
     let v = makes.values in
     (λ i. to_check (given _ p v.0 i) (given _ e v.1 i) (spelled rows (codes "pieces") n v.2 i) (v.3 i))
     ∙ ap (λ (n : Text). read n rows) (sym makes.command)
-is_read name rows (to_replay p e) makes =
+is_read name rows (to_replay p e lines) makes =
     let v = makes.values in
-    (λ i. to_replay (given _ p v.0 i) (given _ e v.1 i)) ∙ ap (λ (n : Text). read n rows) (sym makes.command)
+    (λ i. to_replay (given _ p v.0 i) (given _ e v.1 i) (v.2 i)) ∙ ap (λ (n : Text). read n rows) (sym makes.command)
 is_read name rows (to_encode p dimacs) makes =
     let v = makes.values in
     (λ i. to_encode (given _ p v.0 i) (v.1 i)) ∙ ap (λ (n : Text). read n rows) (sym makes.command)
-is_read name rows (to_explain p e w d b graph) makes =
+is_read name rows (to_explain p e w d b form) makes =
     let v = makes.values in
     (λ i. to_explain (given _ p v.0 i) (sym v.1 i) (spelled rows (codes "workers") w v.2 i) (spelled rows (codes "depth") d v.3 i)
     (spelled rows (codes "budget") b v.4 i) (v.5 i)) ∙ ap (λ (n : Text). read n rows) (sym makes.command)
@@ -67,6 +69,9 @@ is_read name rows (to_export p e out) makes =
 is_read name rows (to_trim e out json) makes =
     let v = makes.values in
     (λ i. to_trim (given _ e v.0 i) (given _ out v.1 i) (v.2 i)) ∙ ap (λ (n : Text). read n rows) (sym makes.command)
+is_read name rows (to_shrink p out) makes =
+    let v = makes.values in
+    (λ i. to_shrink (given _ p v.0 i) (sym v.1 i)) ∙ ap (λ (n : Text). read n rows) (sym makes.command)
 
 same : (found : Option (Text × List Row)) (one other : Task) → MakesSome found one → MakesSome found other → one ≡ other
 same None one other first second = absurd first

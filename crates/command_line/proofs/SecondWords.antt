@@ -182,6 +182,10 @@ at_trim : (w : Text) (rest : List Text) (task : Task) → NamesTask (w ∷ codes
 unfolding clap_on_literals
 at_trim w rest task asks = (at w (codes "trim") rest task refl asks).command
 
+at_shrink : (w : Text) (rest : List Text) (task : Task) → NamesTask (w ∷ codes "shrink" ∷ rest) task → codes "shrink" ≡ command_of task
+unfolding clap_on_literals
+at_shrink w rest task asks = (at w (codes "shrink") rest task refl asks).command
+
 at_help : (w : Text) (rest : List Text) (task : Task) → NamesTask (w ∷ codes "help" ∷ rest) task → codes "help" ≡ command_of task
 unfolding clap_on_literals
 at_help w rest task asks = (at w (codes "help") rest task refl asks).command
@@ -199,8 +203,9 @@ at_dashes w (word ∷ rest) task asks sound =
 
 unmet_by : (word : Text) → bytes_eq (codes "prove") word ≡ false → bytes_eq (codes "check") word ≡ false → bytes_eq (codes "replay") word ≡ false
     → bytes_eq (codes "encode") word ≡ false → bytes_eq (codes "explain") word ≡ false → bytes_eq (codes "export") word ≡ false
-    → bytes_eq (codes "trim") word ≡ false → bytes_eq (codes "help") word ≡ false → subcommand_met names idle word ≡ None
-unmet_by word a b c d x o t e = rw (a, b, c, d, x, o, t, e) refl
+    → bytes_eq (codes "trim") word ≡ false → bytes_eq (codes "shrink") word ≡ false → bytes_eq (codes "help") word ≡ false
+    → subcommand_met names idle word ≡ None
+unmet_by word a b c d x o t s e = rw (a, b, c, d, x, o, t, s, e) refl
 
 turn_none : (w word : Text) (rest : List Text) → fault_of command_line (w ∷ word ∷ rest) ≡ [] → turn_fault top names (walk_from nothing_held) word ≡ []
 unfolding walk_fault
@@ -228,15 +233,21 @@ command_is_second (w ∷ word ∷ rest) task asks sound = ap Some (by_name (byte
 
     by_help : (b : Bool) → bytes_eq (codes "help") word ≡ b → bytes_eq (codes "prove") word ≡ false → bytes_eq (codes "check") word ≡ false
         → bytes_eq (codes "replay") word ≡ false → bytes_eq (codes "encode") word ≡ false → bytes_eq (codes "explain") word ≡ false
+        → bytes_eq (codes "export") word ≡ false → bytes_eq (codes "trim") word ≡ false → bytes_eq (codes "shrink") word ≡ false → word ≡ command_of task
+    by_help true e p c r n x o t s = sym (is _ e) ∙ at_help w rest task (asked _ (is _ e))
+    by_help false e p c r n x o t s = by_dashes (bytes_eq word dashes) refl (unmet_by word p c r n x o t s e)
+
+    by_shrink : (b : Bool) → bytes_eq (codes "shrink") word ≡ b → bytes_eq (codes "prove") word ≡ false → bytes_eq (codes "check") word ≡ false
+        → bytes_eq (codes "replay") word ≡ false → bytes_eq (codes "encode") word ≡ false → bytes_eq (codes "explain") word ≡ false
         → bytes_eq (codes "export") word ≡ false → bytes_eq (codes "trim") word ≡ false → word ≡ command_of task
-    by_help true e p c r n x o t = sym (is _ e) ∙ at_help w rest task (asked _ (is _ e))
-    by_help false e p c r n x o t = by_dashes (bytes_eq word dashes) refl (unmet_by word p c r n x o t e)
+    by_shrink true e p c r n x o t = sym (is _ e) ∙ at_shrink w rest task (asked _ (is _ e))
+    by_shrink false e p c r n x o t = by_help (bytes_eq (codes "help") word) refl p c r n x o t e
 
     by_trim : (b : Bool) → bytes_eq (codes "trim") word ≡ b → bytes_eq (codes "prove") word ≡ false → bytes_eq (codes "check") word ≡ false
         → bytes_eq (codes "replay") word ≡ false → bytes_eq (codes "encode") word ≡ false → bytes_eq (codes "explain") word ≡ false
         → bytes_eq (codes "export") word ≡ false → word ≡ command_of task
     by_trim true e p c r n x o = sym (is _ e) ∙ at_trim w rest task (asked _ (is _ e))
-    by_trim false e p c r n x o = by_help (bytes_eq (codes "help") word) refl p c r n x o e
+    by_trim false e p c r n x o = by_shrink (bytes_eq (codes "shrink") word) refl p c r n x o e
 
     by_export : (b : Bool) → bytes_eq (codes "export") word ≡ b → bytes_eq (codes "prove") word ≡ false → bytes_eq (codes "check") word ≡ false
         → bytes_eq (codes "replay") word ≡ false → bytes_eq (codes "encode") word ≡ false → bytes_eq (codes "explain") word ≡ false → word ≡ command_of task

@@ -28,9 +28,13 @@ number_with name low high usual = record (number_rule name (Signed (pos low) (po
 abbrev pub out_rule : Rule
 out_rule = record (option_rule (codes "out")) { value_names = 1 }
 
--- `--json`, which takes no value
+-- an option that takes no value
+abbrev pub flag_rule : Text → Rule
+flag_rule name = record (option_rule name) { action = Some SetTrue }
+
+-- `--json`
 abbrev pub json_rule : Rule
-json_rule = record (option_rule (codes "json")) { action = Some SetTrue }
+json_rule = flag_rule (codes "json")
 
 -- the file PROGRAM
 abbrev pub program_rule : Rule
@@ -42,17 +46,13 @@ evidence_rule = file_rule (codes "EVIDENCE")
 
 -- the command `replay`
 abbrev pub replay_app : App
-replay_app = with_rule (with_rule (new_app (codes "replay")) program_rule) evidence_rule
+replay_app = with_rule (with_rule (with_rule (new_app (codes "replay")) program_rule) evidence_rule) (flag_rule (codes "lines"))
 
 -- the command `check`
 abbrev pub check_app : App
 check_app =
     with_rule (with_rule (with_rule (with_rule (new_app (codes "check")) program_rule) evidence_rule) (number_with (codes "pieces") 1 64 (codes "4")))
     json_rule
-
--- `--dot`, which takes no value
-abbrev pub dot_rule : Rule
-dot_rule = record (option_rule (codes "dot")) { action = Some SetTrue }
 
 -- the same, which need not be named
 abbrev pub optional_evidence_rule : Rule
@@ -66,20 +66,24 @@ explain_app =
     (with_rule
     (with_rule
     (with_rule
+    (with_rule
+    (with_rule
+    (with_rule
+    (with_rule
     (with_rule (new_app (codes "explain")) program_rule)
     optional_evidence_rule)
     (number_with (codes "workers") 1 64 (codes "4")))
     (number_with (codes "depth") 0 15 (codes "4")))
     (number_with (codes "budget") 0 1000000000 (codes "1000000")))
-    dot_rule
-
--- `--dimacs`, which takes no value
-abbrev pub dimacs_rule : Rule
-dimacs_rule = record (option_rule (codes "dimacs")) { action = Some SetTrue }
+    (flag_rule (codes "all")))
+    (flag_rule (codes "dot")))
+    (flag_rule (codes "chart")))
+    (flag_rule (codes "svg")))
+    json_rule
 
 -- the command `encode`
 abbrev pub encode_app : App
-encode_app = with_rule (with_rule (new_app (codes "encode")) program_rule) dimacs_rule
+encode_app = with_rule (with_rule (new_app (codes "encode")) program_rule) (flag_rule (codes "dimacs"))
 
 -- `--out FILE`, which has to be given
 abbrev pub proof_rule : Rule
@@ -93,9 +97,9 @@ export_app = with_rule (with_rule (with_rule (new_app (codes "export")) program_
 abbrev pub trim_app : App
 trim_app = with_rule (with_rule (with_rule (new_app (codes "trim")) evidence_rule) proof_rule) json_rule
 
--- `--progress`, which takes no value
-abbrev pub progress_rule : Rule
-progress_rule = record (option_rule (codes "progress")) { action = Some SetTrue }
+-- the command `shrink`
+abbrev pub shrink_app : App
+shrink_app = with_rule (with_rule (new_app (codes "shrink")) program_rule) out_rule
 
 -- the command `prove`
 abbrev pub prove_app : App
@@ -111,7 +115,7 @@ prove_app =
     (number_with (codes "workers") 1 64 (codes "4")))
     (number_with (codes "depth") 0 15 (codes "4")))
     (number_with (codes "budget") 0 1000000000 (codes "1000000")))
-    progress_rule)
+    (flag_rule (codes "progress")))
     json_rule
 
 -- the command asks for one of its subcommands
@@ -122,10 +126,11 @@ wants_subcommand a = record a { top = record a.top { subcommand_required = true 
 abbrev pub with_version : App → App
 with_version a = record a { top = record a.top { has_version = true } }
 
--- the whole command line: one of the seven commands, or a question for help or for the version
+-- the whole command line: one of the eight commands, or a question for help or for the version
 abbrev pub command_line : App
 command_line =
     with_subcommand
+    (with_subcommand
     (with_subcommand
     (with_subcommand
     (with_subcommand
@@ -137,7 +142,8 @@ command_line =
     encode_app.top)
     explain_app.top)
     export_app.top)
-    trim_app.top
+    trim_app.top)
+    shrink_app.top
 
 -- the argument has this rule, and is of its own command alone
 pub record IsRuled (a : Arg) (rule : Rule) : Type 0 where

@@ -1,47 +1,53 @@
 -- What the words of a command line ask for.
-use Rattle.std.specs.Prelude.{◌≡◌, ℕ, [], Bool, false, Some, None, Option, option_map, codes, List, slice_get}
+use Rattle.std.specs.Prelude.{◌≡◌, ℕ, [], Bool, if◌then◌else◌, false, Some, None, Option, option_map, codes, List, slice_get}
 use Rattle.std.specs.Str.{bytes_eq}
 use Rattle.std.specs.Str.Parse.{IsNumeral, digits_value, without_leading_plus}
 use Rattle.clap.specs.Words.{Row, Text, fault_of, first_of, one_of, subcommand_of}
+use Rattle.settings.specs.declared.form.Form.{Form}
+use Rattle.settings.specs.declared.form.Form.TheVariants.{Brief, Whole, Graph, Chart, Picture, Object}
 use Rattle.command_line.specs.CommandLine.{command_line}
 use Rattle.command_line.specs.declared.request.Request.{Request}
 use Rattle.command_line.specs.declared.request.Request.TheVariants as ask
 
 -- What may be asked for: to prove a program, with the file for the evidence, where one is named, the numbers of workers, the depth and the
 -- budget, whether the progress is told, and whether the answer is a JSON object; to check a program by an evidence, in so many pieces, with
--- the answer as a JSON object or not; to replay an evidence on a program; to encode a program, in the DIMACS format or not; to explain what an
--- evidence, or where none is named the answer to a search with these numbers, shows of a program, by a graph or not; to export the proof that an
--- evidence makes of a program, to a file; and to trim an evidence, to a file, with the answer as a JSON object or not.
+-- the answer as a JSON object or not; to replay an evidence on a program, with lines of the text or not; to encode a program, in the DIMACS format or not; to explain what an
+-- evidence, or where none is named the answer to a search with these numbers, shows of a program, in a form; to export the proof that an
+-- evidence makes of a program, to a file; to trim an evidence, to a file, with the answer as a JSON object or not; and to make a program smaller,
+-- to a file, where one is named.
 pub data Task : Type 0 where
   to_prove : Text → Option Text → ℕ → ℕ → ℕ → Bool → Bool → Task
   to_check : Text → Text → ℕ → Bool → Task
-  to_replay : Text → Text → Task
+  to_replay : Text → Text → Bool → Task
   to_encode : Text → Bool → Task
-  to_explain : Text → Option Text → ℕ → ℕ → ℕ → Bool → Task
+  to_explain : Text → Option Text → ℕ → ℕ → ℕ → Form → Task
   to_export : Text → Text → Text → Task
   to_trim : Text → Text → Bool → Task
+  to_shrink : Text → Option Text → Task
 
 -- what a request asks for
 abbrev pub task_of : Request → Task
 task_of (ask.Prove program out options progress json) =
     to_prove program.now (option_map (λ path. path.now) out) options.workers options.depth options.budget progress json
 task_of (ask.Check program evidence pieces json) = to_check program.now evidence.now pieces.number json
-task_of (ask.Replay program evidence) = to_replay program.now evidence.now
+task_of (ask.Replay program evidence lines) = to_replay program.now evidence.now lines
 task_of (ask.Encode program dimacs) = to_encode program.now dimacs
-task_of (ask.Explain program evidence options graph) =
-    to_explain program.now (option_map (λ path. path.now) evidence) options.workers options.depth options.budget graph
+task_of (ask.Explain program evidence options form) =
+    to_explain program.now (option_map (λ path. path.now) evidence) options.workers options.depth options.budget form
 task_of (ask.Export program evidence out) = to_export program.now evidence.now out.now
 task_of (ask.Trim evidence out json) = to_trim evidence.now out.now json
+task_of (ask.Shrink program out) = to_shrink program.now (option_map (λ path. path.now) out)
 
 -- the word of a task's command
 abbrev pub command_of : Task → Text
 command_of (to_prove program out workers depth budget progress json) = codes "prove"
 command_of (to_check program evidence pieces json) = codes "check"
-command_of (to_replay program evidence) = codes "replay"
+command_of (to_replay program evidence lines) = codes "replay"
 command_of (to_encode program dimacs) = codes "encode"
-command_of (to_explain program evidence workers depth budget graph) = codes "explain"
+command_of (to_explain program evidence workers depth budget form) = codes "explain"
 command_of (to_export program evidence out) = codes "export"
 command_of (to_trim evidence out json) = codes "trim"
+command_of (to_shrink program out) = codes "shrink"
 
 -- ---- what the words after a command give
 
@@ -57,6 +63,16 @@ is_true (Some text) = bytes_eq text (codes "true")
 -- the flag is set exactly where they set it
 abbrev pub Flags : List Row → Text → Bool → Type 0
 Flags rows id value = value ≡ is_true (one_of id rows)
+
+-- the form of an explanation: the first of `--json`, `--svg`, `--chart`, `--dot` and `--all` that they set
+abbrev pub form_in : List Row → Form
+form_in rows =
+    if is_true (one_of (codes "json") rows) then Object
+    else (if is_true (one_of (codes "svg") rows) then Picture
+    else (if is_true (one_of (codes "chart") rows) then Chart
+    else (if is_true (one_of (codes "dot") rows) then Graph
+    else (if is_true (one_of (codes "all") rows) then Whole
+    else Brief))))
 
 -- the number that a text spells in decimal digits, a plus before which doesn't count
 abbrev pub number_of : Text → ℕ
@@ -74,15 +90,17 @@ HasValues rows (to_prove program out workers depth budget progress json) =
     × Reads rows (codes "budget") budget × Flags rows (codes "progress") progress × Flags rows (codes "json") json
 HasValues rows (to_check program evidence pieces json) =
     Gives rows (codes "PROGRAM") program × Gives rows (codes "EVIDENCE") evidence × Reads rows (codes "pieces") pieces × Flags rows (codes "json") json
-HasValues rows (to_replay program evidence) = Gives rows (codes "PROGRAM") program × Gives rows (codes "EVIDENCE") evidence
+HasValues rows (to_replay program evidence lines) =
+    Gives rows (codes "PROGRAM") program × Gives rows (codes "EVIDENCE") evidence × Flags rows (codes "lines") lines
 HasValues rows (to_encode program dimacs) = Gives rows (codes "PROGRAM") program × Flags rows (codes "dimacs") dimacs
-HasValues rows (to_explain program evidence workers depth budget graph) =
+HasValues rows (to_explain program evidence workers depth budget form) =
     Gives rows (codes "PROGRAM") program × (first_of (codes "EVIDENCE") rows ≡ evidence) × Reads rows (codes "workers") workers
-    × Reads rows (codes "depth") depth × Reads rows (codes "budget") budget × Flags rows (codes "dot") graph
+    × Reads rows (codes "depth") depth × Reads rows (codes "budget") budget × (form ≡ form_in rows)
 HasValues rows (to_export program evidence out) =
     Gives rows (codes "PROGRAM") program × Gives rows (codes "EVIDENCE") evidence × Gives rows (codes "out") out
 HasValues rows (to_trim evidence out json) =
     Gives rows (codes "EVIDENCE") evidence × Gives rows (codes "out") out × Flags rows (codes "json") json
+HasValues rows (to_shrink program out) = Gives rows (codes "PROGRAM") program × (first_of (codes "out") rows ≡ out)
 
 -- a command's name and its matches make this task
 pub record Makes (name : Text) (rows : List Row) (task : Task) : Type 0 where

@@ -1,7 +1,7 @@
 //! The arguments of the commands.
 
 ghost use Rattle.std.specs.Prelude.{codes};
-ghost use Rattle.command_line.specs.CommandLine.{IsRuled, dimacs_rule, dot_rule, evidence_rule, json_rule, number_rule, number_with, option_rule, optional_evidence_rule, out_rule, program_rule, progress_rule, proof_rule};
+ghost use Rattle.command_line.specs.CommandLine.{IsRuled, evidence_rule, flag_rule, number_rule, number_with, option_rule, optional_evidence_rule, out_rule, program_rule, proof_rule};
 
 use clap::builder::ValueParser;
 use clap::{Arg, ArgAction, value_parser};
@@ -28,6 +28,14 @@ pub const JSON: &str = "json";
 pub const DOT: &str = "dot";
 
 pub const DIMACS: &str = "dimacs";
+
+pub const ALL: &str = "all";
+
+pub const CHART: &str = "chart";
+
+pub const SVG: &str = "svg";
+
+pub const LINES: &str = "lines";
 
 pub fn program<'a>(alloc: Global) -> Arg<'a>
     ensures { IsRuled result program_rule }
@@ -56,35 +64,76 @@ pub fn optional_evidence<'a>(alloc: Global) -> Arg<'a>
 }
 
 pub fn json<'a>(alloc: Global) -> Arg<'a>
-    ensures { IsRuled result json_rule }
+    ensures { IsRuled result (flag_rule (codes "json")) }
 {
-    option(alloc, JSON)
-        .action(ArgAction::SetTrue)
-        .help("Print the answer as a JSON object")
+    flag(alloc, JSON, "Print the answer as a JSON object")
 }
 
 pub fn progress<'a>(alloc: Global) -> Arg<'a>
-    ensures { IsRuled result progress_rule }
+    ensures { IsRuled result (flag_rule (codes "progress")) }
 {
-    option(alloc, PROGRESS).action(ArgAction::SetTrue).help(
+    flag(
+        alloc,
+        PROGRESS,
         "Tell on standard error, once a second, how far the search is",
     )
 }
 
 pub fn dot<'a>(alloc: Global) -> Arg<'a>
-    ensures { IsRuled result dot_rule }
+    ensures { IsRuled result (flag_rule (codes "dot")) }
 {
-    option(alloc, DOT)
-        .action(ArgAction::SetTrue)
-        .help("Print who waits for whom as a graph for Graphviz")
+    flag(
+        alloc,
+        DOT,
+        "Print who waits for whom as a graph for Graphviz",
+    )
 }
 
 pub fn dimacs<'a>(alloc: Global) -> Arg<'a>
-    ensures { IsRuled result dimacs_rule }
+    ensures { IsRuled result (flag_rule (codes "dimacs")) }
 {
-    option(alloc, DIMACS)
-        .action(ArgAction::SetTrue)
-        .help("Print the formula in the DIMACS format")
+    flag(alloc, DIMACS, "Print the formula in the DIMACS format")
+}
+
+pub fn all<'a>(alloc: Global) -> Arg<'a>
+    ensures { IsRuled result (flag_rule (codes "all")) }
+{
+    flag(alloc, ALL, "Print every list whole")
+}
+
+pub fn chart<'a>(alloc: Global) -> Arg<'a>
+    ensures { IsRuled result (flag_rule (codes "chart")) }
+{
+    flag(alloc, CHART, "Print the run as a message sequence chart")
+}
+
+pub fn svg<'a>(alloc: Global) -> Arg<'a>
+    ensures { IsRuled result (flag_rule (codes "svg")) }
+{
+    flag(alloc, SVG, "Print that chart as a picture, in SVG")
+}
+
+pub fn lines<'a>(alloc: Global) -> Arg<'a>
+    ensures { IsRuled result (flag_rule (codes "lines")) }
+{
+    flag(
+        alloc,
+        LINES,
+        "Print each step with the lines of the program's text",
+    )
+}
+
+pub fn object<'a>(alloc: Global) -> Arg<'a>
+    ensures { IsRuled result (flag_rule (codes "json")) }
+{
+    flag(alloc, JSON, "Print all of it as a JSON object")
+}
+
+/// An option that takes no value.
+fn flag<'a>(alloc: Global, name: &'a str, about: &'a str) -> Arg<'a>
+    ensures { IsRuled result (flag_rule name.entry.now) }
+{
+    option(alloc, name).action(ArgAction::SetTrue).help(about)
 }
 
 pub fn proof<'a>(alloc: Global) -> Arg<'a>
@@ -103,6 +152,15 @@ pub fn out<'a>(alloc: Global) -> Arg<'a>
     ensures { IsRuled result out_rule }
 {
     written(alloc, "Write the evidence to this file")
+}
+
+pub fn smaller<'a>(alloc: Global) -> Arg<'a>
+    ensures { IsRuled result out_rule }
+{
+    written(
+        alloc,
+        "Write the smaller program to this file, and print the answer on it alone",
+    )
 }
 
 /// The file to write.

@@ -2,14 +2,15 @@
 
 ghost use Rattle.std.specs.Prelude.{◌≡◌, IfOk};
 ghost use Rattle.clap.specs.Words.{App, Rule, new_app, with_rule, with_subcommand};
-ghost use Rattle.command_line.specs.CommandLine.{IsRuled, IsShaped, check_app, command_line, encode_app, explain_app, export_app, prove_app, replay_app, trim_app, version_line};
+ghost use Rattle.command_line.specs.CommandLine.{IsRuled, IsShaped, check_app, command_line, encode_app, explain_app, export_app, prove_app, replay_app, shrink_app, trim_app, version_line};
 
 use crate::arguments::{
-    budget, depth, dimacs, dot, evidence, json, optional_evidence, out, pieces, program, progress,
-    proof, trimmed, workers,
+    all, budget, chart, depth, dimacs, dot, evidence, json, lines, object, optional_evidence, out,
+    pieces, program, progress, proof, smaller, svg, trimmed, workers,
 };
 use crate::help_ends::{
-    CHECK_END, ENCODE_END, EXPLAIN_END, EXPORT_END, HELP_END, PROVE_END, REPLAY_END, TRIM_END,
+    CHECK_END, ENCODE_END, EXPLAIN_END, EXPORT_END, HELP_END, PROVE_END, REPLAY_END, SHRINK_END,
+    TRIM_END,
 };
 use clap::Arg;
 use clap::builder::Command;
@@ -62,7 +63,8 @@ pub fn command<'a>(alloc: Global) -> Result<Command<'a>, AllocError>
     let top = under(top, encode_command(alloc));
     let top = under(top, explain_command(alloc));
     let top = under(top, export_command(alloc));
-    under(top, trim_command(alloc))
+    let top = under(top, trim_command(alloc));
+    under(top, shrink_command(alloc))
 }
 
 fn prove_command<'a>(alloc: Global) -> Result<Command<'a>, AllocError>
@@ -103,7 +105,8 @@ fn replay_command<'a>(alloc: Global) -> Result<Command<'a>, AllocError>
         REPLAY_END,
     );
     let command = with(Ok(command), program(alloc));
-    with(command, evidence(alloc))
+    let command = with(command, evidence(alloc));
+    with(command, lines(alloc))
 }
 
 fn encode_command<'a>(alloc: Global) -> Result<Command<'a>, AllocError>
@@ -133,7 +136,11 @@ fn explain_command<'a>(alloc: Global) -> Result<Command<'a>, AllocError>
     let command = with(command, workers(alloc));
     let command = with(command, depth(alloc));
     let command = with(command, budget(alloc));
-    with(command, dot(alloc))
+    let command = with(command, all(alloc));
+    let command = with(command, dot(alloc));
+    let command = with(command, chart(alloc));
+    let command = with(command, svg(alloc));
+    with(command, object(alloc))
 }
 
 fn export_command<'a>(alloc: Global) -> Result<Command<'a>, AllocError>
@@ -162,4 +169,17 @@ fn trim_command<'a>(alloc: Global) -> Result<Command<'a>, AllocError>
     let command = with(Ok(command), evidence(alloc));
     let command = with(command, trimmed(alloc));
     with(command, json(alloc))
+}
+
+fn shrink_command<'a>(alloc: Global) -> Result<Command<'a>, AllocError>
+    ensures { IfOk result (λ c. IsShaped c shrink_app) }
+{
+    let command = named(
+        alloc,
+        "shrink",
+        "Prints a smaller program that gets stuck too",
+        SHRINK_END,
+    );
+    let command = with(Ok(command), program(alloc));
+    with(command, smaller(alloc))
 }

@@ -88,3 +88,12 @@ pub const TRIM_END: &str = ending!(
   0  the evidence is written, with as many lines as are printed
   3  refused: the evidence, with the reason"
 );
+
+/// Of `shrink`.
+pub const SHRINK_END: &str = ending!(
+    "shrink program.mpi --out smaller.mpi",
+    "
+  1  deadlock: the smaller program, or the answer on it, is printed
+  2  unknown: no run that was tried gets stuck
+  3  refused: the program, with the reason"
+);

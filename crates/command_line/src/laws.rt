@@ -13,7 +13,7 @@ pub fn command_is_second()
 {}
 
 /// In their usual order the words of a command give the files' names and the options that they look like: `--json`,
-/// `--progress`, `--out`, `--dot` and `--dimacs`.
+/// `--progress`, `--out`, `--lines`, `--dimacs`, and the form of an explanation.
 pub fn plain_words_are_read()
     ensures { PlainWordsAreRead }
 {}

@@ -3,15 +3,16 @@
 ghost use Rattle.std.specs.Prelude.{◌≡◌, ◌⊎◌, IfErr, IfOk, IfSome, codes, map, string_bytes};
 ghost use Rattle.clap.specs.Words.{IsAmong, fault_of, found_of, kind_of, rows_of, subcommand_rows_of};
 ghost use Rattle.command_line.specs.CommandLine.{command_line};
-ghost use Rattle.command_line.specs.Requests.{AskFor, Flags, Makes, MakesSome, Reads, task_of};
+ghost use Rattle.command_line.specs.Requests.{AskFor, Flags, Makes, MakesSome, Reads, form_in, task_of};
 
 use crate::arguments::{
-    BUDGET, DEPTH, DIMACS, DOT, EVIDENCE, JSON, OUT, PIECES, PROGRAM, PROGRESS, WORKERS,
+    ALL, BUDGET, CHART, DEPTH, DIMACS, DOT, EVIDENCE, JSON, LINES, OUT, PIECES, PROGRAM, PROGRESS,
+    SVG, WORKERS,
 };
 use crate::commands::command;
 use clap::error::ErrorKind;
 use clap::{ArgMatches, Error};
-use settings::{Options, Pieces};
+use settings::{Form, Options, Pieces};
 use std::alloc::{AllocError, Global};
 
 /// What a command line asks for, with the paths of its files.
@@ -32,22 +33,23 @@ pub enum Request<'a> {
         pieces: Pieces,
         json: bool,
     },
-    /// Print the steps of a schedule.
+    /// Print the steps of a schedule, with the lines of the program's text or not.
     Replay {
         program: &'a str,
         evidence: &'a str,
+        lines: bool,
     },
     /// Print the formula of a program, in the DIMACS format or not.
     Encode {
         program: &'a str,
         dimacs: bool,
     },
-    /// Explain what an evidence shows of a program, by a text or by a graph. Where none is named, one is searched for first.
+    /// Explain what an evidence shows of a program, in this form. Where none is named, one is searched for first.
     Explain {
         program: &'a str,
         evidence: Option<&'a str>,
         options: Options,
-        graph: bool,
+        form: Form,
     },
     /// Write the proof that an evidence makes of a program's formula to the file `out`.
     Export {
@@ -60,6 +62,11 @@ pub enum Request<'a> {
         evidence: &'a str,
         out: &'a str,
         json: bool,
+    },
+    /// Print a smaller program that gets stuck too, or write it to the file `out`.
+    Shrink {
+        program: &'a str,
+        out: Option<&'a str>,
     },
 }
 
@@ -107,6 +114,7 @@ fn requested<'a>(subcommand: (&'a str, &ArgMatches<'a>)) -> Option<Request<'a>>
         "explain" => explain_request(matches),
         "export" => export_request(matches),
         "trim" => trim_request(matches),
+        "shrink" => shrink_request(matches),
         _ => None,
     }
 }
@@ -145,6 +153,7 @@ fn replay_request<'a>(matches: &ArgMatches<'a>) -> Option<Request<'a>>
     Some(Request::Replay {
         program: matches.get_str(PROGRAM)?,
         evidence: matches.get_str(EVIDENCE)?,
+        lines: is_set(matches, LINES),
     })
 }
 
@@ -166,7 +175,7 @@ fn explain_request<'a>(matches: &ArgMatches<'a>) -> Option<Request<'a>>
         program: matches.get_str(PROGRAM)?,
         evidence: matches.get_str(EVIDENCE),
         options: options_of(matches)?,
-        graph: is_set(matches, DOT),
+        form: form_of(matches),
     })
 }
 
@@ -191,6 +200,35 @@ fn trim_request<'a>(matches: &ArgMatches<'a>) -> Option<Request<'a>>
         out,
         json: is_set(matches, JSON),
     })
+}
+
+/// The request of the matches of `shrink`.
+fn shrink_request<'a>(matches: &ArgMatches<'a>) -> Option<Request<'a>>
+    ensures { IfSome result (λ request. Makes (codes "shrink") (rows_of (found_of matches.now)) (task_of request)) }
+{
+    Some(Request::Shrink {
+        program: matches.get_str(PROGRAM)?,
+        out: matches.get_str(OUT),
+    })
+}
+
+/// The form of an explanation: the first of these that is asked for.
+fn form_of(matches: &ArgMatches<'_>) -> Form
+    ensures { result ≡ form_in (rows_of (found_of matches.now)) }
+{
+    if is_set(matches, JSON) {
+        Form::Object
+    } else if is_set(matches, SVG) {
+        Form::Picture
+    } else if is_set(matches, CHART) {
+        Form::Chart
+    } else if is_set(matches, DOT) {
+        Form::Graph
+    } else if is_set(matches, ALL) {
+        Form::Whole
+    } else {
+        Form::Brief
+    }
 }
 
 /// The options of a search.

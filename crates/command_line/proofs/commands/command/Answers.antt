@@ -16,4 +16,5 @@ returns c =
     let four = c.under-top-4.ensures _ _ three c.encode_command.ensures in
     let five = c.under-top-5.ensures _ _ four c.explain_command.ensures in
     let six = c.under-top-6.ensures _ _ five c.export_command.ensures in
-    c.under.ensures _ _ six c.trim_command.ensures
+    let seven = c.under-top-7.ensures _ _ six c.trim_command.ensures in
+    c.under.ensures _ _ seven c.shrink_command.ensures

@@ -7,4 +7,8 @@ returns c =
     let three = c.with-command-3.ensures _ _ two c.workers.ensures in
     let four = c.with-command-4.ensures _ _ three c.depth.ensures in
     let five = c.with-command-5.ensures _ _ four c.budget.ensures in
-    c.with.ensures _ _ five c.dot.ensures
+    let six = c.with-command-6.ensures _ _ five c.all.ensures in
+    let seven = c.with-command-7.ensures _ _ six c.dot.ensures in
+    let eight = c.with-command-8.ensures _ _ seven c.chart.ensures in
+    let nine = c.with-command-9.ensures _ _ eight c.svg.ensures in
+    c.with.ensures _ _ nine c.object.ensures

@@ -3,4 +3,5 @@ use Rattle.command_line.proofs.commands.replay_command.Goals as goal
 pub returns : goal.returns
 returns c =
     let one = c.with-command.ensures _ _ c.named-command.ensures c.program.ensures in
-    c.with.ensures _ _ one c.evidence.ensures
+    let two = c.with-command-2.ensures _ _ one c.evidence.ensures in
+    c.with.ensures _ _ two c.lines.ensures

@@ -13,6 +13,6 @@ returns c =
         c.in_ok-options_of.ensures.workers,
         c.in_ok-options_of.ensures.depth,
         c.in_ok-options_of.ensures.budget,
-        c.is_set.ensures,
+        c.form_of.ensures,
       );
     }

@@ -10,5 +10,6 @@ returns c =
       values = (
         given_by_rows m _ c.get_str.result c.get_str.ensures ∙ ap (option_map (λ s. s.now)) c.in_ok-get_str.was,
         given_by_rows m _ c.get_str-2.result c.get_str-2.ensures ∙ ap (option_map (λ s. s.now)) c.in_ok-get_str-2.was,
+        c.is_set.ensures,
       );
     }

@@ -1,0 +1,18 @@
+//! In which form an explanation is printed.
+
+/// In which form an explanation is printed.
+#[derive(Clone, Copy, PartialEq, Eq)]
+pub enum Form {
+    /// A text, in which long lists are folded.
+    Brief,
+    /// The same text with every list whole.
+    Whole,
+    /// A graph of who waits for whom, in Graphviz's language.
+    Graph,
+    /// A message sequence chart of the steps, as a text.
+    Chart,
+    /// The same chart as a picture, in SVG.
+    Picture,
+    /// A JSON object.
+    Object,
+}
