@@ -126,7 +126,7 @@ fn put_calls(
     calls: &[usize],
     reached: bool,
 ) -> Result<(), AllocError> {
-    if calls.len() > MOST_CALLS {
+    if calls.len() > scene.most(MOST_CALLS) {
         return put_folded(out, program, scene, calls, reached);
     }
     for call in calls {
@@ -155,8 +155,8 @@ fn put_of_rank(
 }
 
 /// Tells of how many ranks beyond those that a list tells calls fit, if there are more.
-fn put_other_ranks(out: &mut String, count: usize) -> Result<(), AllocError> {
-    let more = count.saturating_sub(MOST_TOLD);
+fn put_other_ranks(out: &mut String, scene: &Scene, count: usize) -> Result<(), AllocError> {
+    let more = count.saturating_sub(scene.most(MOST_TOLD));
     if more == 0 {
         return Ok(());
     }
@@ -183,10 +183,11 @@ pub fn put_candidates(
     }
     let mut ranks: usize = 0;
     for rank in 0..program.ranks() {
-        if put_of_rank(out, alloc, program, scene, &calls, rank, ranks < MOST_TOLD)? {
+        let wanted = ranks < scene.most(MOST_TOLD);
+        if put_of_rank(out, alloc, program, scene, &calls, rank, wanted)? {
             ranks = ranks.saturating_add(1);
         }
     }
-    put_other_ranks(out, ranks)?;
+    put_other_ranks(out, scene, ranks)?;
     put_misses(out, alloc, program, scene, operation)
 }

@@ -53,12 +53,12 @@ pub fn lacks_of(
     let mut told: usize = 0;
     for rank in 0..64 {
         if lacking.contains(rank) {
-            if told < MOST_TOLD {
+            if told < scene.most(MOST_TOLD) {
                 put_lack(&mut out, alloc, program, scene, rank)?;
             }
             told = told.saturating_add(1);
         }
     }
-    put_more(&mut out, told)?;
+    put_more(&mut out, scene, told)?;
     Ok(out)
 }

@@ -3,8 +3,7 @@
 
 ghost use Rattle.semantics.specs.Machine.{IsStuckRun};
 
-use crate::placing::{put_call_of, put_finding, put_number_of};
-use crate::written::Written;
+use crate::placing::{Scene, put_call_of, put_finding, put_number_of};
 use callorder::{Policy, Program};
 use semantics::{State, Step};
 use std::alloc::{AllocError, Global};
@@ -13,7 +12,7 @@ use std::alloc::{AllocError, Global};
 const MOST_RIVALS: usize = 3;
 
 /// Whether the call is a receive, a matched probe or a probe with a star.
-fn is_wildcard(program: &Program, finder: usize) -> bool {
+pub fn is_wildcard(program: &Program, finder: usize) -> bool {
     match program.call(finder) {
         None => false,
         Some(call) => match call.kind.pattern() {
@@ -36,7 +35,7 @@ fn is_behind(program: &Program, state: &State, send: usize, finder: usize) -> bo
 }
 
 /// The sends of other ranks that fit the call too, of each rank the first one that is not matched.
-fn rivals(
+pub fn rivals(
     alloc: Global,
     program: &Program,
     state: &State,
@@ -57,7 +56,7 @@ fn put_choice(
     out: &mut String,
     alloc: Global,
     program: &Program,
-    calls: &[Written],
+    scene: &Scene,
     state: &State,
     send: usize,
     finder: usize,
@@ -66,18 +65,18 @@ fn put_choice(
     if rivals.is_empty() {
         return Ok(());
     }
-    put_finding(out, program, calls, finder, send)?;
-    put_rivals(out, calls, &rivals)?;
+    put_finding(out, program, &scene.calls, finder, send)?;
+    put_rivals(out, scene, &rivals)?;
     out.push_str(" fitted too\n")
 }
 
 /// Tells calls by their numbers, parted by commas, and of many how many more there are.
-fn put_rivals(out: &mut String, calls: &[Written], rivals: &[usize]) -> Result<(), AllocError> {
-    let (named, others) = rivals.split_at(rivals.len().min(MOST_RIVALS));
+fn put_rivals(out: &mut String, scene: &Scene, rivals: &[usize]) -> Result<(), AllocError> {
+    let (named, others) = rivals.split_at(rivals.len().min(scene.most(MOST_RIVALS)));
     let mut before = "";
     for rival in named {
         out.push_str(before)?;
-        put_number_of(out, calls, *rival)?;
+        put_number_of(out, &scene.calls, *rival)?;
         before = ", ";
     }
     if !others.is_empty() {
@@ -88,16 +87,12 @@ fn put_rivals(out: &mut String, calls: &[Written], rivals: &[usize]) -> Result<(
 }
 
 /// Tells which send was buffered.
-fn put_buffered(
-    out: &mut String,
-    calls: &[Written],
-    call: Option<usize>,
-) -> Result<(), AllocError> {
+fn put_buffered(out: &mut String, scene: &Scene, call: Option<usize>) -> Result<(), AllocError> {
     let Some(call) = call else {
         return Ok(());
     };
     out.push_str("  ")?;
-    put_call_of(out, calls, call)?;
+    put_call_of(out, &scene.calls, call)?;
     out.push_str(" was buffered\n")
 }
 
@@ -106,7 +101,7 @@ fn put_decision(
     out: &mut String,
     alloc: Global,
     program: &Program,
-    calls: &[Written],
+    scene: &Scene,
     state: &State,
     step: Step,
 ) -> Result<(), AllocError> {
@@ -114,12 +109,12 @@ fn put_decision(
         Step::Issue {
             rank,
             buffered: true,
-        } if program.policy() == Policy::Any => put_buffered(out, calls, state.next_of(rank)),
+        } if program.policy() == Policy::Any => put_buffered(out, scene, state.next_of(rank)),
         Step::Match { send, taker } if is_wildcard(program, taker) => {
-            put_choice(out, alloc, program, calls, state, send, taker)
+            put_choice(out, alloc, program, scene, state, send, taker)
         }
         Step::See { send, probe } if is_wildcard(program, probe) => {
-            put_choice(out, alloc, program, calls, state, send, probe)
+            put_choice(out, alloc, program, scene, state, send, probe)
         }
         _ => Ok(()),
     }
@@ -129,7 +124,7 @@ fn put_decision(
 pub fn decisions(
     alloc: Global,
     program: &Program,
-    calls: &[Written],
+    scene: &Scene,
     steps: &[Step],
 ) -> Result<String, AllocError>
     requires { IsStuckRun program.now steps.now }
@@ -137,7 +132,7 @@ pub fn decisions(
     let mut out = String::new(alloc);
     let mut state = State::start(alloc, program)?;
     for step in steps {
-        put_decision(&mut out, alloc, program, calls, &state, *step)?;
+        put_decision(&mut out, alloc, program, scene, &state, *step)?;
         state.apply(program, *step);
     }
     Ok(out)

@@ -7,11 +7,10 @@ use crate::decisions::decisions;
 use crate::exchanged::exchanged;
 use crate::links::put_a_cycle;
 use crate::placing::{Scene, put_part};
-use crate::replaying::end_of;
+use crate::scene::scene_of;
 use crate::standings::standings;
 use crate::unreceived::unreceived;
 use crate::waiters::waiters;
-use crate::written::written_calls;
 use callorder::Program;
 use calltext::Source;
 use semantics::Step;
@@ -52,29 +51,29 @@ fn put_rest(
 }
 
 /// The text, in plain ASCII, that explains a run of a program that ends stuck: a cycle of ranks that wait for one another, and the
-/// ranks for which nothing can come; the choices on the way; receives that took another message than a probe before them saw; where
-/// the other ranks stand and for what they wait; who waits for whom; and which messages nobody received. Long lists are cut, and
-/// told by their number. `text` is the program's text, `source` what it says, and `program` its calls. The only error is want of
-/// memory.
+/// ranks for which nothing can come; then `decided`, a text on what decided it; the choices on the way; receives that took another
+/// message than a probe before them saw; where the other ranks stand and for what they wait; who waits for whom; and which messages
+/// nobody received. Long lists are cut, and told by their number, unless each is wanted whole. `text` is the program's text, `source`
+/// what it says, and `program` its calls. The only error is want of memory.
 pub fn explanation(
     alloc: Global,
     text: &[u8],
     source: &Source,
     program: &Program,
     steps: &[Step],
+    decided: &str,
+    whole: bool,
 ) -> Result<Vec<u8>, AllocError>
     requires { IsStuckRun program.now steps.now }
 {
-    let scene = Scene {
-        calls: written_calls(alloc, text, source, program)?,
-        state: end_of(alloc, program, steps)?,
-    };
+    let scene = scene_of(alloc, text, source, program, steps, whole)?;
     let count = steps.len();
     let noun = if count == 1 { "step" } else { "steps" };
     let mut out = format!(in alloc; "deadlock after {count} {noun}\n")?;
     put_cause(&mut out, alloc, program, &scene)?;
-    let decided = decisions(alloc, program, &scene.calls, steps)?;
-    put_part(&mut out, "choices on the way:", &decided)?;
+    out.push_str(decided)?;
+    let choices = decisions(alloc, program, &scene, steps)?;
+    put_part(&mut out, "choices on the way:", &choices)?;
     put_rest(&mut out, alloc, program, &scene)?;
     Ok(out.into_bytes())
 }

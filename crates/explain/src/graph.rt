@@ -6,8 +6,7 @@ use crate::cause::lacks;
 use crate::links::{cycle_of, next_on};
 use crate::missing::{MOST_MISSES, likely_misses};
 use crate::placing::{Scene, are_in_one_line, are_several, put_line};
-use crate::replaying::end_of;
-use crate::written::written_calls;
+use crate::scene::scene_of;
 use callorder::Program;
 use calltext::Source;
 use misses::{Part, misses_in};
@@ -187,10 +186,7 @@ pub fn wait_graph(
 ) -> Result<Vec<u8>, AllocError>
     requires { IsStuckRun program.now steps.now }
 {
-    let scene = Scene {
-        calls: written_calls(alloc, text, source, program)?,
-        state: end_of(alloc, program, steps)?,
-    };
+    let scene = scene_of(alloc, text, source, program, steps, false)?;
     let ranks = cycle_of(alloc, program, &scene)?;
     let mut out = String::from_str(alloc, "digraph waits {\n")?;
     put_layout(&mut out, program.ranks())?;

@@ -58,7 +58,7 @@ fn first_missing(program: &Program, state: &State, operation: usize, rank: u32) 
 }
 
 /// The call of a rank that an operation needs, the first of them, if there is one.
-fn needed(program: &Program, state: &State, operation: usize, rank: u32) -> Option<usize>
+pub fn needed(program: &Program, state: &State, operation: usize, rank: u32) -> Option<usize>
     ensures { IfSome result (λ call. IsNeeded program.now state.now operation rank call) }
 {
     match need_of(program, state, operation) {
@@ -140,10 +140,10 @@ pub fn put_a_cycle(
     scene: &Scene,
 ) -> Result<(), AllocError> {
     let ranks = cycle_of(alloc, program, scene)?;
-    for rank in ranks.iter().take(MOST_TOLD) {
+    for rank in ranks.iter().take(scene.most(MOST_TOLD)) {
         out.push_str(front_of(&ranks, *rank))?;
         let next = next_on(&ranks, *rank).unwrap_or(*rank);
         put_link(out, program, scene, *rank, next)?;
     }
-    put_more(out, ranks.len())
+    put_more(out, scene, ranks.len())
 }

@@ -113,7 +113,7 @@ pub fn put_misses(
     operation: usize,
 ) -> Result<(), AllocError> {
     let likely = likely_misses(alloc, program, scene, operation)?;
-    for other in likely.iter().take(MOST_MISSES) {
+    for other in likely.iter().take(scene.most(MOST_MISSES)) {
         put_miss(out, program, scene, operation, *other)?;
     }
     Ok(())

@@ -14,6 +14,15 @@ pub const MOST_TOLD: usize = 8;
 pub struct Scene {
     pub calls: Vec<Written>,
     pub state: State,
+    /// Whether each list is told whole.
+    pub whole: bool,
+}
+
+impl Scene {
+    /// The most entries of a list that are told, where usually these are.
+    pub fn most(&self, usual: usize) -> usize {
+        if self.whole { usize::MAX } else { usual }
+    }
 }
 
 /// Tells a call by its number and its line.
@@ -83,8 +92,8 @@ pub fn put_where(
 }
 
 /// Tells how many there are beyond those that a list tells, if there are more.
-pub fn put_more(out: &mut String, count: usize) -> Result<(), AllocError> {
-    let more = count.saturating_sub(MOST_TOLD);
+pub fn put_more(out: &mut String, scene: &Scene, count: usize) -> Result<(), AllocError> {
+    let more = count.saturating_sub(scene.most(MOST_TOLD));
     if more == 0 {
         return Ok(());
     }

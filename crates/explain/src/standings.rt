@@ -110,13 +110,13 @@ pub fn standings(
     let mut count: usize = 0;
     for rank in 0..program.ranks() {
         if !told.contains(rank) && !is_finished(program, scene, rank) {
-            if count < MOST_TOLD {
+            if count < scene.most(MOST_TOLD) {
                 put_standing(&mut out, alloc, program, scene, rank)?;
             }
             count = count.saturating_add(1);
         }
     }
-    put_more(&mut out, count)?;
+    put_more(&mut out, scene, count)?;
     put_finished(&mut out, program, scene)?;
     Ok(out)
 }

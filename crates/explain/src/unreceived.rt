@@ -16,7 +16,7 @@ fn put_message(out: &mut String, scene: &Scene, send: usize) -> Result<(), Alloc
 }
 
 /// Whether the call is a send whose message is sent and that nobody received.
-fn is_unreceived(program: &Program, scene: &Scene, call: usize) -> bool {
+pub fn is_unreceived(program: &Program, scene: &Scene, call: usize) -> bool {
     match program.call(call) {
         None => false,
         Some(known) => {
@@ -33,12 +33,12 @@ pub fn unreceived(alloc: Global, program: &Program, scene: &Scene) -> Result<Str
     let mut told: usize = 0;
     for place in 0..program.calls().len() {
         if is_unreceived(program, scene, place) {
-            if told < MOST_TOLD {
+            if told < scene.most(MOST_TOLD) {
                 put_message(&mut out, scene, place)?;
             }
             told = told.saturating_add(1);
         }
     }
-    put_more(&mut out, told)?;
+    put_more(&mut out, scene, told)?;
     Ok(out)
 }

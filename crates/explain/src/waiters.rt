@@ -45,12 +45,12 @@ pub fn waiters(alloc: Global, program: &Program, scene: &Scene) -> Result<String
     let mut told: usize = 0;
     for rank in 0..program.ranks() {
         if let Standing::Waits { call } = standing_of(program, &scene.state, rank) {
-            if told < MOST_TOLD {
+            if told < scene.most(MOST_TOLD) {
                 put_awaited(&mut out, alloc, program, scene, rank, call)?;
             }
             told = told.saturating_add(1);
         }
     }
-    put_more(&mut out, told)?;
+    put_more(&mut out, scene, told)?;
     Ok(out)
 }

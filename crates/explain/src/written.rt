@@ -31,12 +31,17 @@ pub struct Written {
 }
 
 impl Written {
+    /// Adds the words of the call's line.
+    pub fn put_words(&self, out: &mut String) -> Result<(), AllocError> {
+        out.push_str(&self.words)?;
+        out.push_str(self.part)
+    }
+
     /// Adds the number of the call's line, and its words.
     pub fn put_line(&self, out: &mut String) -> Result<(), AllocError> {
         let line = self.line;
         write!(out, "line {line}: ")?;
-        out.push_str(&self.words)?;
-        out.push_str(self.part)
+        self.put_words(out)
     }
 }
 

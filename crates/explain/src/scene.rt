@@ -1,0 +1,46 @@
+//! The end of a run, with its program's calls as the text has them.
+
+ghost use Rattle.std.specs.Prelude.{◌≡◌, IfOk};
+ghost use Rattle.explain.specs.Calls.{AreWritten};
+ghost use Rattle.semantics.specs.Machine.{opening, after_all, IsRun, IsStuck, IsStuckRun};
+
+use crate::placing::Scene;
+use crate::written::written_calls;
+use callorder::Program;
+use calltext::Source;
+use semantics::{State, Step};
+use std::alloc::{AllocError, Global};
+
+/// The state after the steps of a run that ends stuck.
+fn end_of(alloc: Global, program: &Program, steps: &[Step]) -> Result<State, AllocError>
+    requires { IsStuckRun program.now steps.now }
+    ensures { IfOk result (λ state. state ≡ after_all (opening program.now) steps.now) }
+{
+    let mut state = State::start(alloc, program)?;
+    for step in steps {
+        state.apply(program, *step);
+    }
+    Ok(state)
+}
+
+/// The end of a run that ends stuck, with the calls of its program as its text has them. The only error is want of memory.
+pub fn scene_of(
+    alloc: Global,
+    text: &[u8],
+    source: &Source,
+    program: &Program,
+    steps: &[Step],
+    whole: bool,
+) -> Result<Scene, AllocError>
+    requires { IsStuckRun program.now steps.now }
+    ensures calls { IfOk result (λ scene. AreWritten source.now program.now scene.calls.items) }
+    ensures state { IfOk result (λ scene. scene.state ≡ after_all (opening program.now) steps.now) }
+{
+    let calls = written_calls(alloc, text, source, program)?;
+    let state = end_of(alloc, program, steps)?;
+    Ok(Scene {
+        calls,
+        state,
+        whole,
+    })
+}
