@@ -1,0 +1,4 @@
+mod Columns
+mod Decimals
+mod Listed
+mod Replayed

@@ -1,0 +1,5 @@
+pub mod Calls
+pub mod Acts
+pub mod Lining
+pub mod Chart
+pub mod Picture
