@@ -36,6 +36,10 @@ IsEvidenceOn p (Refutation claim) = IsRefutedBy p claim
 abbrev pub HasFinishedRun : MpiProgram → Type 0
 HasFinishedRun p = (steps : List Step) × IsFinishedRun p steps
 
+-- some run of the program ends stuck
+abbrev pub HasStuckRun : MpiProgram → Type 0
+HasStuckRun p = (steps : List Step) × IsStuckRun p steps
+
 -- of a reason and of the one that is noted, if one is, the smaller one
 abbrev pub smallest_with : Option Why → Why → Why
 smallest_with None why = why

@@ -11,7 +11,7 @@ use semantics::{End, ReplayFault, Step, replay};
 use std::alloc::{AllocError, Global};
 
 /// Whether the steps are a run that ends stuck.
-fn is_stuck(alloc: Global, program: &Program, steps: &[Step]) -> Result<bool, AllocError>
+pub fn is_stuck(alloc: Global, program: &Program, steps: &[Step]) -> Result<bool, AllocError>
     ensures { IfOk result (λ stuck. IsTrue stuck ↔ IsStuckRun program.now steps.now) }
 {
     match replay(alloc, program, steps) {

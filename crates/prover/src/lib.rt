@@ -2,6 +2,7 @@
 #![tactic(auto)]
 
 mod answer;
+mod ends;
 mod explore;
 mod formula;
 mod manner;
@@ -12,6 +13,7 @@ mod walk;
 
 pub use answer::Answer;
 pub use checker::{PieceGate, Reason, Verdict, verdict, verdict_in};
+pub use ends::{Until, WalkEnds, walk_ends};
 pub use formula::{dimacs_formula, formula_text};
 pub use pool::Why;
 pub use proving::prove;

@@ -1,12 +1,13 @@
 //! The steps of a schedule, told one by one.
 
-ghost use Rattle.std.specs.Prelude.{◌≡◌, ◌++◌, IfOk, IsSome, OnOk, slice_get};
-ghost use Rattle.semantics.specs.Machine.{IsEnabled, IsRun, opening};
-ghost use Rattle.prover.specs.Answers.{Replays};
+ghost use Rattle.std.specs.Prelude.{◌≡◌, ◌++◌, IfOk, IsSome, OnOk, slice_get, true};
+ghost use Rattle.semantics.specs.Machine.{IsEnabled, IsRun, IsStuckRun, opening};
+ghost use Rattle.prover.specs.Answers.{Replays, TellsRun};
 ghost use Rattle.prover.specs.Telling.{how_issued, issue_line, told_line, told_run, verb_of};
 
 use callorder::{Kind, Program};
-use calltext::Verb;
+use calltext::{Verb, read};
+use charts::lined_steps;
 use checker::{NoRun, Reason, stuck_run_of};
 use plaintext::put_number;
 use prooflog::put_find;
@@ -99,8 +100,8 @@ fn put_told(
     }
 }
 
-/// A line for each step of a run, and then `stuck`.
-fn text_of(alloc: Global, program: &Program, steps: &[Step]) -> Result<Vec<u8>, AllocError>
+/// A line for each step of a run, and then `stuck`, by the numbers of calls.
+fn numbered(alloc: Global, program: &Program, steps: &[Step]) -> Result<Vec<u8>, AllocError>
     requires { IsRun program.now (opening program.now) steps.now }
     ensures { IfOk result (λ text. text.items ≡ told_run program.now steps.now) }
 {
@@ -114,17 +115,53 @@ fn text_of(alloc: Global, program: &Program, steps: &[Step]) -> Result<Vec<u8>, 
     Ok(text)
 }
 
+/// The same by the lines of the program's text.
+fn lined(
+    alloc: Global,
+    text: &[u8],
+    program: &Program,
+    steps: &[Step],
+) -> Result<Vec<u8>, AllocError>
+    requires { IsStuckRun program.now steps.now }
+    ensures { IfOk result (λ lines. TellsRun true text.now program.now steps.now lines.items) }
+{
+    // The program was made of this text, so want of memory alone can be met.
+    let Ok(source) = read(alloc, text) else {
+        return Err(AllocError);
+    };
+    lined_steps(alloc, text, &source, program, steps)
+}
+
+/// The text of a run of the program of this text that ends stuck, by lines or by numbers.
+fn text_of(
+    alloc: Global,
+    text: &[u8],
+    program: &Program,
+    steps: &[Step],
+    lines: bool,
+) -> Result<Vec<u8>, AllocError>
+    requires { IsStuckRun program.now steps.now }
+    ensures { IfOk result (λ told. TellsRun lines text.now program.now steps.now told.items) }
+{
+    if lines {
+        lined(alloc, text, program, steps)
+    } else {
+        numbered(alloc, program, steps)
+    }
+}
+
 /// Replays the schedule of an evidence on a program, and tells its steps, a line for each, and then `stuck`; ranks
-/// count from 0, calls from 1. What isn't a run of the program that ends stuck is refused as `verdict` refuses it.
-pub fn replay(alloc: Global, program: &[u8], evidence: &[u8]) -> Replayed
-    ensures { Replays program.now evidence.now result }
+/// count from 0, calls and lines of the program's text from 1. Steps are told by the numbers of their calls, or by the lines that these
+/// stand in. What isn't a run of the program that ends stuck is refused as `verdict` refuses it.
+pub fn replay(alloc: Global, program: &[u8], evidence: &[u8], lines: bool) -> Replayed
+    ensures { Replays lines program.now evidence.now result }
 {
     let run = match stuck_run_of(alloc, program, evidence) {
         Ok(run) => run,
         Err(NoRun::Refused(reason)) => return Replayed::Refused(reason),
         Err(NoRun::NotASchedule) => return Replayed::NotASchedule,
     };
-    match text_of(alloc, &run.program, run.schedule.steps()) {
+    match text_of(alloc, program, &run.program, run.schedule.steps(), lines) {
         Ok(text) => Replayed::Stuck(text),
         Err(_) => Replayed::Refused(Reason::Memory),
     }

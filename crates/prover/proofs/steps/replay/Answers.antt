@@ -1,13 +1,15 @@
-use Rattle.std.proofs.Common.{sym, ap, ◌∙◌}
+use Rattle.std.proofs.Common.{sym, subst, ℕ, List, ◌∙◌}
 use Rattle.callorder.specs.Programs.{MpiProgram}
-use Rattle.prover.specs.Telling.{told_run}
+use Rattle.semantics.specs.declared.state.Step.{Step}
+use Rattle.prover.specs.Answers.{TellsRun}
 use Rattle.prover.proofs.steps.replay.Goals as goal
 
 pub returns-in-Ok-text_of : goal.returns-in-Ok-text_of
 returns-in-Ok-text_of c =
-    let shown = c.in-Ok.ensures.shown in (
+    let shown = c.in-Ok.ensures.shown in
+    let text = c.in-Ok-text_of.text.items in (
       shown.0,
-      c.in-Ok-text_of.ensures
-          ∙ ap (told_run c.in-Ok.run'.program) (c.steps.ensures.same ∙ sym shown.2)
-          ∙ ap (λ (p : MpiProgram). told_run p shown.0.steps) (sym shown.1),
+      subst (λ (p : MpiProgram). TellsRun c.args.lines c.args.program.now p shown.0.steps text) (sym shown.1)
+          (subst (λ (steps : List Step). TellsRun c.args.lines c.args.program.now c.in-Ok.run'.program steps text) (c.steps.ensures.same ∙ sym shown.2)
+          c.in-Ok-text_of.ensures),
     )

@@ -1,0 +1,17 @@
+use Rattle.std.proofs.Common.{sym, subst}
+use Rattle.semantics.specs.Machine.{IsStuckRun}
+use Rattle.prover.proofs.Walks.{walk_finishes}
+use Rattle.prover.proofs.ends.with_walk.Goals as goal
+
+pub returns-clause-holds : goal.returns-clause-holds
+returns-clause-holds c =
+    let p = c.args.program.now in
+    let steps = c.in_ok-steps.steps.items in
+    record {
+      hangs = c.requires.hangs;
+      finishes = λ told. (
+        steps,
+        walk_finishes p steps c.in_ok-steps.ensures
+            (λ stuck. let is = c.in_ok-is_stuck.ensures.1 (subst (IsStuckRun p) (sym c.deref.ensures.value) stuck) in absurd cc),
+      );
+    }
