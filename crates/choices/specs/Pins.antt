@@ -1,0 +1,33 @@
+-- Texts with another line in the place of one.
+use Rattle.std.specs.Prelude.{◌≡◌, ℕ, ◌+◌, List, [], ◌∷◌, ◌++◌, length}
+use Rattle.std.specs.List.{flat_map}
+use Rattle.plaintext.specs.Plain.{text_lines}
+
+-- lines, one after another
+abbrev pub joined : List (List ℕ) → List ℕ
+joined lines = flat_map (λ line. line) lines
+
+-- The pinned text has the lines of the text, but for that of this number, from 1, in whose place stands the given one, and an LF.
+pub record IsPinned (text : List ℕ) (number : ℕ) (line pinned : List ℕ) : Type 0 where
+  pub before : List (List ℕ)
+  pub old : List ℕ
+  pub after : List (List ℕ)
+  pub cut : text_lines text ≡ before ++ old ∷ after
+  pub place : number ≡ length before + 1
+  pub is : pinned ≡ joined (before ++ (line ++ 10 ∷ []) ∷ after)
+
+-- the lines before that of this number, from 1, are the front, and the lines after it the back
+pub record AreAround (text : List ℕ) (number : ℕ) (front back : List ℕ) : Type 0 where
+  pub before : List (List ℕ)
+  pub old : List ℕ
+  pub after : List (List ℕ)
+  pub cut : text_lines text ≡ before ++ old ∷ after
+  pub place : number ≡ length before + 1
+  pub front_is : front ≡ joined before
+  pub back_is : back ≡ joined after
+
+-- so many lines stand before the rest
+pub record IsPast (text : List ℕ) (count : ℕ) (rest : List ℕ) : Type 0 where
+  pub before : List (List ℕ)
+  pub cut : text_lines text ≡ before ++ text_lines rest
+  pub many : length before ≡ count

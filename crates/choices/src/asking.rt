@@ -1,0 +1,130 @@
+//! What is known of a text with one line pinned.
+
+ghost use Rattle.std.specs.Prelude.{IfOk, IsTrue};
+ghost use Rattle.semantics.specs.Machine.{IsStuckRun};
+ghost use Rattle.prover.specs.Answers.{CanHang};
+ghost use Rattle.choices.specs.Weights.{HangsWith, IsWay, IsWayWith};
+
+use crate::pinning::with_line;
+use callorder::Program;
+use checker::program_of;
+use prover::{Answer, Gate, Options, Reason, Until, Why, prove, walk_ends};
+use semantics::{End, ReplayFault, Step, replay};
+use std::alloc::{AllocError, Global};
+use std::sync::Wait;
+use std::thread::Threads;
+
+/// What is known of a text's program.
+#[derive(Clone, Copy, PartialEq, Eq)]
+pub enum Way {
+    /// Some run ends stuck.
+    Hangs,
+    /// No run ends stuck.
+    Never,
+    /// Neither is known.
+    Open,
+}
+
+/// Lets a search go on at once.
+struct AtOnce;
+
+impl Gate for AtOnce {
+    fn before(&self, _worker: u32, _cube: u32) {}
+}
+
+/// What a search finds of a text's program.
+fn searched<R: Threads + Wait + Sync>(
+    rt: &R,
+    alloc: Global,
+    text: &[u8],
+    search: Options,
+) -> Result<Way, AllocError>
+    ensures { IfOk result (IsWay text.now) }
+{
+    match prove(rt, alloc, text, search, &AtOnce) {
+        Answer::NoDeadlock(_evidence) => Ok(Way::Never),
+        Answer::Deadlock(_evidence) => Ok(Way::Hangs),
+        Answer::Unknown(Why::Memory) => Err(AllocError),
+        Answer::Unknown(_why) => Ok(Way::Open),
+        Answer::Refused(_reason) => Ok(Way::Open),
+    }
+}
+
+/// What walks find of a text's program.
+fn walked(alloc: Global, text: &[u8]) -> Result<Way, AllocError>
+    ensures { IfOk result (IsWay text.now) }
+{
+    match walk_ends(alloc, text, Until::Stuck) {
+        Ok(ends) => {
+            if ends.stuck {
+                return Ok(Way::Hangs);
+            }
+            Ok(Way::Open)
+        }
+        Err(Reason::Memory) => Err(AllocError),
+        Err(_reason) => Ok(Way::Open),
+    }
+}
+
+/// What is known of the program of the text with another line in the place of that of this number, from 1: by a search, or where
+/// none is given by walks alone.
+pub fn way_with<R: Threads + Wait + Sync>(
+    rt: &R,
+    alloc: Global,
+    text: &[u8],
+    number: usize,
+    line: &[u8],
+    search: Option<Options>,
+) -> Result<Way, AllocError>
+    ensures { IfOk result (IsWayWith text.now number line.now) }
+{
+    let found = with_line(alloc, text, number, line)?;
+    let Some(pinned) = found else {
+        return Ok(Way::Open);
+    };
+    match search {
+        Some(search) => searched(rt, alloc, &pinned, search),
+        None => walked(alloc, &pinned),
+    }
+}
+
+/// Whether the steps are a run of the text's program that ends stuck.
+fn is_run_of(alloc: Global, text: &[u8], steps: &[Step]) -> Result<bool, AllocError>
+    ensures { IfOk result (λ is. IsTrue is → CanHang text.now) }
+{
+    match program_of(alloc, text) {
+        Ok(program) => is_run(alloc, &program, steps),
+        Err(Reason::Memory) => Err(AllocError),
+        Err(_reason) => Ok(false),
+    }
+}
+
+/// Whether the steps are a run of the program that ends stuck.
+fn is_run(alloc: Global, program: &Program, steps: &[Step]) -> Result<bool, AllocError>
+    ensures { IfOk result (λ is. IsTrue is → IsStuckRun program.now steps.now) }
+{
+    match replay(alloc, program, steps) {
+        Ok(End::Stuck) => Ok(true),
+        Ok(_) => Ok(false),
+        Err(ReplayFault::Memory) => Err(AllocError),
+        Err(ReplayFault::NotEnabled { at: _ }) => Ok(false),
+    }
+}
+
+/// Whether the steps are a run that ends stuck of the program of the text with another line in the place of that of this
+/// number, from 1.
+pub fn hangs_with(
+    alloc: Global,
+    text: &[u8],
+    number: usize,
+    line: &[u8],
+    steps: &[Step],
+) -> Result<bool, AllocError>
+    ensures { IfOk result (λ is. IsTrue is → HangsWith text.now number line.now) }
+{
+    let found = with_line(alloc, text, number, line)?;
+    let Some(pinned) = found else {
+        return Ok(false);
+    };
+    is_run_of(alloc, &pinned, steps)
+}

@@ -1,0 +1,88 @@
+//! Choices of a run, and what is known of them.
+
+use settings::Options;
+
+/// What a run did where a call left something open.
+#[derive(Clone, Copy, PartialEq, Eq)]
+pub enum Taken {
+    /// The send was buffered.
+    Buffered,
+    /// The send was not buffered.
+    NotBuffered,
+    /// The call found the message of this rank, from 0, with this tag, where one of another rank fitted too.
+    Message { source: u32, tag: u32 },
+}
+
+/// A choice of a run.
+#[derive(Drop)]
+pub struct Choice {
+    /// The number of its line in the program's text, from 1.
+    pub line: usize,
+    /// The rank that makes the call, from 0.
+    pub rank: u32,
+    /// The place of the step that decided it in the run, from 0.
+    pub step: usize,
+    /// What the run did.
+    pub taken: Taken,
+    /// The line, without its LF, with other words, which leave open no more than what the run did.
+    pub pinned: Vec<u8>,
+    /// The same for each other way.
+    pub others: Vec<Vec<u8>>,
+}
+
+/// Whether a program hangs only where a choice is made as in a run.
+#[derive(Clone, Copy, PartialEq, Eq)]
+pub enum Need {
+    /// It does: with the choice made in each other way, no run of the program ends stuck.
+    Known,
+    /// No run that ends stuck was found with the choice made in another way.
+    Tried,
+    /// Some run ends stuck with the choice made in another way.
+    No,
+    /// It was not asked.
+    NotAsked,
+}
+
+/// A choice, and whether it is needed.
+#[derive(Drop)]
+pub struct Weighed {
+    /// The choice.
+    pub choice: Choice,
+    /// Whether it is needed.
+    pub need: Need,
+}
+
+/// In which walks a program hangs.
+#[derive(Clone, Copy, PartialEq, Eq)]
+pub enum Extent {
+    /// In each that was taken, whatever is chosen.
+    Always,
+    /// In each that was taken where the choices are made as in the run.
+    Whenever,
+    /// Also with all choices made as in the run some walk does not end stuck, or no walk was left to ask by.
+    NotFound,
+}
+
+/// What decided a run.
+#[derive(Drop)]
+pub struct Decided {
+    /// In which walks the program hangs.
+    pub extent: Extent,
+    /// Choices that suffice, in the order of the run. There are some only where it hangs whenever they are made so.
+    pub choices: Vec<Weighed>,
+    /// Whether it was asked of each of them whether it suffices without it.
+    pub least: bool,
+    /// How many choices were not asked about, since their line stands for several calls.
+    pub left_out: usize,
+}
+
+/// How much is asked.
+#[derive(Clone, Copy)]
+pub struct Limits {
+    /// The most walks that are taken to find choices that suffice, or few more.
+    pub walks: u32,
+    /// The most other ways that are looked into.
+    pub ways: u32,
+    /// How much work each search may do that looks into another way.
+    pub search: Options,
+}

@@ -1,0 +1,20 @@
+//! What decided that a run of a program ends stuck: which of its sends had to be buffered, or not, and which messages its
+//! wildcards had to find.
+//!
+//! A choice is pinned by another line of the program's text, so all that is proved of texts holds of the pinned program too.
+#![tactic(auto)]
+
+mod asking;
+mod finding;
+mod items;
+mod pinning;
+mod places;
+mod rivals;
+mod sufficing;
+mod telling;
+mod weighing;
+
+pub use items::{Choice, Decided, Extent, Limits, Need, Taken, Weighed};
+pub use pinning::with_line;
+pub use telling::told;
+pub use weighing::decide;

@@ -1,0 +1,168 @@
+//! Which choices suffice for a program to hang in each walk.
+
+use crate::items::{Choice, Extent};
+use crate::places::lines_of;
+use prover::{Reason, Until, walk_ends};
+use std::alloc::{AllocError, Global};
+
+/// Choices that suffice, by their places, from 0, and whether each of them was asked about.
+#[derive(Drop)]
+pub struct Sufficient {
+    pub extent: Extent,
+    pub kept: Vec<usize>,
+    pub least: bool,
+}
+
+/// Whether each walk of the text's program ends stuck; not where no walk is left.
+fn always_hangs(alloc: Global, text: &[u8], left: &mut u32) -> Result<bool, AllocError> {
+    if *left == 0 {
+        return Ok(false);
+    }
+    match walk_ends(alloc, text, Until::Finished) {
+        Ok(ends) => {
+            *left = left.saturating_sub(ends.walks);
+            Ok(!ends.finished)
+        }
+        Err(Reason::Memory) => Err(AllocError),
+        Err(_reason) => {
+            *left = left.saturating_sub(1);
+            Ok(false)
+        }
+    }
+}
+
+/// For each line the place, from 1, of the choice that pins it among these, or 0.
+fn pins(
+    alloc: Global,
+    lines: usize,
+    choices: &[Choice],
+    kept: &[usize],
+) -> Result<Vec<usize>, AllocError> {
+    let mut pins = vec![in alloc; 0; lines]?;
+    for place in kept {
+        if let Some(choice) = choices.get(*place)
+            && choice.line > 0
+            && choice.line <= pins.len()
+        {
+            pins[choice.line - 1] = place.saturating_add(1);
+        }
+    }
+    Ok(pins)
+}
+
+/// The line that pins a choice, by its place, from 1, or else the line itself.
+fn pinned_or<'a>(choices: &'a [Choice], place: usize, line: &'a [u8]) -> &'a [u8] {
+    if place == 0 {
+        return line;
+    }
+    match choices.get(place - 1) {
+        None => line,
+        Some(choice) => &choice.pinned,
+    }
+}
+
+/// The text with these choices pinned as in the run.
+fn text_with(
+    alloc: Global,
+    text: &[u8],
+    choices: &[Choice],
+    kept: &[usize],
+) -> Result<Vec<u8>, AllocError> {
+    let lines = lines_of(alloc, text)?;
+    let pins = pins(alloc, lines.len(), choices, kept)?;
+    let mut out = Vec::with_capacity(alloc, text.len())?;
+    for (line, pin) in lines.iter().zip(pins.iter()) {
+        if !line.is_empty() {
+            out.extend_from_slice(pinned_or(choices, *pin, line))?;
+            out.push(b'\n')?;
+        }
+    }
+    Ok(out)
+}
+
+/// These places but for so many of them, from one on.
+fn without(
+    alloc: Global,
+    kept: &[usize],
+    from: usize,
+    size: usize,
+) -> Result<Vec<usize>, AllocError> {
+    let to = kept.len().min(from.saturating_add(size));
+    let mut fewer = Vec::from_slice(alloc, &kept[..from.min(to)])?;
+    fewer.extend_from_slice(&kept[to..])?;
+    Ok(fewer)
+}
+
+/// Drops choices that are not needed, so many at once.
+fn drop_choices(
+    alloc: Global,
+    text: &[u8],
+    choices: &[Choice],
+    kept: &mut Vec<usize>,
+    size: usize,
+    left: &mut u32,
+) -> Result<(), AllocError> {
+    let mut from = 0usize;
+    for _question in 0..choices.len() {
+        if from < kept.len() {
+            let fewer = without(alloc, kept, from, size)?;
+            let candidate = text_with(alloc, text, choices, &fewer)?;
+            if always_hangs(alloc, &candidate, left)? {
+                *kept = fewer;
+            } else {
+                from = from.saturating_add(size);
+            }
+        }
+    }
+    Ok(())
+}
+
+/// Choices that suffice, of all: first many at once are dropped, and at the end each in turn.
+fn least(
+    alloc: Global,
+    text: &[u8],
+    choices: &[Choice],
+    all: Vec<usize>,
+    left: &mut u32,
+) -> Result<Sufficient, AllocError> {
+    let mut kept = all;
+    let mut size = choices.len();
+    for _turn in 0..usize::BITS {
+        size /= 2;
+        if size > 0 {
+            drop_choices(alloc, text, choices, &mut kept, size, left)?;
+        }
+    }
+    Ok(Sufficient {
+        extent: Extent::Whenever,
+        kept,
+        least: *left > 0,
+    })
+}
+
+/// No choices, where it hangs in each walk or no such choices were found.
+fn no_choices(alloc: Global, extent: Extent) -> Sufficient {
+    Sufficient {
+        extent,
+        kept: Vec::new(alloc),
+        least: true,
+    }
+}
+
+/// Choices that suffice for each walk of the text's program to end stuck.
+pub fn choose(
+    alloc: Global,
+    text: &[u8],
+    choices: &[Choice],
+    left: &mut u32,
+) -> Result<Sufficient, AllocError> {
+    if always_hangs(alloc, text, left)? {
+        return Ok(no_choices(alloc, Extent::Always));
+    }
+    let all: Vec<usize> = (0..choices.len()).collect(alloc)?;
+    let pinned = text_with(alloc, text, choices, &all)?;
+    if !always_hangs(alloc, &pinned, left)? {
+        return Ok(no_choices(alloc, Extent::NotFound));
+    }
+    least(alloc, text, choices, all, left)
+}

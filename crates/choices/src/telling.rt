@@ -1,0 +1,86 @@
+//! What decided a run, as a text.
+
+use crate::items::{Choice, Decided, Extent, Need, Taken, Weighed};
+use crate::places::lines_of;
+use std::alloc::{AllocError, Global};
+
+/// The most choices that are told.
+const MOST_TOLD: usize = 12;
+
+/// Adds a line's words, whose bytes are characters.
+fn put_line(out: &mut String, lines: &[&[u8]], number: usize) -> Result<(), AllocError> {
+    write!(out, "line {number}: ")?;
+    let line = lines.get(number.saturating_sub(1)).copied().unwrap_or(b"");
+    for byte in line {
+        out.push(char::from(*byte))?;
+    }
+    Ok(())
+}
+
+/// Adds what a run did.
+fn put_taken(out: &mut String, lines: &[&[u8]], choice: &Choice) -> Result<(), AllocError> {
+    put_line(out, lines, choice.line)?;
+    let rank = choice.rank;
+    write!(out, " of rank {rank} ")?;
+    match choice.taken {
+        Taken::Buffered => out.push_str("is buffered"),
+        Taken::NotBuffered => out.push_str("is not buffered"),
+        Taken::Message { source, tag } => {
+            write!(out, "finds the message of rank {source} with tag {tag}")
+        }
+    }
+}
+
+/// What is told of a choice's other ways.
+fn need_text(need: Need) -> &'static str {
+    match need {
+        Need::Known => "; hangs only if so (proved)",
+        Need::Tried => "; hangs only if so (tried)",
+        Need::No => "; may hang otherwise too",
+        Need::NotAsked => "; not asked whether it may hang otherwise",
+    }
+}
+
+/// Adds a line for each of the first choices.
+fn put_choices(out: &mut String, lines: &[&[u8]], choices: &[Weighed]) -> Result<(), AllocError> {
+    for weighed in choices.iter().take(MOST_TOLD) {
+        out.push_str("    ")?;
+        put_taken(out, lines, &weighed.choice)?;
+        out.push_str(need_text(weighed.need))?;
+        out.push('\n')?;
+    }
+    if choices.len() > MOST_TOLD {
+        let more = choices.len() - MOST_TOLD;
+        write!(out, "    and {more} more\n")?;
+    }
+    Ok(())
+}
+
+/// What is told above the choices.
+fn extent_text(extent: Extent) -> &'static str {
+    match extent {
+        Extent::Always => "  hangs in every run that was tried, whatever is chosen\n",
+        Extent::Whenever => "  hangs in every run that was tried where:\n",
+        Extent::NotFound => "  no choices were found that suffice\n",
+    }
+}
+
+/// What decided a run of the text's program, line by line. What was tried and what is proved is told apart; at most 12 choices
+/// are told. The only error is want of memory.
+pub fn told(alloc: Global, text: &[u8], decided: &Decided) -> Result<String, AllocError> {
+    let lines = lines_of(alloc, text)?;
+    let mut out = String::from_str(alloc, "what decided it:\n")?;
+    out.push_str(extent_text(decided.extent))?;
+    put_choices(&mut out, &lines, &decided.choices)?;
+    if !decided.least {
+        out.push_str("  it was not asked of all of them whether they are needed for that\n")?;
+    }
+    if decided.left_out > 0 && decided.extent != Extent::Always {
+        let count = decided.left_out;
+        write!(
+            out,
+            "  choices in lines that stand for several calls, which were not asked about: {count}\n"
+        )?;
+    }
+    Ok(out)
+}

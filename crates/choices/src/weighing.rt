@@ -1,0 +1,228 @@
+//! Whether choices are needed for a program to hang.
+
+ghost use Rattle.std.specs.Prelude.{◌≡◌, true, IfErr, IfOk, IsTrue};
+ghost use Rattle.semantics.specs.Machine.{IsStuckRun};
+ghost use Rattle.checker.specs.Parts.{IsNoRun};
+ghost use Rattle.choices.specs.Weights.{AreOthers, AreWeighed, HangsWith, IsWeighed};
+
+use crate::asking::{Way, hangs_with, way_with};
+use crate::finding::{Found, choices_of};
+use crate::items::{Choice, Decided, Limits, Need, Taken, Weighed};
+use crate::sufficing::choose;
+use callorder::Program;
+use checker::{NoRun, Reason, stuck_run_of};
+use semantics::Step;
+use settings::Options;
+use std::alloc::{AllocError, Global};
+use std::sync::Wait;
+use std::thread::Threads;
+
+/// The most calls of a program for which a search looks into other ways.
+const MOST_CALLS: usize = 256;
+
+/// Whether all is known so far, and this way never hangs.
+fn is_known(known: bool, way: Way) -> bool
+    ensures { IsTrue result → (known ≡ true) × (way ≡ Way.Never) }
+{
+    known && way == Way::Never
+}
+
+/// Whether the program hangs this way.
+fn is_hanging(way: Way) -> bool
+    ensures { IsTrue result → way ≡ Way.Hangs }
+{
+    way == Way::Hangs
+}
+
+/// What is known of a choice's other ways.
+fn others_of<R: Threads + Wait + Sync>(
+    rt: &R,
+    alloc: Global,
+    text: &[u8],
+    choice: &Choice,
+    search: Option<Options>,
+) -> Result<Need, AllocError>
+    ensures { IfOk result (AreOthers text.now choice.now) }
+{
+    let mut known = true;
+    for other in &choice.others {
+        let way = way_with(rt, alloc, text, choice.line, other, search)?;
+        if is_hanging(way) {
+            return Ok(Need::No);
+        }
+        known = is_known(known, way);
+    }
+    if known {
+        return Ok(Need::Known);
+    }
+    Ok(Need::Tried)
+}
+
+/// The steps, with this one as it is of a send in buffered mode, where the choice is that the send was buffered.
+fn steps_with(alloc: Global, steps: &[Step], choice: &Choice) -> Result<Vec<Step>, AllocError> {
+    let mut pinned = Vec::from_slice(alloc, steps)?;
+    if choice.taken == Taken::Buffered && choice.step < pinned.len() {
+        pinned[choice.step] = Step::Issue {
+            rank: choice.rank,
+            buffered: false,
+        };
+    }
+    Ok(pinned)
+}
+
+/// Whether the program hangs with the choice pinned as in the run.
+fn hangs_pinned(
+    alloc: Global,
+    text: &[u8],
+    steps: &[Step],
+    choice: &Choice,
+) -> Result<bool, AllocError>
+    ensures { IfOk result (λ is. IsTrue is → HangsWith text.now choice.now.line choice.now.pinned.items) }
+{
+    let pinned = steps_with(alloc, steps, choice)?;
+    hangs_with(alloc, text, choice.line, &choice.pinned, &pinned)
+}
+
+/// Whether a choice of a run is needed.
+fn need_of<R: Threads + Wait + Sync>(
+    rt: &R,
+    alloc: Global,
+    text: &[u8],
+    steps: &[Step],
+    choice: &Choice,
+    search: Option<Options>,
+) -> Result<Need, AllocError>
+    ensures { IfOk result (IsWeighed text.now choice.now) }
+{
+    if !hangs_pinned(alloc, text, steps, choice)? {
+        return Ok(Need::NotAsked);
+    }
+    others_of(rt, alloc, text, choice, search)
+}
+
+/// What is known of a choice; where no question is left, it is not asked.
+fn weigh<R: Threads + Wait + Sync>(
+    rt: &R,
+    alloc: Global,
+    text: &[u8],
+    steps: &[Step],
+    choice: Choice,
+    search: Option<Options>,
+    left: &mut u32,
+) -> Result<Weighed, AllocError>
+    ensures { IfOk result (λ weighed. IsWeighed text.now weighed.choice weighed.need) }
+{
+    if *left == 0 {
+        return Ok(Weighed {
+            choice,
+            need: Need::NotAsked,
+        });
+    }
+    *left = left.saturating_sub(choice.others.len().min(64) as u32);
+    let need = need_of(rt, alloc, text, steps, &choice, search)?;
+    Ok(Weighed { choice, need })
+}
+
+/// The choices at these places, from 0.
+fn at_places(
+    alloc: Global,
+    choices: Vec<Choice>,
+    places: &[usize],
+) -> Result<Vec<Choice>, AllocError> {
+    let mut found = Vec::new(alloc);
+    let mut place = 0usize;
+    for choice in choices {
+        if places.contains(&place) {
+            found.push(choice)?;
+        }
+        place = place.saturating_add(1);
+    }
+    Ok(found)
+}
+
+/// What is known of choices.
+fn weigh_all<R: Threads + Wait + Sync>(
+    rt: &R,
+    alloc: Global,
+    text: &[u8],
+    steps: &[Step],
+    choices: Vec<Choice>,
+    search: Option<Options>,
+    ways: u32,
+) -> Result<Vec<Weighed>, AllocError>
+    ensures { IfOk result (λ all. AreWeighed text.now all.items) }
+{
+    let mut left = ways;
+    let mut all = Vec::new(alloc);
+    for choice in choices {
+        let weighed = weigh(rt, alloc, text, steps, choice, search, &mut left)?;
+        all.push(weighed)?;
+    }
+    Ok(all)
+}
+
+/// How much a search may do that looks into another way: nothing where the program is large.
+fn search_for(program: &Program, limits: Limits) -> Option<Options> {
+    if program.calls().len() > MOST_CALLS {
+        return None;
+    }
+    Some(limits.search)
+}
+
+/// What decided a run of the text's program.
+fn decided_run<R: Threads + Wait + Sync>(
+    rt: &R,
+    alloc: Global,
+    text: &[u8],
+    program: &Program,
+    steps: &[Step],
+    limits: Limits,
+) -> Result<Decided, AllocError>
+    requires { IsStuckRun program.now steps.now }
+    ensures { IfOk result (λ decided. AreWeighed text.now decided.choices.items) }
+{
+    let Found { choices, left_out } = choices_of(alloc, text, program, steps)?;
+    let mut left = limits.walks;
+    let enough = choose(alloc, text, &choices, &mut left)?;
+    let search = search_for(program, limits);
+    let kept = at_places(alloc, choices, &enough.kept)?;
+    let weighed = weigh_all(rt, alloc, text, steps, kept, search, limits.ways)?;
+    Ok(Decided {
+        extent: enough.extent,
+        choices: weighed,
+        least: enough.least,
+        left_out,
+    })
+}
+
+/// What decided the run that an evidence shows: choices that suffice for the program to hang, and which of them are needed.
+///
+/// The choices of a run are the standard sends that it buffered, and those that it did not, where the policy leaves that open, and the messages that
+/// wildcards found where one of another rank fitted too. Each is pinned by other words in its line: a send in buffered or synchronous mode, or
+/// a source and a tag in the place of stars. Lines that stand for several calls are left out. Choices suffice where each walk that was taken of the
+/// program with all of them pinned ended stuck; they are found by dropping others, first many at once, then each in turn.
+///
+/// Each choice that suffices with the others is then asked about alone. It is told only where its line, pinned as in the run, makes a
+/// program that has a run that ends stuck. It is known to be needed where no run ends stuck with the line of any other way, which a search has
+/// shown; tried, where no such run was found; and not needed, where one was. Programs of more than 256 calls are not searched, only walked.
+///
+/// An evidence that shows no run that ends stuck is refused as `replay` refuses it; else the only refusal is want of memory.
+pub fn decide<R: Threads + Wait + Sync>(
+    rt: &R,
+    alloc: Global,
+    text: &[u8],
+    evidence: &[u8],
+    limits: Limits,
+) -> Result<Decided, NoRun>
+    ensures decided { IfOk result (λ decided. AreWeighed text.now decided.choices.items) }
+    ensures why { IfErr result (IsNoRun text.now evidence.now) }
+{
+    let run = match stuck_run_of(alloc, text, evidence) {
+        Ok(run) => run,
+        Err(why) => return Err(why),
+    };
+    match decided_run(rt, alloc, text, &run.program, run.schedule.steps(), limits) {
+        Ok(decided) => Ok(decided),
+        Err(AllocError) => Err(NoRun::Refused(Reason::Memory)),
+    }
+}
