@@ -1,0 +1,170 @@
+//! Which parts of a text are left out, one after another.
+
+ghost use Rattle.std.specs.Prelude.{IfErr, IfOk, OnOk};
+ghost use Rattle.prover.specs.Answers.{CanHang};
+ghost use Rattle.shrinking.specs.Shrinking.{IsNotShrunk, IsShrunk};
+
+use crate::cutting::{numbers_of, numbers_of_rank, without_units};
+use crate::lines::count_ranks;
+use crate::pairing::units_of;
+use crate::ranks::without_rank;
+use crate::tidying::tidied;
+use crate::trying::improve;
+use checker::program_of;
+use prover::{Reason, Until, walk_ends};
+use std::alloc::{AllocError, Global};
+
+/// A smaller program's text.
+#[derive(Drop)]
+pub struct Shrunk {
+    /// The text. Its program has a run that ends stuck.
+    pub text: Vec<u8>,
+    /// Whether all was tried: with any one line or rank left out, and what belongs to it, no walk ends stuck.
+    pub complete: bool,
+}
+
+/// Why there is no smaller text.
+#[derive(Clone, Copy, PartialEq, Eq)]
+pub enum NotShrunk {
+    /// No walk of the program ended stuck.
+    NothingHangs,
+    /// The text is no program's, or memory ran out.
+    Refused(Reason),
+}
+
+/// The units of the text's lines, where it is a program's.
+fn units_in(alloc: Global, text: &[u8]) -> Result<Vec<usize>, AllocError> {
+    match program_of(alloc, text) {
+        Ok(program) => units_of(alloc, text, &program),
+        Err(_reason) => Err(AllocError),
+    }
+}
+
+/// The text without a rank and without all units that have a line of it.
+fn rank_left_out(alloc: Global, text: &[u8], rank: u32) -> Result<Vec<u8>, AllocError> {
+    let units = units_in(alloc, text)?;
+    let numbers = numbers_of_rank(alloc, text, &units, rank as usize)?;
+    let fewer = without_units(alloc, text, &units, &numbers)?;
+    let without = without_rank(alloc, &fewer, rank)?;
+    tidied(alloc, &without)
+}
+
+/// Leaves out ranks, the highest first.
+fn leave_out_ranks(alloc: Global, text: &mut Vec<u8>, left: &mut u32) -> Result<(), AllocError>
+    requires { CanHang text.old.items }
+    ensures { OnOk result (IsShrunk text.old.items text.new.items) }
+{
+    let ranks = count_ranks(alloc, text)?.min(64) as u32;
+    for place in 0..ranks {
+        let candidate = rank_left_out(alloc, text, ranks - 1 - place)?;
+        let _taken = improve(alloc, text, candidate, left)?;
+    }
+    Ok(())
+}
+
+/// The text without so many of its units, from a place in their order on.
+fn units_left_out(
+    alloc: Global,
+    text: &[u8],
+    from: usize,
+    size: usize,
+) -> Result<Vec<u8>, AllocError> {
+    let units = units_in(alloc, text)?;
+    let numbers = numbers_of(alloc, &units)?;
+    let to = numbers.len().min(from.saturating_add(size));
+    let fewer = without_units(alloc, text, &units, &numbers[from.min(to)..to])?;
+    tidied(alloc, &fewer)
+}
+
+/// Leaves out units, so many at once that follow one another, of so many as there are.
+fn leave_out_units(
+    alloc: Global,
+    text: &mut Vec<u8>,
+    count: usize,
+    size: usize,
+    left: &mut u32,
+) -> Result<(), AllocError>
+    requires { CanHang text.old.items }
+    ensures { OnOk result (IsShrunk text.old.items text.new.items) }
+{
+    let mut from = 0usize;
+    for _question in 0..count {
+        if from < count {
+            let candidate = units_left_out(alloc, text, from, size)?;
+            if !improve(alloc, text, candidate, left)? {
+                from = from.saturating_add(size);
+            }
+        }
+    }
+    Ok(())
+}
+
+/// How many units there are.
+fn count_units(alloc: Global, text: &[u8]) -> Result<usize, AllocError> {
+    let units = units_in(alloc, text)?;
+    let numbers = numbers_of(alloc, &units)?;
+    Ok(numbers.len())
+}
+
+/// Leaves out ranks, and then units of lines, fewer and fewer at once.
+fn leave_out(alloc: Global, text: &mut Vec<u8>, left: &mut u32) -> Result<(), AllocError>
+    requires { CanHang text.old.items }
+    ensures { OnOk result (IsShrunk text.old.items text.new.items) }
+{
+    leave_out_ranks(alloc, text, left)?;
+    let count = count_units(alloc, text)?;
+    let mut size = count;
+    for _turn in 0..usize::BITS {
+        size /= 2;
+        if size > 0 {
+            leave_out_units(alloc, text, count, size, left)?;
+        }
+    }
+    Ok(())
+}
+
+/// The text with ranks and lines left out, again and again until nothing more can be left out or no walk is left.
+fn leave_out_all(alloc: Global, text: &[u8], walks: u32) -> Result<Shrunk, AllocError>
+    requires { CanHang text.now }
+    ensures { IfOk result (λ shrunk. IsShrunk text.now shrunk.text.items) }
+{
+    let mut smaller = Vec::from_slice(alloc, text)?;
+    let mut left = walks;
+    let mut complete = false;
+    for _turn in 0..text.len() {
+        let before = smaller.len();
+        leave_out(alloc, &mut smaller, &mut left)?;
+        complete = smaller.len() == before && left > 0;
+        if complete || left == 0 {
+            break;
+        }
+    }
+    Ok(Shrunk {
+        text: smaller,
+        complete,
+    })
+}
+
+/// A smaller program's text, which still has a run that ends stuck: no longer than the one given, and with no more lines.
+/// Ranks are left out, with all lines that name them, and higher ones numbered anew; then lines, first many that follow one
+/// another at once. With a start goes its wait, with a matched probe its receive. Each candidate is read like any other
+/// text, and taken where some walk of its program ends stuck. At most so many walks are taken, or few more; once none are left, the
+/// smallest text so far is the answer. A text of which no walk ends stuck has none.
+pub fn shrink(alloc: Global, text: &[u8], walks: u32) -> Result<Shrunk, NotShrunk>
+    ensures shrunk { IfOk result (λ shrunk. IsShrunk text.now shrunk.text.items) }
+    ensures given { IfOk result (λ shrunk. CanHang text.now) }
+    ensures why { IfErr result (IsNotShrunk text.now) }
+{
+    match walk_ends(alloc, text, Until::Stuck) {
+        Err(reason) => return Err(NotShrunk::Refused(reason)),
+        Ok(ends) => {
+            if !ends.stuck {
+                return Err(NotShrunk::NothingHangs);
+            }
+        }
+    }
+    match leave_out_all(alloc, text, walks) {
+        Ok(shrunk) => Ok(shrunk),
+        Err(AllocError) => Err(NotShrunk::Refused(Reason::Memory)),
+    }
+}
