@@ -2,3 +2,4 @@ pub mod Explanations
 pub mod Exports
 pub mod Sizes
 pub mod Trimming
+pub mod Numbers

@@ -1,12 +1,14 @@
 //! What is told of a program and its refutation.
 
 ghost use Rattle.std.specs.Prelude.{◌≡◌, ◌++◌, IfOk, OnOk};
-ghost use Rattle.reports.specs.Explanations.{choice_lines, claim_lines, count_line, counts_text, end_of, front_of, leaves, size_lines};
+ghost use Rattle.reports.specs.Explanations.{choice_lines, claim_lines, count_line, counts_text, leaves, marks_of, numbers_text, size_lines};
+ghost use Rattle.reports.specs.Numbers.{texts_of};
 
 use crate::sizes::{choices, messages, open_sends};
 use callorder::Program;
 use prooflog::Refutation;
 use refutations::Node;
+use settings::Form;
 use std::alloc::{AllocError, Global};
 
 /// How many of the nodes are leaves.
@@ -19,71 +21,103 @@ fn leaves(nodes: &[Node]) -> usize
         .count()
 }
 
-/// What stands before each line.
-fn front_of(graph: bool) -> &'static str
-    ensures { result.now ≡ front_of graph }
-{
-    if graph { "// " } else { "" }
+/// What stands round the numbers.
+#[derive(Clone, Copy)]
+pub struct Marks {
+    begin: &'static str,
+    front: &'static str,
+    middle: &'static str,
+    back: &'static str,
+    foot: &'static str,
 }
 
-/// What stands below the lines.
-fn end_of(graph: bool) -> &'static str
-    ensures { result.now ≡ end_of graph }
+/// What stands round the numbers in a form.
+fn marks_of(form: Form) -> Marks
+    ensures { texts_of result ≡ marks_of form }
 {
-    if graph { "digraph waits {\n}\n" } else { "" }
+    match form {
+        Form::Brief | Form::Whole | Form::Chart => Marks {
+            begin: "no deadlock\n",
+            front: "",
+            middle: " ",
+            back: "\n",
+            foot: "",
+        },
+        Form::Graph => Marks {
+            begin: "// no deadlock\n",
+            front: "// ",
+            middle: " ",
+            back: "\n",
+            foot: "digraph waits {\n}\n",
+        },
+        Form::Picture => Marks {
+            begin: "<svg xmlns=\"http://www.w3.org/2000/svg\" width=\"480\" height=\"180\" font-family=\"monospace\" font-size=\"13\">\n<text y=\"8\">\n<tspan x=\"8\" dy=\"16\">no deadlock</tspan>\n",
+            front: "<tspan x=\"8\" dy=\"16\">",
+            middle: " ",
+            back: "</tspan>\n",
+            foot: "</text>\n</svg>\n",
+        },
+        Form::Object => Marks {
+            begin: "{\"answer\":\"no deadlock\",\"status\":0",
+            front: ",\"",
+            middle: "\":",
+            back: "",
+            foot: "}\n",
+        },
+    }
 }
 
-/// Adds a line with a name and a number.
+/// Adds a name and a number.
 fn put_count(
     alloc: Global,
     out: &mut Vec<u8>,
-    front: &str,
+    marks: Marks,
     name: &str,
     count: usize,
 ) -> Result<(), AllocError>
-    ensures { OnOk result (out.new.items ≡ out.old.items ++ count_line front.now name.now count) }
+    ensures { OnOk result (out.new.items ≡ out.old.items ++ count_line (texts_of marks) name.now count) }
 {
     let number = count.to_string(alloc)?;
-    out.extend_from_slice(front.as_bytes())?;
+    out.extend_from_slice(marks.front.as_bytes())?;
     out.extend_from_slice(name.as_bytes())?;
+    out.extend_from_slice(marks.middle.as_bytes())?;
     out.extend_from_slice(number.as_bytes())?;
-    out.push(b'\n')?;
-    Ok(())
+    out.extend_from_slice(marks.back.as_bytes())
 }
 
 /// Adds the lines on the size of a program.
 fn put_sizes(
     alloc: Global,
     out: &mut Vec<u8>,
-    front: &str,
+    marks: Marks,
     program: &Program,
 ) -> Result<(), AllocError>
-    ensures { OnOk result (out.new.items ≡ out.old.items ++ size_lines front.now program.now) }
+    ensures { OnOk result (out.new.items ≡ out.old.items ++ size_lines (texts_of marks) program.now) }
 {
     let ranks = program.ranks() as usize;
-    put_count(alloc, out, front, "ranks ", ranks)?;
-    put_count(alloc, out, front, "calls ", program.calls().len())?;
+    put_count(alloc, out, marks, "ranks", ranks)?;
+    put_count(alloc, out, marks, "calls", program.calls().len())?;
     let messages = messages(program.calls());
-    put_count(alloc, out, front, "messages ", messages)
+    put_count(alloc, out, marks, "messages", messages)
 }
 
 /// Adds the lines on what a program leaves open.
 fn put_choices(
     alloc: Global,
     out: &mut Vec<u8>,
-    front: &str,
+    marks: Marks,
     program: &Program,
 ) -> Result<(), AllocError>
-    ensures { OnOk result (out.new.items ≡ out.old.items ++ choice_lines front.now program.now) }
+    ensures { OnOk result (out.new.items ≡ out.old.items ++ choice_lines (texts_of marks) program.now) }
 {
     let choices = choices(program.calls());
-    put_count(alloc, out, front, "wildcards with a choice ", choices)?;
+    put_count(alloc, out, marks, "wildcards with a choice", choices)?;
     let sends = open_sends(program.policy(), program.calls());
     put_count(
         alloc,
         out,
-        front,
-        "sends that may be buffered or not ",
+        marks,
+        "sends that may be buffered or not",
         sends,
     )
 }
@@ -92,37 +126,47 @@ fn put_choices(
 fn put_claim(
     alloc: Global,
     out: &mut Vec<u8>,
-    front: &str,
+    marks: Marks,
     refutation: &Refutation,
 ) -> Result<(), AllocError>
-    ensures { OnOk result (out.new.items ≡ out.old.items ++ claim_lines front.now refutation.now) }
+    ensures { OnOk result (out.new.items ≡ out.old.items ++ claim_lines (texts_of marks) refutation.now) }
 {
     let variables = refutation.variables() as usize;
-    put_count(alloc, out, front, "variables ", variables)?;
+    put_count(alloc, out, marks, "variables", variables)?;
     let clauses = refutation.clauses() as usize;
-    put_count(alloc, out, front, "clauses ", clauses)?;
-    put_count(alloc, out, front, "lines ", refutation.lines().len())?;
+    put_count(alloc, out, marks, "clauses", clauses)?;
+    put_count(alloc, out, marks, "lines", refutation.lines().len())?;
     let leaves = leaves(refutation.tree().nodes());
-    put_count(alloc, out, front, "leaves ", leaves)
+    put_count(alloc, out, marks, "leaves", leaves)
 }
 
-/// The text that tells the numbers of a program and of what refutes it: as lines, or as a graph without a node, with the lines as
-/// comments.
+/// The text, with these marks, that tells the numbers of a program and of what refutes it.
+fn numbers_text(
+    alloc: Global,
+    program: &Program,
+    refutation: &Refutation,
+    marks: Marks,
+) -> Result<Vec<u8>, AllocError>
+    ensures { IfOk result (λ text. text.items ≡ numbers_text (texts_of marks) program.now refutation.now) }
+{
+    let mut out = Vec::new(alloc);
+    out.extend_from_slice(marks.begin.as_bytes())?;
+    put_sizes(alloc, &mut out, marks, program)?;
+    put_choices(alloc, &mut out, marks, program)?;
+    put_claim(alloc, &mut out, marks, refutation)?;
+    out.extend_from_slice(marks.foot.as_bytes())?;
+    Ok(out)
+}
+
+/// The text that tells the numbers of a program and of what refutes it: as lines; as a graph without a node, with the lines as comments; as a
+/// picture of the lines; or as the members of a JSON object.
 pub fn counts_text(
     alloc: Global,
     program: &Program,
     refutation: &Refutation,
-    graph: bool,
+    form: Form,
 ) -> Result<Vec<u8>, AllocError>
-    ensures { IfOk result (λ text. text.items ≡ counts_text graph program.now refutation.now) }
+    ensures { IfOk result (λ text. text.items ≡ counts_text form program.now refutation.now) }
 {
-    let front = front_of(graph);
-    let mut out = Vec::new(alloc);
-    out.extend_from_slice(front.as_bytes())?;
-    out.extend_from_slice(b"no deadlock\n")?;
-    put_sizes(alloc, &mut out, front, program)?;
-    put_choices(alloc, &mut out, front, program)?;
-    put_claim(alloc, &mut out, front, refutation)?;
-    out.extend_from_slice(end_of(graph).as_bytes())?;
-    Ok(out)
+    numbers_text(alloc, program, refutation, marks_of(form))
 }

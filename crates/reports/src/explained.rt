@@ -7,11 +7,16 @@ ghost use Rattle.reports.specs.Explanations.{Explains};
 
 use crate::counts::counts_text;
 use callorder::Program;
-use calltext::read;
+use calltext::{Source, read};
+use charts::{chart, picture};
 use checker::{PieceGate, Reason, Refuted, Verdict, program_of, refuted_in, stuck_run_of};
+use choices::{Limits, decide, told};
 use explain::{explanation, wait_graph};
+use objects::object_text;
 use semantics::Step;
+use settings::{Form, Options};
 use std::alloc::{AllocError, Global};
+use std::sync::Wait;
 use std::thread::Threads;
 
 /// What is told of a program and an evidence.
@@ -25,13 +30,59 @@ pub enum Explained {
     Refused(Reason),
 }
 
-/// The text or the graph of a run of the program of this text that ends stuck.
-fn deadlock_text(
+/// How much is asked about what decided a run.
+fn limits() -> Limits {
+    Limits {
+        walks: 4_000,
+        ways: 64,
+        search: Options::make(1, 0, 2_000).unwrap_or(Options::default()),
+    }
+}
+
+/// The text on what decided the run that an evidence shows.
+fn decided_text<R: Threads + Wait + Sync>(
+    rt: &R,
+    alloc: Global,
+    program: &[u8],
+    evidence: &[u8],
+) -> Result<String, AllocError> {
+    // The evidence shows a run, so want of memory alone can be met.
+    let Ok(decided) = decide(rt, alloc, program, evidence, limits()) else {
+        return Err(AllocError);
+    };
+    told(alloc, program, &decided)
+}
+
+/// The text, in a form that isn't drawn, on a run of the program of this text that ends stuck.
+fn told_text(
     alloc: Global,
     text: &[u8],
+    source: &Source,
     program: &Program,
     steps: &[Step],
-    graph: bool,
+    decided: &str,
+    form: Form,
+) -> Result<Vec<u8>, AllocError>
+    requires { IsStuckRun program.now steps.now }
+{
+    match form {
+        Form::Object => object_text(alloc, text, source, program, steps, decided),
+        _ => {
+            let whole = form == Form::Whole;
+            explanation(alloc, text, source, program, steps, decided, whole)
+        }
+    }
+}
+
+/// The text, in this form, on the run of the program of this text that the evidence shows.
+fn deadlock_text<R: Threads + Wait + Sync>(
+    rt: &R,
+    alloc: Global,
+    text: &[u8],
+    evidence: &[u8],
+    program: &Program,
+    steps: &[Step],
+    form: Form,
 ) -> Result<Vec<u8>, AllocError>
     requires { IsStuckRun program.now steps.now }
 {
@@ -39,23 +90,34 @@ fn deadlock_text(
     let Ok(source) = read(alloc, text) else {
         return Err(AllocError);
     };
-    if graph {
-        wait_graph(alloc, text, &source, program, steps)
-    } else {
-        explanation(alloc, text, &source, program, steps)
+    match form {
+        Form::Graph => wait_graph(alloc, text, &source, program, steps),
+        Form::Chart => chart(alloc, text, &source, program, steps),
+        Form::Picture => picture(alloc, text, &source, program, steps),
+        _ => {
+            let decided = decided_text(rt, alloc, text, evidence)?;
+            told_text(alloc, text, &source, program, steps, &decided, form)
+        }
     }
 }
 
 /// The text on the schedule of an evidence that shows a stuck run of a program.
-fn deadlock(alloc: Global, program: &[u8], evidence: &[u8], graph: bool) -> Explained
+fn deadlock<R: Threads + Wait + Sync>(
+    rt: &R,
+    alloc: Global,
+    program: &[u8],
+    evidence: &[u8],
+    form: Form,
+) -> Explained
     requires { Shows program.now evidence.now }
-    ensures { Explains graph program.now evidence.now result }
+    ensures { Explains form program.now evidence.now result }
 {
     // The texts were read before, so want of memory alone can be met.
     let Ok(run) = stuck_run_of(alloc, program, evidence) else {
         return Explained::Refused(Reason::Memory);
     };
-    match deadlock_text(alloc, program, &run.program, run.schedule.steps(), graph) {
+    let steps = run.schedule.steps();
+    match deadlock_text(rt, alloc, program, evidence, &run.program, steps, form) {
         Ok(text) => Explained::Deadlock(text),
         Err(AllocError) => Explained::Refused(Reason::Memory),
     }
@@ -67,46 +129,47 @@ fn no_deadlock(
     program: &[u8],
     evidence: &[u8],
     refuted: &Refuted,
-    graph: bool,
+    form: Form,
 ) -> Explained
     requires { AreRefuted program.now evidence.now refuted.now.formula refuted.now.refutation }
-    ensures { Explains graph program.now evidence.now result }
+    ensures { Explains form program.now evidence.now result }
 {
     // The text was read before, so want of memory alone can be met.
     let Ok(program) = program_of(alloc, program) else {
         return Explained::Refused(Reason::Memory);
     };
-    match counts_text(alloc, &program, &refuted.refutation, graph) {
+    match counts_text(alloc, &program, &refuted.refutation, form) {
         Ok(text) => Explained::NoDeadlock(text),
         Err(AllocError) => Explained::Refused(Reason::Memory),
     }
 }
 
-/// Explains what the evidence shows of the program. A deadlock is explained by the steps that decided it, where each rank stands and
-/// who waits for whom, or, as a graph, by who waits for whom alone, in Graphviz's language; a refutation by the program's numbers of
-/// ranks, calls, messages, wildcards with a choice and sends that the policy leaves open, and its own numbers of variables, clauses,
-/// lines and leaves, in a graph as a comment. It is refused where `verdict` refuses it, for the same reasons.
+/// Explains what the evidence shows of the program, in this form. A deadlock is explained by the steps that decided it, where each rank
+/// stands and who waits for whom, as a text or as a JSON object; by who waits for whom alone, as a graph in Graphviz's language; or by a
+/// chart of its steps, as a text or as a picture. A refutation is explained by the program's numbers of ranks, calls, messages, wildcards
+/// with a choice and sends that the policy leaves open, and its own numbers of variables, clauses, lines and leaves: in a graph as a comment,
+/// in a chart as lines. It is refused where `verdict` refuses it, for the same reasons.
 /// A refutation's lines are checked in so many pieces, 1 to 64.
 ///
 /// The texts of a deadlock, and the program's text, are read a second time once they are judged, so that the checker's answer is all that
 /// stands between an evidence and its explanation.
-pub fn explain_evidence<R: Threads + Sync, G: PieceGate + Sync>(
+pub fn explain_evidence<R: Threads + Wait + Sync, G: PieceGate + Sync>(
     rt: &R,
     alloc: Global,
     program: &[u8],
     evidence: &[u8],
     pieces: usize,
     gate: &G,
-    graph: bool,
+    form: Form,
 ) -> Explained
     requires some { 0 < pieces }
     requires few { pieces ≤ 64 }
-    ensures { Explains graph program.now evidence.now result }
+    ensures { Explains form program.now evidence.now result }
 {
     match refuted_in(rt, alloc, program, evidence, pieces, gate) {
-        Ok(refuted) => no_deadlock(alloc, program, evidence, &refuted, graph),
+        Ok(refuted) => no_deadlock(alloc, program, evidence, &refuted, form),
         Err(Verdict::NoDeadlock) => unreachable!(),
-        Err(Verdict::Deadlock) => deadlock(alloc, program, evidence, graph),
+        Err(Verdict::Deadlock) => deadlock(rt, alloc, program, evidence, form),
         Err(Verdict::Refused(reason)) => Explained::Refused(reason),
     }
 }
