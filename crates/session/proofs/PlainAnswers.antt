@@ -2,7 +2,8 @@
 use Rattle.std.proofs.Common.{◌≡◌, inl, inr, true, false, List, [], ◌∷◌, Some, None, codes, subst}
 use Rattle.clap.specs.Words.{Text, fault_of}
 use Rattle.command_line.specs.CommandLine.{command_line}
-use Rattle.command_line.specs.Requests.{AskFor, Task, number_of, to_check, to_encode, to_explain, to_export, to_prove, to_replay, to_trim}
+use Rattle.command_line.specs.Requests.{AskFor, Task, number_of, to_check, to_encode, to_explain, to_export, to_prove, to_replay, to_shrink, to_trim}
+use Rattle.command_line.specs.UsualWords.{form_words}
 use Rattle.command_line.proofs.OptionWords.{option_words_are_read}
 use Rattle.command_line.proofs.PieceWords.{pieces_are_free}
 use Rattle.command_line.proofs.PlainFaults.{plain_words_are_faultless}
@@ -30,26 +31,23 @@ plain_words_are_answered = record {
       answered (name ∷ codes "check" ∷ p ∷ e ∷ codes "--pieces" ∷ pieces ∷ []) (to_check p e (number_of pieces) false) (plain_words_are_faultless.check_pieces name p e pieces fp fe fpieces)
       (λ task. option_words_are_read.check_pieces name p e pieces task fp fe (pieces_are_free pieces fpieces));
   replay = λ name p e fp fe.
-      answered (name ∷ codes "replay" ∷ p ∷ e ∷ []) (to_replay p e) (plain_words_are_faultless.replay name p e fp fe)
+      answered (name ∷ codes "replay" ∷ p ∷ e ∷ []) (to_replay p e false) (plain_words_are_faultless.replay name p e fp fe)
       (λ task. plain_words_are_read.replay name p e task fp fe);
+  replay_lines = λ name p e fp fe.
+      answered (name ∷ codes "replay" ∷ p ∷ e ∷ codes "--lines" ∷ []) (to_replay p e true) (plain_words_are_faultless.replay_lines name p e fp fe)
+      (λ task. plain_words_are_read.replay_lines name p e task fp fe);
   encode = λ name p fp.
       answered (name ∷ codes "encode" ∷ p ∷ []) (to_encode p false) (plain_words_are_faultless.encode name p fp)
       (λ task. plain_words_are_read.encode name p task fp);
   encode_dimacs = λ name p fp.
       answered (name ∷ codes "encode" ∷ p ∷ codes "--dimacs" ∷ []) (to_encode p true) (plain_words_are_faultless.encode_dimacs name p fp)
       (λ task. plain_words_are_read.encode_dimacs name p task fp);
-  explain = λ name p e fp fe.
-      answered (name ∷ codes "explain" ∷ p ∷ e ∷ []) (to_explain p (Some e) 4 4 1000000 false) (plain_words_are_faultless.explain name p e fp fe)
-      (λ task. plain_words_are_read.explain name p e task fp fe);
-  explain_dot = λ name p e fp fe.
-      answered (name ∷ codes "explain" ∷ p ∷ e ∷ codes "--dot" ∷ []) (to_explain p (Some e) 4 4 1000000 true) (plain_words_are_faultless.explain_dot name p e fp fe)
-      (λ task. plain_words_are_read.explain_dot name p e task fp fe);
-  explain_alone = λ name p fp.
-      answered (name ∷ codes "explain" ∷ p ∷ []) (to_explain p None 4 4 1000000 false) (plain_words_are_faultless.explain_alone name p fp)
-      (λ task. plain_words_are_read.explain_alone name p task fp);
-  explain_alone_dot = λ name p fp.
-      answered (name ∷ codes "explain" ∷ p ∷ codes "--dot" ∷ []) (to_explain p None 4 4 1000000 true) (plain_words_are_faultless.explain_alone_dot name p fp)
-      (λ task. plain_words_are_read.explain_alone_dot name p task fp);
+  explain = λ name p e form fp fe.
+      answered (name ∷ codes "explain" ∷ p ∷ e ∷ form_words form) (to_explain p (Some e) 4 4 1000000 form) (plain_words_are_faultless.explain name p e form fp fe)
+      (λ task. plain_words_are_read.explain name p e form task fp fe);
+  explain_alone = λ name p form fp.
+      answered (name ∷ codes "explain" ∷ p ∷ form_words form) (to_explain p None 4 4 1000000 form) (plain_words_are_faultless.explain_alone name p form fp)
+      (λ task. plain_words_are_read.explain_alone name p form task fp);
   export = λ name p e file fp fe ffile.
       answered (name ∷ codes "export" ∷ p ∷ e ∷ codes "--out" ∷ file ∷ []) (to_export p e file) (plain_words_are_faultless.export name p e file fp fe ffile)
       (λ task. plain_words_are_read.export name p e file task fp fe ffile);
@@ -59,6 +57,12 @@ plain_words_are_answered = record {
   trim_as_json = λ name e file fe ffile.
       answered (name ∷ codes "trim" ∷ e ∷ codes "--out" ∷ file ∷ codes "--json" ∷ []) (to_trim e file true) (plain_words_are_faultless.trim_as_json name e file fe ffile)
       (λ task. plain_words_are_read.trim_as_json name e file task fe ffile);
+  shrink = λ name p fp.
+      answered (name ∷ codes "shrink" ∷ p ∷ []) (to_shrink p None) (plain_words_are_faultless.shrink name p fp)
+      (λ task. plain_words_are_read.shrink name p task fp);
+  shrink_out = λ name p file fp ff.
+      answered (name ∷ codes "shrink" ∷ p ∷ codes "--out" ∷ file ∷ []) (to_shrink p (Some file)) (plain_words_are_faultless.shrink_out name p file fp ff)
+      (λ task. plain_words_are_read.shrink_out name p file task fp ff);
   prove = λ name p fp.
       answered (name ∷ codes "prove" ∷ p ∷ []) (to_prove p None 4 4 1000000 false false) (plain_words_are_faultless.prove name p fp)
       (λ task. plain_words_are_read.prove name p task fp);

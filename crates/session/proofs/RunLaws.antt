@@ -10,17 +10,18 @@ use Rattle.checker.specs.declared.reason.Verdict.{Verdict}
 use Rattle.checker.specs.declared.reason.Verdict.TheVariants as verdicts
 use Rattle.checker.proofs.OneVerdicts.{kinds_differ, right_or_memory}
 use Rattle.formulas.specs.Numbering.{formula_of}
-use Rattle.prover.specs.Answers.{Replays}
-use Rattle.prover.specs.Telling.{told_run}
+use Rattle.prover.specs.Answers.{CanFinish, CanHang, Replays, TellsRun}
 use Rattle.prover.specs.declared.steps.Replayed.{Replayed}
 use Rattle.prover.specs.declared.steps.Replayed.TheVariants as replays
 use Rattle.command_line.specs.CommandLine.{version_line}
-use Rattle.command_line.specs.Requests.{AskFor, Task, to_check, to_encode, to_explain, to_export, to_prove, to_replay, to_trim}
-use Rattle.session.specs.Deadlocks.{ReadFilesAreNotBlamed, AskToCheck, AskToExplain, AskToProve, AskToReplay, CheckedDeadlockIsPrinted, CheckedDeadlockIsShown, CheckedSafetyIsPrinted, CheckedSafetyIsTrue, EncodedFormulaIsPrinted, ExplainedDeadlockIsShown, ExplainedSafetyIsTrue, ExplainedUnknownFinishes, ExportedAnswerIsPrinted, ExportedProofIsWritten, ExportedSafetyIsTrue, IsRightlyTold, ProvedDeadlockIsPrinted, ProvedDeadlockIsShown, ProvedSafetyIsPrinted, ProvedSafetyIsTrue, ProvedUnknownFinishes, RefutedIsChecked, ReplayedDeadlockIsShown, ReplayedRunIsPrinted, ShownDeadlockIsChecked, ShownDeadlockIsReplayed, TellsDeadlock, TellsSafety, ToldDeadlockIsShown, TrimmedRefutationIsWritten, WrittenDeadlockIsShown, WrittenSafetyIsRefuted}
+use Rattle.settings.specs.declared.form.Form.{Form}
+use Rattle.command_line.specs.Requests.{AskFor, Task, to_check, to_encode, to_explain, to_export, to_prove, to_replay, to_shrink, to_trim}
+use Rattle.session.specs.Deadlocks.{ReadFilesAreNotBlamed, AskToCheck, AskToExplain, AskToProve, AskToReplay, CheckedDeadlockIsPrinted, CheckedDeadlockIsShown, CheckedSafetyIsPrinted, CheckedSafetyIsTrue, EncodedFormulaIsPrinted, ExplainedDeadlockIsShown, ExplainedSafetyIsTrue, ExplainedUnknownFinishes, ExportedAnswerIsPrinted, ExportedProofIsWritten, ExportedSafetyIsTrue, IsRightlyTold, ProvedDeadlockIsPrinted, ProvedDeadlockIsShown, ProvedSafetyIsPrinted, ProvedSafetyIsTrue, ProvedUnknownFinishes, RefutedIsChecked, ReplayedDeadlockIsShown, ReplayedRunIsPrinted, ShownDeadlockIsChecked, ShownDeadlockIsReplayed, IsHandedOver, ShrunkProgramHangs, TellsDeadlock, TellsSafety, ToldDeadlockIsShown, TrimmedRefutationIsWritten, WrittenDeadlockIsShown, WrittenSafetyIsRefuted}
 use Rattle.session.specs.Endings.{Complains, Ends, EndsFollowed, EndsUnasked, Explains, FailsEarly, IsFollowed, Prints, PrintsAlone, SessionEnds, TaskEnds}
 use Rattle.session.specs.Lines.{IsLine, deadlock_line, early_line, line_text, lines_words, memory_line, no_deadlock_line, told_of_answer, told_of_untrimmed, told_of_verdict, told_status}
-use Rattle.session.specs.Pages.{FilesTold, HasTextOfFormula, IsProgram, IsChecked, IsEither, IsEncoded, IsExplained, IsExplainFile, IsExplainPage, IsExported, IsExportedTo, IsExportFile, IsProveFile, IsProved, IsReplayPage, IsReplayed, IsSearched, IsTrimFile, IsTrimmed, IsWritten, explain_want}
+use Rattle.session.specs.Pages.{FilesTold, HasTextOfFormula, IsProgram, IsChecked, IsEither, IsEncoded, IsExplained, IsExplainFile, IsExplainPage, is_object, IsExported, IsExportedTo, IsExportFile, IsProveFile, IsProved, IsReplayPage, IsReplayed, IsSearched, IsMadeSmaller, IsShrinkFile, IsSmallerPage, IsTrimFile, IsTrimmed, IsWritten, explain_want}
 use Rattle.files.specs.Contents.{AreAll}
+use Rattle.shrinking.specs.Shrinking.{IsShrunk}
 use Rattle.reports.specs.Trimming.{Shortens}
 use Rattle.reports.specs.declared.trimmed.Shortened.{Shortened}
 use Rattle.reports.specs.declared.trimmed.Untrimmed.{Untrimmed}
@@ -29,8 +30,8 @@ use Rattle.reports.proofs.Shorter.{shortened_refutes}
 use Rattle.session.specs.declared.page.Want.{Want}
 use Rattle.session.specs.declared.page.Want.TheVariants as want
 use Rattle.session.specs.declared.told.Told.TheVariants as told
-use Rattle.session.proofs.DeadlockLines.{PageTells, PageTellsSafety, deadlock_page, deadlock_printed, deadlock_untold, dimacs_untold, formula_untold, help_untold, line_tells, lines_untold, one_told, safe_line, safety_page, safety_untold, stuck_line, unknown_page, unknown_untold, version_untold, zero_told}
-use Rattle.session.proofs.Deadlocks.{all_are, check_never, check_shows, explained_finishes, explained_never, explained_shows, exported_checked, exported_proof, file_refutes, file_shows, held_as_read, prove_finishes, prove_never, prove_shows, read_as_held, read_shows, refused_above, refused_differs, replayed_shows, safe_differs, searched_shows}
+use Rattle.session.proofs.DeadlockLines.{PageTells, PageTellsSafety, deadlock_page, deadlock_printed, deadlock_untold, dimacs_untold, formula_untold, help_untold, line_tells, lines_untold, one_told, safe_line, safety_page, safety_untold, unshrunk_untold, stuck_line, unknown_page, unknown_untold, version_untold, zero_told}
+use Rattle.session.proofs.Deadlocks.{all_are, check_never, check_shows, explained_finishes, explained_never, explained_shows, exported_checked, exported_proof, file_refutes, file_shows, held_as_read, prove_finishes, prove_never, prove_shows, helped_untold, read_as_held, read_shows, refused_above, refused_differs, replayed_shows, safe_differs, searched_shows}
 use Rattle.session.proofs.TaskEnds.{task_ends}
 
 -- a run that complains with another status tells no deadlock
@@ -193,16 +194,16 @@ not_blamed as_json words p e tells before after old new told_old told_new status
 
 -- ---- replay
 
-module _ (words : List Text) (p e : Text) (tells : FilesTold) (before after : List ℕ → Option (List ℕ)) (old new told_old told_new : Option (List ℕ)) (status : ℕ) where
-  replay_ends : AskToReplay words p e → SessionEnds words tells before after old new told_old told_new status
-      → Ends (IsReplayed (before p) (before e)) (IsEither tells.reads p e) want.Refused false before after old new told_old told_new status ⊎ FailsEarly old new told_old told_new status
-  replay_ends asks ends = ended (task_ends words tells before after old new told_old told_new status (to_replay p e) asks ends)
+module _ (lines : Bool) (words : List Text) (p e : Text) (tells : FilesTold) (before after : List ℕ → Option (List ℕ)) (old new told_old told_new : Option (List ℕ)) (status : ℕ) where
+  replay_ends : AskToReplay lines words p e → SessionEnds words tells before after old new told_old told_new status
+      → Ends (IsReplayed lines (before p) (before e)) (IsEither tells.reads p e) want.Refused false before after old new told_old told_new status ⊎ FailsEarly old new told_old told_new status
+  replay_ends asks ends = ended (task_ends words tells before after old new told_old told_new status (to_replay p e lines) asks ends)
 
 pub replayed : ReplayedDeadlockIsShown
-replayed words p e tells before after program evidence old new told_old told_new status asks held_p held_e ends says =
-    let page = page_that_told (IsReplayed (before p) (before e)) (IsEither tells.reads p e) want.Refused false before after old new told_old told_new status
-    (replay_ends words p e tells before after old new told_old told_new status asks ends) says in
-    replayed_shows (before p) (before e) page.0 page.1 program evidence page.2 page.3 held_p held_e
+replayed lines words p e tells before after program evidence old new told_old told_new status asks held_p held_e ends says =
+    let page = page_that_told (IsReplayed lines (before p) (before e)) (IsEither tells.reads p e) want.Refused false before after old new told_old told_new status
+    (replay_ends lines words p e tells before after old new told_old told_new status asks ends) says in
+    replayed_shows lines (before p) (before e) page.0 page.1 program evidence page.2 page.3 held_p held_e
 
 -- where a replay is refused though the evidence shows a deadlock, it is for want of memory
 refused_by_memory : (program evidence : List ℕ) (reason : Reason) → Judges program evidence (verdicts.Refused reason) → Shows program evidence
@@ -212,33 +213,34 @@ refused_by_memory program evidence reason judges shows = elim (right_or_memory p
   | inr e ↦ ap (λ (v : Verdict). told_status (told_of_verdict v)) e
 ]
 
-replay_status : (program evidence : List ℕ) (r : Replayed) (text : List ℕ) (status : ℕ) → Replays program evidence r → IsReplayPage r text status
+replay_status : (lines : Bool) (program evidence : List ℕ) (r : Replayed) (text : List ℕ) (status : ℕ) → Replays lines program evidence r → IsReplayPage r text status
     → Shows program evidence → (status ≡ 1) ⊎ (status ≡ 4)
-replay_status program evidence (replays.Stuck steps) text status given page shows = inl page.1
-replay_status program evidence (replays.Refused reason) text status given page shows =
+replay_status lines program evidence (replays.Stuck steps) text status given page shows = inl page.1
+replay_status lines program evidence (replays.Refused reason) text status given page shows =
     inr (page.3 ∙ refused_by_memory program evidence reason given.0 shows)
-replay_status program evidence replays.NotASchedule text status given page shows =
+replay_status lines program evidence replays.NotASchedule text status given page shows =
     absurd (kinds_differ evidence shows.steps given.claim shows.schedule given.refutation)
 
-replayed_status : (program_file evidence_file : Option (List ℕ)) (text : List ℕ) (status : ℕ) (program evidence : List ℕ)
-    → IsReplayed program_file evidence_file text status → program_file ≡ Some program → evidence_file ≡ Some evidence → Shows program evidence
+replayed_status : (lines : Bool) (program_file evidence_file : Option (List ℕ)) (text : List ℕ) (status : ℕ) (program evidence : List ℕ)
+    → IsReplayed lines program_file evidence_file text status → program_file ≡ Some program → evidence_file ≡ Some evidence → Shows program evidence
     → (status ≡ 1) ⊎ (status ≡ 4)
-replayed_status program_file evidence_file text status program evidence page held_p held_e shows =
-    replay_status page.0 page.1 page.2 text status page.5 page.6
+replayed_status lines program_file evidence_file text status program evidence page held_p held_e shows =
+    replay_status lines page.0 page.1 page.2 text status page.5 page.6
     (read_shows program_file evidence_file page.0 page.1 program evidence page.3 page.4 held_p held_e shows)
 
 pub shown_replayed : ShownDeadlockIsReplayed
-shown_replayed words p e tells before after program evidence old new told_old told_new status asks held_p held_e ends shows =
-    own_ended 1 (IsReplayed (before p) (before e)) (IsEither tells.reads p e) want.Refused false before after old new told_old told_new status
-    (replay_ends words p e tells before after old new told_old told_new status asks ends)
-    (λ text page_status page. replayed_status (before p) (before e) text page_status program evidence page held_p held_e shows)
+shown_replayed lines words p e tells before after program evidence old new told_old told_new status asks held_p held_e ends shows =
+    own_ended 1 (IsReplayed lines (before p) (before e)) (IsEither tells.reads p e) want.Refused false before after old new told_old told_new status
+    (replay_ends lines words p e tells before after old new told_old told_new status asks ends)
+    (λ text page_status page. replayed_status lines (before p) (before e) text page_status program evidence page held_p held_e shows)
 
 -- the page of a replay with the status 1 is the run that is shown
-stuck_replay : (program evidence : List ℕ) (r : Replayed) (text : List ℕ) → Replays program evidence r → IsReplayPage r text 1
-    → (shown : Shows program evidence) × (text ≡ told_run shown.p shown.steps)
-stuck_replay program evidence (replays.Stuck steps) text given page = (given.0, page.0 ∙ given.1)
-stuck_replay program evidence (replays.Refused reason) text given page = absurd (omega (arith, page.3, refused_above reason))
-stuck_replay program evidence replays.NotASchedule text given page = absurd (omega (arith, page.3))
+stuck_replay : (lines : Bool) (program evidence : List ℕ) (r : Replayed) (text : List ℕ) → Replays lines program evidence r → IsReplayPage r text 1
+    → (shown : Shows program evidence) × TellsRun lines program shown.p shown.steps text
+stuck_replay lines program evidence (replays.Stuck steps) text given page =
+    (given.0, subst (TellsRun lines program given.0.p given.0.steps) (sym page.0) given.1)
+stuck_replay lines program evidence (replays.Refused reason) text given page = absurd (omega (arith, page.3, refused_above reason))
+stuck_replay lines program evidence replays.NotASchedule text given page = absurd (omega (arith, page.3))
 
 -- and none has the status 0
 never_replayed : (r : Replayed) (text : List ℕ) → IsReplayPage r text 0 → ⊥
@@ -248,17 +250,16 @@ never_replayed replays.NotASchedule text page = omega (arith, page.3)
 
 pub replayed_run : ReplayedRunIsPrinted
 replayed_run = record {
-  run = λ words p e tells before after program evidence old new told_old told_new status asks held_p held_e ends one.
-      let page = page_printed 1 (omega arith) (IsReplayed (before p) (before e)) (IsEither tells.reads p e) want.Refused false before after old new told_old told_new status
-      (replay_ends words p e tells before after old new told_old told_new status asks ends) one in
+  run = λ lines words p e tells before after program evidence old new told_old told_new status asks held_p held_e ends one.
+      let page = page_printed 1 (omega arith) (IsReplayed lines (before p) (before e)) (IsEither tells.reads p e) want.Refused false before after old new told_old told_new status
+      (replay_ends lines words p e tells before after old new told_old told_new status asks ends) one in
       let replayed = page.1 in
-      let stuck = stuck_replay replayed.0 replayed.1 replayed.2 page.0 replayed.5 replayed.6 in
-      held_as_read (λ x y. (shown : Shows x y) × PrintsAlone old new told_old told_new (told_run shown.p shown.steps) 1 status) (before p) (before e)
-      replayed.0 replayed.1 program evidence replayed.3 replayed.4 held_p held_e
-      (stuck.0, subst (λ (text : List ℕ). PrintsAlone old new told_old told_new text 1 status) stuck.1 page.2);
-  never_safe = λ words p e tells before after old new told_old told_new status asks ends zero.
-      let page = page_printed 0 (omega arith) (IsReplayed (before p) (before e)) (IsEither tells.reads p e) want.Refused false before after old new told_old told_new status
-      (replay_ends words p e tells before after old new told_old told_new status asks ends) zero in
+      let stuck = stuck_replay lines replayed.0 replayed.1 replayed.2 page.0 replayed.5 replayed.6 in
+      held_as_read (λ x y. (shown : Shows x y) × (text : List ℕ) × TellsRun lines x shown.p shown.steps text × PrintsAlone old new told_old told_new text 1 status) (before p) (before e)
+      replayed.0 replayed.1 program evidence replayed.3 replayed.4 held_p held_e (stuck.0, page.0, stuck.1, page.2);
+  never_safe = λ lines words p e tells before after old new told_old told_new status asks ends zero.
+      let page = page_printed 0 (omega arith) (IsReplayed lines (before p) (before e)) (IsEither tells.reads p e) want.Refused false before after old new told_old told_new status
+      (replay_ends lines words p e tells before after old new told_old told_new status asks ends) zero in
       never_replayed page.1.2 page.0 page.1.6;
 }
 
@@ -388,38 +389,38 @@ unknown_finishes words p out budget progress as_json tells before after program 
 
 -- ---- explain
 
-module _ (words : List Text) (p : Text) (e : Option Text) (budget : ℕ) (graph : Bool) (tells : FilesTold) (before after : List ℕ → Option (List ℕ)) (old new told_old told_new : Option (List ℕ)) (status : ℕ) where
+module _ (words : List Text) (p : Text) (e : Option Text) (budget : ℕ) (form : Form) (tells : FilesTold) (before after : List ℕ → Option (List ℕ)) (old new told_old told_new : Option (List ℕ)) (status : ℕ) where
   abbrev ExplainEnds : Type 0
   ExplainEnds =
-      Ends (IsExplainPage before p e budget graph) (IsExplainFile tells.reads p e) (explain_want e) false before after old new told_old told_new status
+      Ends (IsExplainPage before p e budget form) (IsExplainFile tells.reads p e) (explain_want e) (is_object form) before after old new told_old told_new status
       ⊎ FailsEarly old new told_old told_new status
 
-  explain_ends : AskToExplain words p e budget graph → SessionEnds words tells before after old new told_old told_new status → ExplainEnds
-  explain_ends asks ends = ended (task_ends words tells before after old new told_old told_new status (to_explain p e asks.0 asks.1 budget graph) asks.2 ends)
+  explain_ends : AskToExplain words p e budget form → SessionEnds words tells before after old new told_old told_new status → ExplainEnds
+  explain_ends asks ends = ended (task_ends words tells before after old new told_old told_new status (to_explain p e asks.0 asks.1 budget form) asks.2 ends)
 
 pub explained : ExplainedDeadlockIsShown
 explained = record {
-  given = λ graph words p e tells before after program evidence old new told_old told_new status asks held_p held_e ends says.
-      let page = page_that_told (IsExplained (before p) (before e) graph) (IsEither tells.reads p e) want.Refused false before after old new told_old told_new status
-      (explain_ends words p (Some e) asks.0 graph tells before after old new told_old told_new status asks.1 ends) says in
-      explained_shows (before p) (before e) graph page.0 page.1 program evidence page.2 page.3 held_p held_e;
-  found = λ words p budget graph tells before after program old new told_old told_new status asks held ends says.
-      let page = page_that_told (IsSearched (before p) budget graph) (IsProgram tells.reads p) want.Unknown false before after old new told_old told_new status
-      (explain_ends words p None budget graph tells before after old new told_old told_new status asks ends) says in
-      searched_shows (before p) budget graph page.0 page.1 program page.2 page.3 held;
+  given = λ form words p e tells before after program evidence old new told_old told_new status asks held_p held_e ends says.
+      let page = page_that_told (IsExplained (before p) (before e) form) (IsEither tells.reads p e) want.Refused (is_object form) before after old new told_old told_new status
+      (explain_ends words p (Some e) asks.0 form tells before after old new told_old told_new status asks.1 ends) says in
+      explained_shows (before p) (before e) form page.0 page.1 program evidence page.2 page.3 held_p held_e;
+  found = λ words p budget form tells before after program old new told_old told_new status asks held ends says.
+      let page = page_that_told (IsSearched (before p) budget form) (IsProgram tells.reads p) want.Unknown (is_object form) before after old new told_old told_new status
+      (explain_ends words p None budget form tells before after old new told_old told_new status asks ends) says in
+      searched_shows (before p) budget form page.0 page.1 program page.2 page.3 held;
 }
 
 pub explained_safe : ExplainedSafetyIsTrue
-explained_safe words p e budget graph tells before after program old new told_old told_new status asks held ends zero =
-    let page = page_printed 0 (omega arith) (IsExplainPage before p e budget graph) (IsExplainFile tells.reads p e) (explain_want e) false before after old new told_old told_new status
-    (explain_ends words p e budget graph tells before after old new told_old told_new status asks ends) zero in
-    explained_never before p e budget graph page.0 program page.1 held
+explained_safe words p e budget form tells before after program old new told_old told_new status asks held ends zero =
+    let page = page_printed 0 (omega arith) (IsExplainPage before p e budget form) (IsExplainFile tells.reads p e) (explain_want e) (is_object form) before after old new told_old told_new status
+    (explain_ends words p e budget form tells before after old new told_old told_new status asks ends) zero in
+    explained_never before p e budget form page.0 program page.1 held
 
 pub explained_unknown : ExplainedUnknownFinishes
-explained_unknown words p e budget graph tells before after program old new told_old told_new status asks some held ends two =
-    let page = page_printed 2 (omega arith) (IsExplainPage before p e budget graph) (IsExplainFile tells.reads p e) (explain_want e) false before after old new told_old told_new status
-    (explain_ends words p e budget graph tells before after old new told_old told_new status asks ends) two in
-    explained_finishes before p e budget graph page.0 program page.1 some held
+explained_unknown words p e budget form tells before after program old new told_old told_new status asks some held ends two =
+    let page = page_printed 2 (omega arith) (IsExplainPage before p e budget form) (IsExplainFile tells.reads p e) (explain_want e) (is_object form) before after old new told_old told_new status
+    (explain_ends words p e budget form tells before after old new told_old told_new status asks ends) two in
+    explained_finishes before p e budget form page.0 program page.1 some held
 
 -- ---- export
 
@@ -512,6 +513,73 @@ trimmed = record {
       omega (arith, is.2.4);
 }
 
+-- ---- shrink
+
+module _ (words : List Text) (p : Text) (out : Option Text) (tells : FilesTold) (before after : List ℕ → Option (List ℕ)) (old new told_old told_new : Option (List ℕ)) (status : ℕ) where
+  shrink_ends : AskFor words (to_shrink p out) → SessionEnds words tells before after old new told_old told_new status
+      → Ends (IsMadeSmaller tells.writes before after p out) (IsShrinkFile tells.reads p out before after) want.Refused false before after old new told_old told_new status ⊎ FailsEarly old new told_old told_new status
+  shrink_ends asks ends = ended (task_ends words tells before after old new told_old told_new status (to_shrink p out) asks ends)
+
+-- a page with the status 1 is that of a smaller program
+shrunk_page : (tells : Bool) (before after : List ℕ → Option (List ℕ)) (p : List ℕ) (out : Option (List ℕ)) (text : List ℕ) → IsMadeSmaller tells before after p out text 1
+    → (program : List ℕ) × AreAll (before p) program × ((smaller : List ℕ) × CanHang program × IsShrunk program smaller × IsWritten tells before after out smaller × IsSmallerPage out smaller text)
+shrunk_page tells before after p out text (program, all, inl s) = (program, all, (s.0, s.1, s.2, s.3, s.4))
+shrunk_page tells before after p out text (program, all, inr (inl finishes)) = absurd (omega (arith, finishes.3))
+shrunk_page tells before after p out text (program, all, inr (inr refused)) = absurd (omega (arith, refused.3.3, refused_above refused.0))
+
+-- one with the status 2 is of a program that can finish
+unshrunk_page : (tells : Bool) (before after : List ℕ → Option (List ℕ)) (p : List ℕ) (out : Option (List ℕ)) (text : List ℕ) → IsMadeSmaller tells before after p out text 2
+    → (program : List ℕ) × AreAll (before p) program × CanFinish program
+unshrunk_page tells before after p out text (program, all, inl s) = absurd (omega (arith, s.5))
+unshrunk_page tells before after p out text (program, all, inr (inl finishes)) = (program, all, finishes.0)
+unshrunk_page tells before after p out text (program, all, inr (inr refused)) = absurd (omega (arith, refused.3.3, refused_above refused.0))
+
+-- and none has the status 0
+never_shrunk : (tells : Bool) (before after : List ℕ → Option (List ℕ)) (p : List ℕ) (out : Option (List ℕ)) (text : List ℕ) → IsMadeSmaller tells before after p out text 0 → ⊥
+never_shrunk tells before after p out text (program, all, inl s) = omega (arith, s.5)
+never_shrunk tells before after p out text (program, all, inr (inl finishes)) = omega (arith, finishes.3)
+never_shrunk tells before after p out text (program, all, inr (inr refused)) = omega (arith, refused.3.3, refused_above refused.0)
+
+-- a page that tells a deadlock is of a program that can hang
+shrunk_hangs : (tells : Bool) (before after : List ℕ → Option (List ℕ)) (p : List ℕ) (out : Option (List ℕ)) (text : List ℕ) (status : ℕ) (program : List ℕ)
+    → IsMadeSmaller tells before after p out text status → PageTells text status → before p ≡ Some program → CanHang program
+shrunk_hangs tells before after p out text status program (given, all, inl s) says held =
+    subst CanHang (all_are (before p) given program all held) s.1
+shrunk_hangs tells before after p out text status program (given, all, inr (inl finishes)) says held =
+    absurd (unshrunk_untold text status finishes.2 finishes.3 says)
+shrunk_hangs tells before after p out text status program (given, all, inr (inr refused)) says held =
+    absurd (helped_untold refused.0 text status refused.3 says)
+
+handed_over : (tells : Bool) (before after : List ℕ → Option (List ℕ)) (out : Option (List ℕ)) (smaller text : List ℕ) (old new told_old told_new : Option (List ℕ)) (status : ℕ)
+    → IsWritten tells before after out smaller → IsSmallerPage out smaller text → PrintsAlone old new told_old told_new text 1 status
+    → IsHandedOver tells after out smaller old new told_old told_new status
+handed_over tells before after None smaller text old new told_old told_new status written page prints =
+    subst (λ (t : List ℕ). PrintsAlone old new told_old told_new t 1 status) page prints
+handed_over tells before after (Some file) smaller text old new told_old told_new status written page prints = written
+
+pub shrunk : ShrunkProgramHangs
+shrunk = record {
+  smaller = λ words p out tells before after program old new told_old told_new status asks held ends one.
+      let page = page_printed 1 (omega arith) (IsMadeSmaller tells.writes before after p out) (IsShrinkFile tells.reads p out before after) want.Refused false before after old new told_old told_new status
+      (shrink_ends words p out tells before after old new told_old told_new status asks ends) one in
+      let is = shrunk_page tells.writes before after p out page.0 page.1 in
+      let s = is.2 in (
+        s.0,
+        subst CanHang (all_are (before p) is.0 program is.1 held) s.1,
+        subst (λ (given : List ℕ). IsShrunk given s.0) (all_are (before p) is.0 program is.1 held) s.2,
+        handed_over tells.writes before after out s.0 page.0 old new told_old told_new status s.3 s.4 page.2,
+      );
+  finishes = λ words p out tells before after program old new told_old told_new status asks held ends two.
+      let page = page_printed 2 (omega arith) (IsMadeSmaller tells.writes before after p out) (IsShrinkFile tells.reads p out before after) want.Refused false before after old new told_old told_new status
+      (shrink_ends words p out tells before after old new told_old told_new status asks ends) two in
+      let is = unshrunk_page tells.writes before after p out page.0 page.1 in
+      subst CanFinish (all_are (before p) is.0 program is.1 held) is.2;
+  never_safe = λ words p out tells before after old new told_old told_new status asks ends zero.
+      let page = page_printed 0 (omega arith) (IsMadeSmaller tells.writes before after p out) (IsShrinkFile tells.reads p out before after) want.Refused false before after old new told_old told_new status
+      (shrink_ends words p out tells before after old new told_old told_new status asks ends) zero in
+      never_shrunk tells.writes before after p out page.0 page.1;
+}
+
 -- ---- any words
 
 -- the page of `encode` tells no deadlock
@@ -533,42 +601,42 @@ asked_told words tells before after old new told_old told_new status (to_prove p
           prove_shows tells.writes before after p out budget json page.0 page.1 program page.2 page.3 held,
     )
 asked_told words tells before after old new told_old told_new status (to_check p e pieces json) asks ends says =
-    inr (
+    inr (inl (
       p,
       e,
       inl (json, (pieces, asks)),
       λ program evidence held_p held_e.
           let page = deadlock_page (IsChecked (before p) (before e) json) (IsEither tells.reads p e) want.Refused json before after old new told_old told_new status ends.1 says in
           check_shows (before p) (before e) json page.0 page.1 program evidence page.2 page.3 held_p held_e,
-    )
-asked_told words tells before after old new told_old told_new status (to_replay p e) asks ends says =
-    inr (
+    ))
+asked_told words tells before after old new told_old told_new status (to_replay p e lines) asks ends says =
+    inr (inl (
       p,
       e,
-      inr (inl asks),
+      inr (inl (lines, asks)),
       λ program evidence held_p held_e.
-          let page = deadlock_page (IsReplayed (before p) (before e)) (IsEither tells.reads p e) want.Refused false before after old new told_old told_new status ends.1 says in
-          replayed_shows (before p) (before e) page.0 page.1 program evidence page.2 page.3 held_p held_e,
-    )
-asked_told words tells before after old new told_old told_new status (to_explain p None workers depth budget graph) asks ends says =
+          let page = deadlock_page (IsReplayed lines (before p) (before e)) (IsEither tells.reads p e) want.Refused false before after old new told_old told_new status ends.1 says in
+          replayed_shows lines (before p) (before e) page.0 page.1 program evidence page.2 page.3 held_p held_e,
+    ))
+asked_told words tells before after old new told_old told_new status (to_explain p None workers depth budget form) asks ends says =
     inl (
       p,
-      inr (budget, graph, (workers, depth, asks)),
+      inr (budget, form, (workers, depth, asks)),
       λ program held.
-          let page = deadlock_page (IsSearched (before p) budget graph) (IsProgram tells.reads p) want.Unknown false before after old new told_old told_new status ends.1 says in
-          searched_shows (before p) budget graph page.0 page.1 program page.2 page.3 held,
+          let page = deadlock_page (IsSearched (before p) budget form) (IsProgram tells.reads p) want.Unknown (is_object form) before after old new told_old told_new status ends.1 says in
+          searched_shows (before p) budget form page.0 page.1 program page.2 page.3 held,
     )
-asked_told words tells before after old new told_old told_new status (to_explain p (Some e) workers depth budget graph) asks ends says =
-    inr (
+asked_told words tells before after old new told_old told_new status (to_explain p (Some e) workers depth budget form) asks ends says =
+    inr (inl (
       p,
       e,
-      inr (inr (inl (graph, (budget, (workers, depth, asks))))),
+      inr (inr (inl (form, (budget, (workers, depth, asks))))),
       λ program evidence held_p held_e.
-          let page = deadlock_page (IsExplained (before p) (before e) graph) (IsEither tells.reads p e) want.Refused false before after old new told_old told_new status ends.1 says in
-          explained_shows (before p) (before e) graph page.0 page.1 program evidence page.2 page.3 held_p held_e,
-    )
+          let page = deadlock_page (IsExplained (before p) (before e) form) (IsEither tells.reads p e) want.Refused (is_object form) before after old new told_old told_new status ends.1 says in
+          explained_shows (before p) (before e) form page.0 page.1 program evidence page.2 page.3 held_p held_e,
+    ))
 asked_told words tells before after old new told_old told_new status (to_export p e out) asks ends says =
-    inr (
+    inr (inl (
       p,
       e,
       inr (inr (inr (out, asks))),
@@ -576,13 +644,22 @@ asked_told words tells before after old new told_old told_new status (to_export 
           let page = deadlock_page (IsExported tells.writes before after p e out) (IsExportFile tells.reads p e out before after) want.Refused false before after old new told_old told_new status ends.1 says in
           check_shows (before p) (before e) false page.0 page.1 program evidence
           (exported_checked tells.writes before after p e out page.0 page.1 page.2) page.3 held_p held_e,
-    )
+    ))
 asked_told words tells before after old new told_old told_new status (to_encode p dimacs) asks ends says =
     let page = deadlock_page (IsEncoded dimacs (before p)) (IsProgram tells.reads p) want.Refused false before after old new told_old told_new status ends.1 says in
     absurd (encoded_untold dimacs (before p) page.0 page.1 page.2 page.3)
 asked_told words tells before after old new told_old told_new status (to_trim e out as_json) asks ends says =
     let page = deadlock_page (IsTrimmed tells.writes before after e out as_json) (IsTrimFile tells.reads e out before after) want.Refused as_json before after old new told_old told_new status ends.1 says in
     absurd (trimmed_untold tells.writes before after e out as_json page.0 page.1 page.2 page.3)
+asked_told words tells before after old new told_old told_new status (to_shrink p out) asks ends says =
+    inr (inr (
+      p,
+      out,
+      asks,
+      λ program held.
+          let page = deadlock_page (IsMadeSmaller tells.writes before after p out) (IsShrinkFile tells.reads p out before after) want.Refused false before after old new told_old told_new status ends.1 says in
+          shrunk_hangs tells.writes before after p out page.0 page.1 program page.2 page.3 held,
+    ))
 
 explained_untold : (kind : ErrorKind) (old new told_old told_new : Option (List ℕ)) (status : ℕ) → Explains kind old new told_old told_new status
     → TellsDeadlock old new status → ⊥

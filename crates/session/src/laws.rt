@@ -23,6 +23,7 @@ ghost use Rattle.session.specs.Deadlocks.{
   ReplayedRunIsPrinted,
   ShownDeadlockIsChecked,
   ShownDeadlockIsReplayed,
+  ShrunkProgramHangs,
   ToldDeadlockIsShown,
   TrimmedRefutationIsWritten,
   WrittenDeadlockIsShown,
@@ -172,8 +173,15 @@ pub fn trimmed_refutation_is_written()
     ensures { TrimmedRefutationIsWritten }
 {}
 
+/// Where words ask for a smaller program, and the run ended with the status 1, the program of the file has a run that ends stuck, and one was
+/// printed, or written to the file that they name, that has such a run too and is no larger; with the status 2 some run of the program of the
+/// file finishes; and none ends with the status 0.
+pub fn shrunk_program_hangs()
+    ensures { ShrunkProgramHangs }
+{}
+
 /// Where any run printed the line of a deadlock or ended with the status 1, its words ask to prove, check,
-/// replay, explain or export a program, and a stuck run of that program is shown.
+/// replay, explain, export or shrink a program, and that program has a run that ends stuck.
 pub fn told_deadlock_is_shown()
     ensures { ToldDeadlockIsShown }
 {}

@@ -13,6 +13,6 @@ returns-clause-page g c =
       subst (AreAll (held c.args.program.now)) (sym c.deref.ensures.value) c.in_ok-program.ensures.bytes,
       c.prove-answer.ensures.answers,
       c.prove-answer.ensures.finishes,
-      subst (λ (p : List ℕ). IsAnswerPage c.args.graph p c.prove-answer.result page.text.items page.status)
+      subst (λ (p : List ℕ). IsAnswerPage c.args.form p c.prove-answer.result page.text.items page.status)
           (c.deref-2.ensures.value ∙ sym c.deref.ensures.value) c.in_ok-answer_explained.ensures,
     )

@@ -2,7 +2,7 @@
 use Rattle.std.proofs.Common.{◌≡◌, IfErr, IfOk, ℕ, List, Bool, Result, Ok, Err, inl, inr, option_map, subst, false}
 use Rattle.std.specs.Prelude.{Option}
 use Rattle.session.specs.Endings.{Ends, Finishes}
-use Rattle.session.specs.Pages.{IsChecked, IsEither, IsEncoded, IsExplainFile, IsExplainPage, IsExported, IsExportFile, IsProveFile, IsProgram, IsProved, IsReplayed, IsTrimFile, IsTrimmed, StopsBy}
+use Rattle.session.specs.Pages.{IsChecked, IsEither, IsEncoded, IsExplainFile, IsExplainPage, IsExported, IsExportFile, IsProveFile, IsProgram, IsProved, IsReplayed, IsMadeSmaller, IsShrinkFile, IsTrimFile, IsTrimmed, StopsBy, is_object}
 use Rattle.session.specs.declared.commands.Stop.{Stop}
 use Rattle.session.specs.declared.commands.Stop.TheVariants as stop
 use Rattle.session.specs.declared.page.Page.{Page}
@@ -63,7 +63,7 @@ returns-in-Replay g c =
     let evidence = c.in-Replay.evidence.now in
     rw c.in-Replay.is (
       c.replay_page-page.ensures.same,
-      ended (IsReplayed (before program) (before evidence)) (IsEither (g.F.FileSet.reads c.args.files.now) program evidence) _ _ _
+      ended (IsReplayed c.in-Replay.lines (before program) (before evidence)) (IsEither (g.F.FileSet.reads c.args.files.now) program evidence) _ _ _
           before (g.F.FileSet.held c.replay_page-page.new.files) _ _ _ _ _
           c.replay_page-page.ensures.page c.replay_page-page.ensures.stop c.finish-in-Replay.ensures,
     )
@@ -74,7 +74,7 @@ returns-in-Explain g c =
     let after = g.F.FileSet.held c.explain_page-page.new.files in
     let program = c.in-Explain.program.now in
     let evidence = option_map (λ path. path.now) c.in-Explain.evidence in
-    let IsPage = IsExplainPage before program evidence c.in-Explain.options.budget c.in-Explain.graph in
+    let IsPage = IsExplainPage before program evidence c.in-Explain.options.budget c.in-Explain.form in
     let IsFile = IsExplainFile (g.F.FileSet.reads c.args.files.now) program evidence in
     let told_new = g.E.Write.contents c.finish-in-Explain.new.err in
     let new = g.O.Write.contents c.finish-in-Explain.new.out in
@@ -82,9 +82,10 @@ returns-in-Explain g c =
     let old = g.O.Write.contents c.args.out.now in
     rw c.in-Explain.is (
       c.explain_page-page.ensures.same,
-      subst (λ (w : Want). Ends IsPage IsFile w false before after old new told_old told_new c.finish-in-Explain.result) c.explain_want.ensures
+      subst (λ (w : Want). Ends IsPage IsFile w (is_object c.in-Explain.form) before after old new told_old told_new c.finish-in-Explain.result) c.explain_want.ensures
+          (subst (λ (j : Bool). Ends IsPage IsFile c.explain_want.result j before after old new told_old told_new c.finish-in-Explain.result) c.is_object.ensures
           (ended IsPage IsFile _ _ _ before after _ _ _ _ _
-          c.explain_page-page.ensures.page c.explain_page-page.ensures.stop c.finish-in-Explain.ensures),
+          c.explain_page-page.ensures.page c.explain_page-page.ensures.stop c.finish-in-Explain.ensures)),
     )
 
 pub returns-in-Export : goal.returns-in-Export
@@ -99,6 +100,19 @@ returns-in-Export g c =
       ended (IsExported g.F.FileSet.tells_written before after program evidence file) (IsExportFile (g.F.FileSet.reads c.args.files.now) program evidence file before after) _ _ _
           before after _ _ _ _ _
           c.export_page-page.ensures.page c.export_page-page.ensures.stop c.finish-in-Export.ensures,
+    )
+
+pub returns-in-Shrink : goal.returns-in-Shrink
+returns-in-Shrink g c =
+    let before = g.F.FileSet.held c.args.files.now in
+    let after = g.F.FileSet.held c.shrink_page-page.new.files in
+    let program = c.in-Shrink.program.now in
+    let file = option_map (λ path. path.now) c.in-Shrink.file in
+    rw c.in-Shrink.is (
+      c.shrink_page-page.ensures.others,
+      ended (IsMadeSmaller g.F.FileSet.tells_written before after program file) (IsShrinkFile (g.F.FileSet.reads c.args.files.now) program file before after) _ _ _
+          before after _ _ _ _ _
+          c.shrink_page-page.ensures.page c.shrink_page-page.ensures.stop c.finish-in-Shrink.ensures,
     )
 
 pub returns-in-Trim : goal.returns-in-Trim

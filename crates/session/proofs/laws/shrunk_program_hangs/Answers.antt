@@ -1,0 +1,5 @@
+use Rattle.session.proofs.RunLaws.{shrunk}
+use Rattle.session.proofs.laws.shrunk_program_hangs.Goals as goal
+
+pub returns : goal.returns
+returns c = shrunk
