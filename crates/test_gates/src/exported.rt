@@ -2,7 +2,7 @@
 mod lrat;
 
 use checker::{PieceGate, Reason, Verdict};
-use lrat::{read_cnf, read_proof, refutes};
+use lrat::{Cnf, ProofLine, read_cnf, read_proof, refutes};
 use prover::{Answer, Gate, Options, dimacs_formula, prove};
 use reports::export_evidence;
 use std::alloc::Global;
@@ -51,22 +51,63 @@ fn taken(
     program: &str,
     evidence: &[u8],
 ) -> Result<(usize, usize), Fail> {
-    let cnf = read_cnf(alloc, formula_of(rt, alloc, program)?.as_str())?;
+    let cnf = cnf_of(rt, alloc, program)?;
+    taken_over(rt, alloc, program, evidence, &cnf)
+}
+
+fn cnf_of(rt: &(impl Threads + Sync), alloc: Global, program: &str) -> Result<Cnf, Fail> {
+    let text = formula_of(rt, alloc, program)?;
+    read_cnf(alloc, text.as_str())
+}
+
+fn taken_over(
+    rt: &(impl Threads + Sync),
+    alloc: Global,
+    program: &str,
+    evidence: &[u8],
+    cnf: &Cnf,
+) -> Result<(usize, usize), Fail> {
+    let proof = lrat_of(rt, alloc, program, evidence, cnf.variables)?;
+    counted(alloc, cnf, proof.as_slice())
+}
+
+/// The lines of the proof that is exported.
+fn lrat_of(
+    rt: &(impl Threads + Sync),
+    alloc: Global,
+    program: &str,
+    evidence: &[u8],
+    variables: u32,
+) -> Result<Vec<ProofLine>, Fail> {
     let text = proof_of(rt, alloc, program, evidence)?;
-    let proof = read_proof(alloc, text.as_str(), cnf.variables)?;
-    if !refutes(alloc, &cnf, &proof, None)? {
+    read_proof(alloc, text.as_str(), variables)
+}
+
+fn counted(alloc: Global, cnf: &Cnf, proof: &[ProofLine]) -> Result<(usize, usize), Fail> {
+    if !refutes(alloc, cnf, proof, None)? {
         return Err(Fail::from("a proof that is refused"));
     }
     let mut hints = 0_usize;
     for (place, line) in proof.iter().enumerate() {
-        for hint in 0..line.hints.len() {
-            if refutes(alloc, &cnf, &proof, Some((place, hint)))? {
-                return Err(Fail::from("a hint that isn't needed"));
-            }
-            hints = hints.saturating_add(1);
-        }
+        hints = hints.saturating_add(needed(alloc, cnf, proof, place, line.hints.len())?);
     }
     Ok((proof.len(), hints))
+}
+
+/// How many hints the line at this place has, each of which is needed.
+fn needed(
+    alloc: Global,
+    cnf: &Cnf,
+    proof: &[ProofLine],
+    place: usize,
+    hints: usize,
+) -> Result<usize, Fail> {
+    for hint in 0..hints {
+        if refutes(alloc, cnf, proof, Some((place, hint)))? {
+            return Err(Fail::from("a hint that isn't needed"));
+        }
+    }
+    Ok(hints)
 }
 
 /// The refutation that a search finds.
@@ -83,26 +124,41 @@ fn refutation(
     }
 }
 
+/// The same, where `/` stands for the end of a line in both texts.
+fn taken_from(
+    rt: &(impl Threads + Sync),
+    alloc: Global,
+    program: &str,
+    evidence: &str,
+) -> Result<(usize, usize), Fail> {
+    let program = lines(alloc, program)?;
+    taken_of(rt, alloc, program.as_str(), evidence)
+}
+
+fn taken_of(
+    rt: &(impl Threads + Sync),
+    alloc: Global,
+    program: &str,
+    evidence: &str,
+) -> Result<(usize, usize), Fail> {
+    let evidence = lines(alloc, evidence)?;
+    taken(rt, alloc, program, evidence.as_bytes())
+}
+
+/// A program whose formula has the clauses `1`, `-1 -2` and `2`.
+const BUFFERED: &str = "ranks 1/policy any/rank 0/bsend 0 1/";
+
 #[test]
 fn a_tree_without_lines(rt: HostRuntime) -> Result<(), Fail> {
-    let alloc = rt.alloc();
-    let program = lines(alloc, "ranks 1/policy any/rank 0/bsend 0 1/")?;
-    let evidence = lines(
-        alloc,
-        "evidence 1/refutation 2 3/tree/split 1/split 2/leaf 2/leaf 3/leaf 1/",
-    )?;
-    let counted = taken(&rt, alloc, program.as_str(), evidence.as_bytes())?;
-    assert_eq!(rt; counted, (2, 4));
+    let evidence = "evidence 1/refutation 2 3/tree/split 1/split 2/leaf 2/leaf 3/leaf 1/";
+    assert_eq!(rt; taken_from(&rt, rt.alloc(), BUFFERED, evidence)?, (2, 4));
     Ok(())
 }
 
 #[test]
 fn lines_without_a_tree(rt: HostRuntime) -> Result<(), Fail> {
-    let alloc = rt.alloc();
-    let program = lines(alloc, "ranks 1/policy any/rank 0/bsend 0 1/")?;
-    let evidence = lines(alloc, "evidence 1/refutation 2 3/line : 1 3 2/tree/leaf 4/")?;
-    let counted = taken(&rt, alloc, program.as_str(), evidence.as_bytes())?;
-    assert_eq!(rt; counted, (1, 3));
+    let evidence = "evidence 1/refutation 2 3/line : 1 3 2/tree/leaf 4/";
+    assert_eq!(rt; taken_from(&rt, rt.alloc(), BUFFERED, evidence)?, (1, 3));
     Ok(())
 }
 
@@ -113,49 +169,97 @@ const EXCHANGE: &str = "ranks 2/policy any/rank 0/bsend 1 1/recv 1 1/rank 1/send
 const SERVER: &str =
     "ranks 3/policy any/rank 0/recv * 1/recv * 1/bsend 1 2/bsend 2 2/rank 1/send 0 1/recv 0 2/rank 2/send 0 1/recv 0 2/";
 
+/// How many lines and hints the exported proof has that a search finds; each hint is needed.
+fn taken_found(
+    rt: &(impl Threads + Wait + Sync),
+    alloc: Global,
+    text: &str,
+    depth: u32,
+) -> Result<(usize, usize), Fail> {
+    let program = lines(alloc, text)?;
+    taken_found_of(rt, alloc, program.as_str(), depth)
+}
+
+fn taken_found_of(
+    rt: &(impl Threads + Wait + Sync),
+    alloc: Global,
+    program: &str,
+    depth: u32,
+) -> Result<(usize, usize), Fail> {
+    let evidence = refutation(rt, alloc, program, depth)?;
+    taken(rt, alloc, program, evidence.as_slice())
+}
+
 #[test]
 fn refutations_that_a_search_finds(rt: HostRuntime) -> Result<(), Fail> {
-    let alloc = rt.alloc();
     for text in [EXCHANGE, SERVER] {
-        let program = lines(alloc, text)?;
         for depth in [0, 4] {
-            let evidence = refutation(&rt, alloc, program.as_str(), depth)?;
-            let (lines, hints) = taken(&rt, alloc, program.as_str(), &evidence)?;
+            let (lines, hints) = taken_found(&rt, rt.alloc(), text, depth)?;
             assert!(rt; lines > 0 && hints > lines);
         }
     }
     Ok(())
 }
 
+/// Whether the proof that a search finds for a program refutes the formula of another one.
+fn refutes_another(
+    rt: &(impl Threads + Wait + Sync),
+    alloc: Global,
+    program: &str,
+    other: &str,
+) -> Result<bool, Fail> {
+    let evidence = refutation(rt, alloc, program, 0)?;
+    refutes_with(rt, alloc, program, other, evidence.as_slice())
+}
+
+fn refutes_with(
+    rt: &(impl Threads + Sync),
+    alloc: Global,
+    program: &str,
+    other: &str,
+    evidence: &[u8],
+) -> Result<bool, Fail> {
+    let proof = lrat_of(rt, alloc, program, evidence, u32::MAX)?;
+    refutes_by(rt, alloc, other, proof.as_slice())
+}
+
+fn refutes_by(
+    rt: &(impl Threads + Sync),
+    alloc: Global,
+    program: &str,
+    proof: &[ProofLine],
+) -> Result<bool, Fail> {
+    let cnf = cnf_of(rt, alloc, program)?;
+    refutes(alloc, &cnf, proof, None)
+}
+
+/// Two ranks that exchange messages, neither of which sends in buffered mode.
+const UNBUFFERED: &str =
+    "ranks 2\npolicy none\nrank 0\nsend 1 1\nrecv 1 1\nrank 1\nsend 0 1\nrecv 0 1\n";
+
 #[test]
 fn another_formula_isnt_refuted(rt: HostRuntime) -> Result<(), Fail> {
-    let alloc = rt.alloc();
-    let program = lines(alloc, EXCHANGE)?;
-    let other = lines(
-        alloc,
-        "ranks 2/policy none/rank 0/send 1 1/recv 1 1/rank 1/send 0 1/recv 0 1/",
-    )?;
-    let evidence = refutation(&rt, alloc, program.as_str(), 0)?;
-    let text = proof_of(&rt, alloc, program.as_str(), &evidence)?;
-    let cnf = read_cnf(alloc, formula_of(&rt, alloc, other.as_str())?.as_str())?;
-    let proof = read_proof(alloc, text.as_str(), u32::MAX)?;
-    assert!(rt; !refutes(alloc, &cnf, &proof, None)?);
+    let program = lines(rt.alloc(), EXCHANGE)?;
+    assert!(rt; !refutes_another(&rt, rt.alloc(), program.as_str(), UNBUFFERED)?);
     Ok(())
+}
+
+/// Whether the export of such a text is refused as the checker refuses it, for its counts.
+fn is_refused(
+    rt: &(impl Threads + Sync),
+    alloc: Global,
+    program: &str,
+    evidence: &str,
+) -> Result<bool, Fail> {
+    let evidence = lines(alloc, evidence)?;
+    let told = export_evidence(rt, alloc, program.as_bytes(), evidence.as_bytes(), 4, &Open);
+    Ok(matches!(told, Err(Verdict::Refused(Reason::Counts))))
 }
 
 #[test]
 fn refused_as_by_the_checker(rt: HostRuntime) -> Result<(), Fail> {
-    let alloc = rt.alloc();
-    let program = lines(alloc, "ranks 1/policy any/rank 0/bsend 0 1/")?;
-    let evidence = lines(alloc, "evidence 1/refutation 2 4/line : 1 3 2/tree/leaf 5/")?;
-    let told = export_evidence(
-        &rt,
-        alloc,
-        program.as_bytes(),
-        evidence.as_bytes(),
-        4,
-        &Open,
-    );
-    assert!(rt; matches!(told, Err(Verdict::Refused(Reason::Counts))));
+    let program = lines(rt.alloc(), BUFFERED)?;
+    let evidence = "evidence 1/refutation 2 4/line : 1 3 2/tree/leaf 5/";
+    assert!(rt; is_refused(&rt, rt.alloc(), program.as_str(), evidence)?);
     Ok(())
 }

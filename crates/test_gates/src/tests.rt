@@ -74,17 +74,35 @@ fn shown<R: Threads + Wait + Sync, G: Gate + Sync>(
     gate: &G,
 ) -> Result<&'static str, Fail> {
     let text = text.replace(alloc, '/', "\n")?;
-    let evidence = match prove(rt, alloc, text.as_bytes(), options, gate) {
-        Answer::NoDeadlock(evidence) => evidence,
-        Answer::Deadlock(evidence) => evidence,
-        Answer::Unknown(Why::Budget) => return Ok("unknown budget"),
-        Answer::Unknown(_) => return Ok("unknown"),
-        Answer::Refused(_reason) => return Ok("refused"),
-    };
-    match verdict(rt, alloc, text.as_bytes(), evidence.as_slice()) {
-        Verdict::NoDeadlock => Ok("no deadlock"),
-        Verdict::Deadlock => Ok("deadlock"),
-        Verdict::Refused(_reason) => Ok("refused evidence"),
+    Ok(shown_of(rt, alloc, text.as_bytes(), options, gate))
+}
+
+fn shown_of<R: Threads + Wait + Sync, G: Gate + Sync>(
+    rt: &R,
+    alloc: Global,
+    text: &[u8],
+    options: Options,
+    gate: &G,
+) -> &'static str {
+    match prove(rt, alloc, text, options, gate) {
+        Answer::NoDeadlock(evidence) => shown_by(rt, alloc, text, evidence.as_slice()),
+        Answer::Deadlock(evidence) => shown_by(rt, alloc, text, evidence.as_slice()),
+        Answer::Unknown(Why::Budget) => "unknown budget",
+        Answer::Unknown(_) => "unknown",
+        Answer::Refused(_reason) => "refused",
+    }
+}
+
+fn shown_by<R: Threads + Sync>(
+    rt: &R,
+    alloc: Global,
+    text: &[u8],
+    evidence: &[u8],
+) -> &'static str {
+    match verdict(rt, alloc, text, evidence) {
+        Verdict::NoDeadlock => "no deadlock",
+        Verdict::Deadlock => "deadlock",
+        Verdict::Refused(_reason) => "refused evidence",
     }
 }
 

@@ -25,7 +25,11 @@ enum Search {
 
 pub fn make_solver<R: Threads + Sync>(rt: &R, alloc: Global) -> Result<Outcome, AllocError> {
     let encoded = encoded(rt, alloc, GATHER)?;
-    let variables = branching_variables(alloc, &encoded)?;
+    make_solver_of(alloc, &encoded)
+}
+
+fn make_solver_of(alloc: Global, encoded: &Encoded) -> Result<Outcome, AllocError> {
+    let variables = branching_variables(alloc, encoded)?;
     Ok(made_twice(alloc, encoded.formula(), variables.as_slice()))
 }
 
@@ -67,10 +71,15 @@ fn searched<R: Threads + Sync>(
     call: Search,
 ) -> Result<Outcome, AllocError> {
     let encoded = encoded(rt, alloc, text)?;
-    let variables = branching_variables(alloc, &encoded)?;
-    let formula = encoded.formula();
-    let mut solver = Solver::new(alloc, formula, &variables)?;
-    Ok(called(alloc, formula, &mut solver, call))
+    searched_in(alloc, &encoded, call)
+}
+
+fn searched_in(alloc: Global, encoded: &Encoded, call: Search) -> Result<Outcome, AllocError> {
+    let variables = branching_variables(alloc, encoded)?;
+    match Solver::new(alloc, encoded.formula(), variables.as_slice()) {
+        Ok(mut solver) => Ok(called(alloc, encoded.formula(), &mut solver, call)),
+        Err(error) => Err(error),
+    }
 }
 
 /// What comes of a call after which a solver that met want of memory has to be spent.
@@ -137,9 +146,12 @@ fn tells_spent(reply: &Result<Found, SolveFault>) -> bool {
 
 pub fn tell_schedule<R: Threads + Sync>(rt: &R, alloc: Global) -> Result<Outcome, AllocError> {
     let encoded = encoded(rt, alloc, HANGS)?;
-    let found = model_of(alloc, &encoded)?;
-    match &found {
-        Found::Model(assignment) => Ok(tried(alloc, &Asked::Schedule(&encoded, assignment))),
+    tell_schedule_of(alloc, &encoded)
+}
+
+fn tell_schedule_of(alloc: Global, encoded: &Encoded) -> Result<Outcome, AllocError> {
+    match model_of(alloc, encoded) {
+        Ok(Found::Model(assignment)) => Ok(tried(alloc, &Asked::Schedule(encoded, &assignment))),
         _ => Err(AllocError),
     }
 }

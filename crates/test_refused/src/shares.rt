@@ -84,9 +84,19 @@ fn one_leaf(alloc: Global, encoded: &Encoded) -> Result<Tree, AllocError>
 fn pool_of<R: Threads + Sync>(rt: &R, alloc: Global, text: &str) -> Result<Pool, AllocError>
     ensures { IfOk result (λ pool. pool.history ≡ []) }
 {
-    let encoded = encoded(rt, alloc, text)?;
-    let tree = one_leaf(alloc, &encoded)?;
-    Pool::new(alloc, encoded, tree)
+    match encoded(rt, alloc, text) {
+        Ok(encoded) => pool_over(alloc, encoded),
+        Err(error) => Err(error),
+    }
+}
+
+fn pool_over(alloc: Global, encoded: Encoded) -> Result<Pool, AllocError>
+    ensures { IfOk result (λ pool. pool.history ≡ []) }
+{
+    match one_leaf(alloc, &encoded) {
+        Ok(tree) => Pool::new(alloc, encoded, tree),
+        Err(error) => Err(error),
+    }
 }
 
 /// What comes of a call of the second of two workers.
@@ -96,10 +106,21 @@ pub fn call_with_seats<R: Threads + Wait + Sync>(
     step: Step,
 ) -> Result<Outcome, AllocError> {
     let lent = make_lent(alloc)?;
+    call_with(rt, alloc, &lent, step)
+}
+
+fn call_with<R: Threads + Wait + Sync>(
+    rt: &R,
+    alloc: Global,
+    lent: &Lent,
+    step: Step,
+) -> Result<Outcome, AllocError> {
     let text = if step == Step::Found { HANGS } else { BUFFERED };
-    let pool = pool_of(rt, alloc, text)?;
     let (cell, keeper) = open_room(alloc)?;
-    in_room::<Brand, R>(rt, alloc, cell, keeper, pool, &lent, step)
+    match pool_of(rt, alloc, text) {
+        Ok(pool) => in_room::<Brand, R>(rt, alloc, cell, keeper, pool, lent, step),
+        Err(error) => Err(error),
+    }
 }
 
 /// The same, in a room that has a name.
@@ -116,10 +137,27 @@ fn in_room<B: Room, R: Wait>(
     requires fresh { (pool.history ≡ []) × (pool.held ≡ B.opening) }
     requires workers { B.workers ≡ 2 }
 {
-    let (shared, mut seats) = SharedPool::<B>::new(alloc, cell, keeper, pool, 2)?;
-    let outcome = called(rt, alloc, &shared, seats.as_mut_slice(), lent, step)?;
-    let entries = wanted(step, outcome);
-    Ok(joined(step, outcome, finished(rt, alloc, shared, seats, entries)))
+    match SharedPool::<B>::new(alloc, cell, keeper, pool, 2) {
+        Ok((shared, seats)) => with_seats(rt, alloc, shared, seats, lent, step),
+        Err(error) => Err(error),
+    }
+}
+
+fn with_seats<B: Room, R: Wait>(
+    rt: &R,
+    alloc: Global,
+    shared: SharedPool<B>,
+    mut seats: Vec<Seat<B>>,
+    lent: &Lent,
+    step: Step,
+) -> Result<Outcome, AllocError> {
+    let called = called(rt, alloc, &shared, seats.as_mut_slice(), lent, step);
+    let entries = wanted(step, matches!(called, Ok(Outcome::Twice)));
+    let ended = finished(rt, alloc, shared, seats, entries);
+    match called {
+        Ok(outcome) => Ok(joined(step, outcome, ended)),
+        Err(error) => Err(error),
+    }
 }
 
 /// What comes of a call, and of asking for the pool after it. That asking was refused counts where there is no other call.
@@ -336,14 +374,13 @@ fn counted(pool: &Pool, counts: &[usize], wanted: usize) -> Answer {
     own_where(is_whole && counts == [BEFORE, wanted].as_slice())
 }
 
-/// How many entries the second worker's call leaves; a path and an evidence are asked for without a seat.
-fn wanted(step: Step, outcome: Outcome) -> usize {
+/// How many entries the second worker's call leaves, which is none where it was refused twice; a path and an evidence are asked for without a seat.
+fn wanted(step: Step, is_refused: bool) -> usize {
     match step {
         Step::Path => 0,
         Step::Assemble => 0,
         Step::Finish => 0,
-        _ if outcome == Outcome::Twice => 0,
-        _ => 1,
+        _ => usize::from(!is_refused),
     }
 }
 
@@ -361,9 +398,25 @@ pub fn run_calls<R: Threads + Sync>(rt: &R, alloc: Global) -> Result<Outcome, Al
 
 fn run_once<R: Threads + Sync>(rt: &R, alloc: Global) -> Result<Answer, AllocError> {
     let events = events(alloc)?;
-    let encoded = encoded(rt, alloc, BUFFERED)?;
-    let tree = one_leaf(alloc, &encoded)?;
-    Ok(run_answer(alloc, encoded, tree, &events))
+    run_events(rt, alloc, events.as_slice())
+}
+
+fn run_events<R: Threads + Sync>(
+    rt: &R,
+    alloc: Global,
+    events: &[Event],
+) -> Result<Answer, AllocError> {
+    match encoded(rt, alloc, BUFFERED) {
+        Ok(encoded) => run_over(alloc, encoded, events),
+        Err(error) => Err(error),
+    }
+}
+
+fn run_over(alloc: Global, encoded: Encoded, events: &[Event]) -> Result<Answer, AllocError> {
+    match one_leaf(alloc, &encoded) {
+        Ok(tree) => Ok(run_answer(alloc, encoded, tree, events)),
+        Err(error) => Err(error),
+    }
 }
 
 fn events(alloc: Global) -> Result<Vec<Event>, AllocError> {

@@ -54,14 +54,37 @@ pub fn encoded<R: Threads + Sync>(
     alloc: Global,
     text: &str,
 ) -> Result<Encoded, AllocError> {
-    let program = program_of(alloc, text)?;
-    let Ok(pairs) = pairs(alloc, &program) else {
-        return Err(AllocError);
-    };
-    let earlier = earlier(rt, alloc, &program, &pairs)?;
-    match encode(alloc, program, pairs, &earlier) {
-        Ok(encoded) => Ok(encoded),
-        Err(_refused) => Err(AllocError),
+    match program_of(alloc, text) {
+        Ok(program) => encoded_in(rt, alloc, program),
+        Err(error) => Err(error),
+    }
+}
+
+fn encoded_in<R: Threads + Sync>(
+    rt: &R,
+    alloc: Global,
+    program: Program,
+) -> Result<Encoded, AllocError> {
+    match pairs(alloc, &program) {
+        Ok(pairs) => encoded_with(rt, alloc, program, pairs),
+        Err(_fault) => Err(AllocError),
+    }
+}
+
+fn encoded_with<R: Threads + Sync>(
+    rt: &R,
+    alloc: Global,
+    program: Program,
+    pairs: Pairs,
+) -> Result<Encoded, AllocError>
+    requires { pairs ≡ pairs_of program }
+{
+    match earlier(rt, alloc, &program, &pairs) {
+        Ok(earlier) => match encode(alloc, program, pairs, &earlier) {
+            Ok(encoded) => Ok(encoded),
+            Err(_refused) => Err(AllocError),
+        },
+        Err(error) => Err(error),
     }
 }
 
@@ -235,14 +258,37 @@ fn earlier_answer<R: Threads + Sync>(
 }
 
 pub fn make_formula<R: Threads + Sync>(rt: &R, alloc: Global) -> Result<Outcome, AllocError> {
-    let program = program_of(alloc, GATHER)?;
-    let Ok(pairs) = pairs(alloc, &program) else {
-        return Err(AllocError);
-    };
-    let earlier = earlier(rt, alloc, &program, &pairs)?;
-    match encode(alloc, program, pairs, &earlier) {
-        Ok(_encoded) => Ok(Outcome::Own),
-        Err(refused) => Ok(encoded_again(alloc, refused, &earlier)),
+    match program_of(alloc, GATHER) {
+        Ok(program) => make_formula_of(rt, alloc, program),
+        Err(error) => Err(error),
+    }
+}
+
+fn make_formula_of<R: Threads + Sync>(
+    rt: &R,
+    alloc: Global,
+    program: Program,
+) -> Result<Outcome, AllocError> {
+    match pairs(alloc, &program) {
+        Ok(pairs) => make_formula_with(rt, alloc, program, pairs),
+        Err(_fault) => Err(AllocError),
+    }
+}
+
+fn make_formula_with<R: Threads + Sync>(
+    rt: &R,
+    alloc: Global,
+    program: Program,
+    pairs: Pairs,
+) -> Result<Outcome, AllocError>
+    requires { pairs ≡ pairs_of program }
+{
+    match earlier(rt, alloc, &program, &pairs) {
+        Ok(earlier) => match encode(alloc, program, pairs, &earlier) {
+            Ok(_encoded) => Ok(Outcome::Own),
+            Err(refused) => Ok(encoded_again(alloc, refused, &earlier)),
+        },
+        Err(error) => Err(error),
     }
 }
 

@@ -1,28 +1,16 @@
 //! Formulas, what satisfies them, and lines and trees that are checked over them.
 ghost use Rattle.std.specs.Prelude.{◌≡◌, ◌+◌, length};
 
-use crate::reading::{
-    Trouble, assignment, cut, cut_number, formula, line, literal, nodes, number, proof_lines,
-};
+use crate::given::{Given, Show, add, put_all, tell};
+use crate::reading::{Part, all, assignment, cut, cut_number, formula, number, tree};
 use crate::report::{Call, Report};
 use crate::scripts::Section;
-use crate::telling::{put_done, put_lines, put_literals, put_number, put_word, put_yes};
-use clauses::Formula;
+use clauses::{Formula, Lit};
 use joining::joining_lines;
 use pieces::{PieceGate, check_all, check_piece, check_pieces};
-use refutations::{
-    Line, LineFault, PartialAssignment, ProofTree, check_line, check_line_in, check_tree,
-};
-use std::alloc::{AllocError, Global};
+use refutations::{Line, PartialAssignment, ProofTree, check_line, check_line_in, check_tree};
 use std::thread::Threads;
 use trimming::first_unneeded;
-
-/// A formula, and the lines that are taken in.
-#[derive(Drop)]
-struct Proofs {
-    formula: Formula,
-    lines: Vec<Line>,
-}
 
 /// Lets each piece pass.
 struct Open;
@@ -33,141 +21,113 @@ impl PieceGate for Open {
 
 pub fn judge<R: Threads + Sync>(
     rt: &R,
-    alloc: Global,
     section: Section<'_>,
+    given: &mut Given,
     report: &mut Report,
-) -> Result<(), Trouble> {
-    let mut proofs = Proofs {
-        formula: formula(alloc, section.heading)?,
-        lines: Vec::new(alloc),
-    };
-    judge_proofs(rt, alloc, &mut proofs, section.calls, report)
+) {
+    if let Some(formula) = formula(section.heading, given) {
+        judge_over(rt, &formula, section.calls, given, report);
+    }
 }
 
-fn judge_proofs<R: Threads + Sync>(
+fn judge_over<R: Threads + Sync>(
     rt: &R,
-    alloc: Global,
-    proofs: &mut Proofs,
+    formula: &Formula,
     calls: &[Call<'_>],
+    given: &mut Given,
     report: &mut Report,
-) -> Result<(), Trouble> {
-    let Proofs { formula, lines } = proofs;
-    let mut given = String::new(alloc);
+) {
+    let mut lines = Vec::new(given.alloc);
     for call in calls {
+        answer(rt, formula, &mut lines, &call.text, given);
+        report.note(call, given.reply());
         given.clear();
-        let (name, words) = cut(&call.text);
-        let answer = match name {
-            "take_in" => take_in(alloc, lines, words, &mut given),
-            "join" => join(alloc, formula, lines, words, &mut given),
-            _ => asked(
-                rt,
-                alloc,
-                formula,
-                lines.as_slice(),
-                name,
-                words,
-                &mut given,
-            ),
-        };
-        report.note(call, answer, &mut given)?;
     }
-    Ok(())
+}
+
+fn answer<R: Threads + Sync>(
+    rt: &R,
+    formula: &Formula,
+    lines: &mut Vec<Line>,
+    call: &str,
+    given: &mut Given,
+) {
+    let (name, words) = cut(call);
+    match name {
+        "take_in" => take_in(lines, words, given),
+        "join" => join(formula, lines, words, given),
+        "check_pieces" => checked_pieces(rt, formula, lines.as_slice(), words, given),
+        "check_piece" => checked_piece(formula, lines.as_slice(), words, given),
+        "check_line" => checked_line(formula, lines.as_slice(), words, given),
+        _ => asked(formula, lines.as_slice(), name, words, given),
+    }
 }
 
 /// Takes in lines, unchecked.
-fn take_in(
-    alloc: Global,
-    lines: &mut Vec<Line>,
-    words: &str,
-    out: &mut String,
-) -> Result<(), Trouble> {
-    let mut more = proof_lines(alloc, words)?;
-    lines.append(&mut more)?;
-    put_word(out, "ok")?;
-    Ok(())
+fn take_in(lines: &mut Vec<Line>, words: &str, given: &mut Given) {
+    let mut more = all::<Line>(words, ';', given);
+    tell(&lines.append(&mut more), given);
 }
 
-fn asked<R: Threads + Sync>(
-    rt: &R,
-    alloc: Global,
-    formula: &Formula,
-    lines: &[Line],
-    name: &str,
-    words: &str,
-    out: &mut String,
-) -> Result<(), Trouble> {
+fn asked(formula: &Formula, lines: &[Line], name: &str, words: &str, given: &mut Given) {
     match name {
-        "variables" => put_number(out, formula.variables() as usize)?,
-        "clauses" => put_number(out, formula.len())?,
-        "clause" => put_clause(formula, number(words)?, out)?,
-        "satisfied" => put_yes(out, assignment(alloc, words)?.satisfies(formula))?,
-        "value" => put_value(alloc, words, out)?,
-        "holds" => put_holds(alloc, words, out)?,
-        "check_line" => checked_line(alloc, formula, lines, words, out)?,
-        "check_in_turn" => checked_in_turn(alloc, formula, words, out)?,
-        "check_tree" => checked_tree(alloc, formula, lines, words, out)?,
-        "accepts" => put_accepted(alloc, formula, lines, words, out)?,
-        "unneeded" => put_unneeded(alloc, formula, lines, words, out)?,
-        "check_pieces" => checked_pieces(rt, alloc, formula, lines, number(words)?, out)?,
-        "check_piece" => checked_piece(alloc, formula, lines, words, out)?,
-        _ => return Err(Trouble::Script("no such call")),
+        "variables" => given.number(formula.variables() as usize),
+        "clauses" => given.number(formula.len()),
+        "clause" => put_clause(formula, words, given),
+        "satisfied" => put_satisfied(formula, words, given),
+        "value" => put_value(words, given),
+        "holds" => put_holds(words, given),
+        "check_in_turn" => checked_in_turn(formula, words, given),
+        _ => asked_of_tree(formula, lines, name, words, given),
     }
-    Ok(())
 }
 
-fn put_clause(formula: &Formula, number: u32, out: &mut String) -> Result<(), AllocError> {
-    match formula.clause(number as usize) {
-        Some(clause) => put_literals(out, clause.literals()),
-        None => put_word(out, "none"),
+fn put_clause(formula: &Formula, word: &str, given: &mut Given) {
+    match formula.clause(number(word, given) as usize) {
+        Some(clause) => put_all(clause.literals(), given),
+        None => given.put("none"),
     }
+}
+
+fn put_satisfied(formula: &Formula, digits: &str, given: &mut Given) {
+    let values = assignment(digits, given);
+    given.yes(values.satisfies(formula));
 }
 
 /// The value of a variable under these values, such as `3 11`.
-fn put_value(alloc: Global, words: &str, out: &mut String) -> Result<(), Trouble> {
-    let (variable, digits) = cut_number(words)?;
-    put_yes(out, assignment(alloc, digits)?.value(variable))?;
-    Ok(())
+fn put_value(words: &str, given: &mut Given) {
+    let (variable, digits) = cut_number(words, given);
+    let values = assignment(digits, given);
+    given.yes(values.value(variable));
 }
 
 /// Whether a literal is true under these values, such as `-3 11`.
-fn put_holds(alloc: Global, words: &str, out: &mut String) -> Result<(), Trouble> {
+fn put_holds(words: &str, given: &mut Given) {
     let (word, digits) = cut(words);
-    match literal(word) {
-        Ok(literal) => put_yes(out, assignment(alloc, digits)?.holds(&literal))?,
-        Err(trouble) => return Err(trouble),
+    let values = assignment(digits, given);
+    if let Some(literal) = Lit::read(word, given) {
+        given.yes(values.holds(&literal));
     }
-    Ok(())
 }
 
-fn checked_line(
-    alloc: Global,
-    formula: &Formula,
-    lines: &[Line],
-    words: &str,
-    out: &mut String,
-) -> Result<(), Trouble> {
-    let line = line(alloc, words)?;
-    put_done(out, check_line(alloc, formula, &lines, &line))?;
-    Ok(())
+fn checked_line(formula: &Formula, lines: &[Line], words: &str, given: &mut Given) {
+    if let Some(line) = Line::read(words, given) {
+        tell(&check_line(given.alloc, formula, &lines, &line), given);
+    }
 }
 
 /// Checks two lines with one table of values, and then the second and the first once more.
-fn checked_in_turn(
-    alloc: Global,
-    formula: &Formula,
-    words: &str,
-    out: &mut String,
-) -> Result<(), Trouble> {
-    let Some((first, second)) = words.split_once(";") else {
-        return Err(Trouble::Script("no second line"));
-    };
-    let first = line(alloc, first)?;
-    let second = line(alloc, second)?;
-    let mut known = PartialAssignment::new(alloc, formula.variables())?;
-    put_in_turn(&mut known, formula, &first, &second, out)?;
-    out.push_str(", ")?;
-    put_in_turn(&mut known, formula, &second, &first, out)?;
-    Ok(())
+fn checked_in_turn(formula: &Formula, words: &str, given: &mut Given) {
+    let lines = all::<Line>(words, ';', given);
+    let known = PartialAssignment::new(given.alloc, formula.variables());
+    match (known, lines.as_slice()) {
+        (Ok(mut known), [first, second]) => {
+            put_in_turn(&mut known, formula, first, second, given);
+            given.put(", ");
+            put_in_turn(&mut known, formula, second, first, given);
+        }
+        _ => given.refuse("not made: no two lines"),
+    }
 }
 
 fn put_in_turn(
@@ -175,134 +135,103 @@ fn put_in_turn(
     formula: &Formula,
     first: &Line,
     second: &Line,
-    out: &mut String,
-) -> Result<(), AllocError>
+    given: &mut Given,
+)
     requires { length known.old ≡ formula.now.variables + 1 }
     ensures { length known.new ≡ length known.old }
 {
     let none: &[Line] = &[];
     let first = check_line_in(known, formula, &none, first);
     let second = check_line_in(known, formula, &none, second);
-    put_done(out, first)?;
-    out.push_str(", ")?;
-    put_done(out, second)
+    tell(&first, given);
+    given.put(", ");
+    tell(&second, given);
 }
 
-/// The tree of these nodes.
-fn tree(alloc: Global, words: &str) -> Result<ProofTree, Trouble> {
-    match ProofTree::make(nodes(alloc, words)?) {
-        Ok(tree) => Ok(tree),
-        Err(_nodes) => Err(Trouble::Script("no tree")),
+/// Answers a call about lines and a tree.
+fn asked_of_tree(formula: &Formula, lines: &[Line], name: &str, words: &str, given: &mut Given) {
+    let Some(tree) = tree(words, given) else {
+        return;
+    };
+    match name {
+        "check_tree" => tell(&check_tree(given.alloc, formula, lines, &tree), given),
+        "accepts" => put_accepted(formula, lines, &tree, given),
+        "unneeded" => put_unneeded(formula, lines, &tree, given),
+        _ => given.refuse("not made: no such call"),
     }
-}
-
-fn checked_tree(
-    alloc: Global,
-    formula: &Formula,
-    lines: &[Line],
-    words: &str,
-    out: &mut String,
-) -> Result<(), Trouble> {
-    let tree = tree(alloc, words)?;
-    put_done(out, check_tree(alloc, formula, lines, &tree))?;
-    Ok(())
 }
 
 /// Writes the number of the first line that isn't needed beside a tree.
-fn put_unneeded(
-    alloc: Global,
-    formula: &Formula,
-    lines: &[Line],
-    words: &str,
-    out: &mut String,
-) -> Result<(), Trouble> {
-    let tree = tree(alloc, words)?;
-    let Ok(clauses) = u32::try_from(formula.len()) else {
-        return Err(Trouble::Script("more clauses than a number tells"));
-    };
-    match first_unneeded(alloc, clauses, lines, &tree)? {
-        Some(number) => put_number(out, number)?,
-        None => put_word(out, "none")?,
+fn put_unneeded(formula: &Formula, lines: &[Line], tree: &ProofTree, given: &mut Given) {
+    let clauses = u32::try_from(formula.len()).unwrap_or(u32::MAX);
+    match first_unneeded(given.alloc, clauses, lines, tree) {
+        Ok(Some(number)) => given.number(number),
+        Ok(None) => given.put("none"),
+        Err(_error) => given.refuse("memory"),
     }
-    Ok(())
 }
 
 /// Checks all lines, and then the tree, as a verdict does.
-fn put_accepted(
-    alloc: Global,
-    formula: &Formula,
-    lines: &[Line],
-    words: &str,
-    out: &mut String,
-) -> Result<(), Trouble> {
-    match check_all(alloc, formula, lines) {
-        Ok(()) => checked_tree(alloc, formula, lines, words, out),
-        Err(fault) => Ok(put_done(out, Err(fault))?),
+fn put_accepted(formula: &Formula, lines: &[Line], tree: &ProofTree, given: &mut Given) {
+    match check_all(given.alloc, formula, lines) {
+        Ok(()) => tell(&check_tree(given.alloc, formula, lines, tree), given),
+        Err(fault) => given.show(fault),
     }
 }
 
 fn checked_pieces<R: Threads + Sync>(
     rt: &R,
-    alloc: Global,
     formula: &Formula,
     lines: &[Line],
-    pieces: u32,
-    out: &mut String,
-) -> Result<(), Trouble> {
+    word: &str,
+    given: &mut Given,
+) {
+    let pieces = number(word, given) as usize;
     if pieces == 0 || pieces > 64 {
-        return Err(Trouble::Script("no number of pieces"));
+        return given.refuse("not made: no number of pieces");
     }
-    let answer = check_pieces(rt, alloc, formula, lines, pieces as usize, &Open);
-    put_done(out, answer)?;
-    Ok(())
+    let answer = check_pieces(rt, given.alloc, formula, lines, pieces, &Open);
+    tell(&answer, given);
 }
 
 /// Checks one piece of so many, such as `2 of 4`.
-fn checked_piece(
-    alloc: Global,
-    formula: &Formula,
-    lines: &[Line],
-    words: &str,
-    out: &mut String,
-) -> Result<(), Trouble> {
-    let Some((piece, pieces)) = words.split_once(" of ") else {
-        return Err(Trouble::Script("no piece"));
-    };
-    let (piece, pieces) = (number(piece)?, number(pieces)?);
+fn checked_piece(formula: &Formula, lines: &[Line], words: &str, given: &mut Given) {
+    let (piece, pieces) = words.split_once(" of ").unwrap_or((words, ""));
+    let piece = number(piece, given) as usize;
+    let pieces = number(pieces, given) as usize;
     if pieces > 64 || piece >= pieces {
-        return Err(Trouble::Script("no such piece"));
+        return given.refuse("not made: no such piece");
     }
-    let answer = check_piece(alloc, formula, lines, pieces as usize, piece as usize);
-    put_done(out, answer)?;
-    Ok(())
+    let answer = check_piece(given.alloc, formula, lines, pieces, piece);
+    tell(&answer, given);
 }
 
 /// The lines that join the tree of these nodes, which are taken in.
-fn join(
-    alloc: Global,
-    formula: &Formula,
-    lines: &mut Vec<Line>,
-    words: &str,
-    out: &mut String,
-) -> Result<(), Trouble> {
-    let tree = tree(alloc, words)?;
-    let mut added = joined(alloc, formula, lines.as_slice(), &tree)?;
-    put_lines(out, added.as_slice())?;
-    lines.append(&mut added)?;
-    Ok(())
+fn join(formula: &Formula, lines: &mut Vec<Line>, words: &str, given: &mut Given) {
+    let Some(tree) = tree(words, given) else {
+        return;
+    };
+    match joined(formula, lines.as_slice(), &tree, given) {
+        Some(added) => put_joined(lines, added, given),
+        None => given.refuse("not made: lines or a tree that aren't accepted"),
+    }
 }
 
-fn joined(
-    alloc: Global,
-    formula: &Formula,
-    lines: &[Line],
-    tree: &ProofTree,
-) -> Result<Vec<Line>, Trouble> {
+fn put_joined(lines: &mut Vec<Line>, added: Vec<Line>, given: &mut Given) {
+    for line in added {
+        line.put(given);
+        given.put(";");
+        add(lines, line, given);
+    }
+}
+
+fn joined(formula: &Formula, lines: &[Line], tree: &ProofTree, given: &Given) -> Option<Vec<Line>> {
+    let alloc = given.alloc;
     match check_all(alloc, formula, lines) {
         Ok(()) => match check_tree(alloc, formula, lines, tree) {
-            Ok(()) => Ok(joining_lines(alloc, formula, lines, tree)?),
-            Err(_fault) => Err(Trouble::Script("a tree that isn't accepted")),
+            Ok(()) => joining_lines(alloc, formula, lines, tree).ok(),
+            Err(_fault) => None,
         },
-        Err(_fault) => Err(Trouble::Script("lines that aren't derived")),
+        Err(_fault) => None,
     }
 }

@@ -1,12 +1,12 @@
 //! A deque with one thief, in one thread.
-ghost use Rattle.std.specs.Prelude.{◌≡◌, IfOk, All};
+ghost use Rattle.std.specs.Prelude.{◌≡◌, IfSome, All};
 ghost use Rattle.steal.specs.Seats.{thief_count, IsSameOwner, IsSameThief, IsThiefOf};
 
-use crate::reading::{Trouble, number};
+use crate::given::{Given, put_all};
+use crate::reading::number;
 use crate::report::Report;
 use crate::scripts::{Section, Subject, judge_calls};
-use crate::telling::{put_number, put_numbers, put_word};
-use std::alloc::{AllocError, Global};
+use std::alloc::Global;
 use std::mem;
 use steal::{CubeDeque, OwnerSeat, SettleFault, Stolen, ThiefSeat, Unsettled, settle};
 
@@ -18,34 +18,30 @@ struct Seats {
     ghost tied: { IsThiefOf owner thief },
 }
 
-pub fn judge(alloc: Global, section: Section<'_>, report: &mut Report) -> Result<(), Trouble> {
-    let mut seats = two_seats(alloc)?;
-    judge_calls(alloc, &mut seats, section.calls, report)
+pub fn judge(section: Section<'_>, given: &mut Given, report: &mut Report) {
+    match two_seats(given.alloc) {
+        Some(mut seats) => judge_calls(&mut seats, section.calls, given, report),
+        None => given.refuse("no seats"),
+    }
 }
 
-fn two_seats(alloc: Global) -> Result<Seats, Trouble> {
-    let (owner, mut thieves) = CubeDeque::make(alloc, 1)?;
+fn two_seats(alloc: Global) -> Option<Seats> {
+    let Ok((owner, mut thieves)) = CubeDeque::make(alloc, 1) else {
+        return None;
+    };
     match thieves.pop() {
-        Some(thief) => Ok(Seats { owner, thief }),
-        None => Err(Trouble::Script("no thief")),
+        Some(thief) => Some(Seats { owner, thief }),
+        None => None,
     }
 }
 
 impl Subject for Seats {
-    fn answer(
-        &mut self,
-        alloc: Global,
-        name: &str,
-        words: &str,
-        out: &mut String,
-    ) -> Result<(), Trouble> {
+    fn answer(&mut self, name: &str, words: &str, given: &mut Given) {
         match name {
-            "push" => Ok(put_pushed(out, self.push(number(words)?))?),
-            "pop" => Ok(put_popped(out, self.pop())?),
-            "steal" => Ok(put_stolen(out, self.steal())?),
-            "settle" => put_settled(alloc, self.begin_again(alloc)?, out),
-            "settle_alone" => put_unsettled(alloc, self.begin_again(alloc)?, out),
-            _ => Err(Trouble::Script("no such call")),
+            "push" => put_pushed(self.push(number(words, given)), given),
+            "pop" => put_popped(self.pop(), given),
+            "steal" => put_stolen(self.steal(), given),
+            _ => self.settle(name, given),
         }
     }
 }
@@ -63,58 +59,73 @@ impl Seats {
         self.thief.steal()
     }
 
-    /// The seats, in whose place come those of a new deque.
-    fn begin_again(&mut self, alloc: Global) -> Result<Seats, Trouble> {
-        Ok(mem::replace(self, two_seats(alloc)?))
+    /// Settles the seats, in whose place come those of a new deque.
+    fn settle(&mut self, name: &str, given: &mut Given) {
+        let Some(fresh) = two_seats(given.alloc) else {
+            return given.refuse("memory");
+        };
+        let seats = mem::replace(self, fresh);
+        if name == "settle" {
+            put_settled(seats, given);
+        } else {
+            put_unsettled(seats, given);
+        }
     }
 }
 
-fn put_pushed(out: &mut String, pushed: Result<(), u32>) -> Result<(), AllocError> {
-    match pushed {
-        Ok(()) => put_word(out, "ok"),
-        Err(_cube) => put_word(out, "back"),
-    }
+fn put_pushed(pushed: Result<(), u32>, given: &mut Given) {
+    given.put(if pushed.is_ok() { "ok" } else { "back" });
 }
 
-fn put_popped(out: &mut String, popped: Option<u32>) -> Result<(), AllocError> {
+fn put_popped(popped: Option<u32>, given: &mut Given) {
     match popped {
-        Some(cube) => put_number(out, cube as usize),
-        None => put_word(out, "none"),
+        Some(cube) => given.show(cube),
+        None => given.put("none"),
     }
 }
 
-fn put_stolen(out: &mut String, stolen: Stolen) -> Result<(), AllocError> {
+fn put_stolen(stolen: Stolen, given: &mut Given) {
     match stolen {
-        Stolen::One(cube) => put_number(out, cube as usize),
-        Stolen::Empty => put_word(out, "empty"),
-        Stolen::Again => put_word(out, "again"),
+        Stolen::One(cube) => given.show(cube),
+        Stolen::Empty => given.put("empty"),
+        Stolen::Again => given.put("again"),
     }
 }
 
 /// What is left of the deque of these seats.
-fn put_settled(alloc: Global, seats: Seats, out: &mut String) -> Result<(), Trouble> {
+fn put_settled(seats: Seats, given: &mut Given) {
     let Seats { owner, thief } = seats;
-    put_left(vec![in alloc; thief]?, owner, out)
+    put_left(thief, owner, given);
 }
 
-fn put_left(thieves: Vec<ThiefSeat>, owner: OwnerSeat, out: &mut String) -> Result<(), Trouble>
+fn put_left(thief: ThiefSeat, owner: OwnerSeat, given: &mut Given)
+    requires { IsThiefOf owner thief }
+{
+    match vec![in given.alloc; thief] {
+        Ok(thieves) => put_left_by(thieves, owner, given),
+        Err(_error) => given.refuse("memory"),
+    }
+}
+
+fn put_left_by(thieves: Vec<ThiefSeat>, owner: OwnerSeat, given: &mut Given)
     requires { All (λ thief. IsThiefOf owner thief) thieves.items }
 {
     match settle(owner, thieves) {
-        Ok(tally) => put_left_cubes(out, tally.left.as_slice())?,
-        Err(unsettled) => put_fault(out, unsettled.fault)?,
+        Ok(tally) => put_left_cubes(tally.left.as_slice(), given),
+        Err(unsettled) => put_fault(unsettled.fault, given),
     }
-    Ok(())
 }
 
 /// All cubes, or such as `0 to 4095` where there are many that are numbered on.
-fn put_left_cubes(out: &mut String, cubes: &[u32]) -> Result<(), AllocError> {
-    let first = cubes.first().copied().unwrap_or(0);
-    if cubes.len() < 100 || !are_numbered(cubes, first) {
-        return put_numbers(out, cubes);
+fn put_left_cubes(cubes: &[u32], given: &mut Given) {
+    match cubes {
+        [first, .., last] if cubes.len() >= 100 && are_numbered(cubes, *first) => {
+            given.show(*first);
+            given.put(" to ");
+            given.show(*last);
+        }
+        _ => put_all(cubes, given),
     }
-    let last = cubes.last().copied().unwrap_or(0);
-    write!(out, "{first} to {last}")
 }
 
 /// Whether the cubes are numbered on from this one.
@@ -129,22 +140,21 @@ fn are_numbered(cubes: &[u32], first: u32) -> bool {
     true
 }
 
-fn put_fault(out: &mut String, fault: SettleFault) -> Result<(), AllocError> {
+fn put_fault(fault: SettleFault, given: &mut Given) {
     match fault {
-        SettleFault::Memory => put_word(out, "memory"),
-        SettleFault::Missing => put_word(out, "missing"),
+        SettleFault::Memory => given.word("memory"),
+        SettleFault::Missing => given.word("missing"),
     }
 }
 
 /// Settles without the thief, and then with it.
-fn put_unsettled(alloc: Global, seats: Seats, out: &mut String) -> Result<(), Trouble> {
+fn put_unsettled(seats: Seats, given: &mut Given) {
     let Seats { owner, thief } = seats;
-    match settle(owner, Vec::new(alloc)) {
-        Ok(_tally) => put_word(out, "settled")?,
+    match settle(owner, Vec::new(given.alloc)) {
+        Ok(_tally) => given.put("settled"),
         Err(Unsettled { fault, owner, .. }) => {
-            put_fault(out, fault)?;
-            put_left(vec![in alloc; thief]?, owner, out)?;
+            put_fault(fault, given);
+            put_left(thief, owner, given);
         }
     }
-    Ok(())
 }

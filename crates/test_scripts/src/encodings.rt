@@ -1,177 +1,165 @@
 //! Programs with their formulas: the cubes that branch on them, and schedules from assignments.
+use crate::given::{Given, Show, add, put_all, tell};
 use crate::programs::program_of;
-use crate::reading::{Trouble, cut, cut_number, number, place};
+use crate::reading::{Part, all, cut, cut_number, number, place};
 use crate::report::Report;
 use crate::scripts::{Section, Subject, judge_calls};
-use crate::splits::{put_kind, put_paths};
-use crate::telling::{put_number, put_numbers, put_steps, put_word, put_yes};
+use callorder::Program;
 use candidates::pairs;
 use clauses::Assignment;
-use cubes::{CubeFault, branching_variables, split};
+use cubes::{branching_variables, split};
 use encode::{Encoded, encode};
-use extract::{ExtractFault, schedule_of};
+use extract::schedule_of;
 use formulas::{Event, Fact, Meaning};
 use nonovertake::earlier;
-use semantics::Step;
-use std::alloc::{AllocError, Global};
+use std::alloc::Global;
 use std::thread::Threads;
-use trees::Tree;
+use tables::Variables;
 
 pub fn judge<R: Threads + Sync>(
     rt: &R,
-    alloc: Global,
     section: Section<'_>,
+    given: &mut Given,
     report: &mut Report,
-) -> Result<(), Trouble> {
-    let mut encoded = encoded(rt, alloc, section.heading)?;
-    judge_calls(alloc, &mut encoded, section.calls, report)
+) {
+    if let Some(mut encoded) = encoded(rt, section.heading, given) {
+        judge_calls(&mut encoded, section.calls, given, report);
+    }
 }
 
 /// The formula of a text's program.
-pub fn encoded<R: Threads + Sync>(rt: &R, alloc: Global, text: &str) -> Result<Encoded, Trouble> {
-    let program = program_of(alloc, text)?;
-    let Ok(pairs) = pairs(alloc, &program) else {
-        return Err(Trouble::Script("no pairs"));
+pub fn encoded<R: Threads + Sync>(rt: &R, text: &str, given: &mut Given) -> Option<Encoded> {
+    let encoded = match program_of(text, given) {
+        Some(program) => encoded_in(rt, given.alloc, program),
+        None => None,
     };
-    let earlier = earlier(rt, alloc, &program, &pairs)?;
-    match encode(alloc, program, pairs, &earlier) {
-        Ok(encoded) => Ok(encoded),
-        Err(_refused) => Err(Trouble::Script("no formula")),
+    given.known(encoded, "no formula")
+}
+
+fn encoded_in<R: Threads + Sync>(rt: &R, alloc: Global, program: Program) -> Option<Encoded> {
+    match pairs(alloc, &program) {
+        Ok(pairs) => match earlier(rt, alloc, &program, &pairs) {
+            Ok(earlier) => encode(alloc, program, pairs, &earlier).ok(),
+            Err(_error) => None,
+        },
+        Err(_fault) => None,
     }
 }
 
 impl Subject for Encoded {
-    fn answer(
-        &mut self,
-        alloc: Global,
-        name: &str,
-        words: &str,
-        out: &mut String,
-    ) -> Result<(), Trouble> {
+    fn answer(&mut self, name: &str, words: &str, given: &mut Given) {
         match name {
-            "variables" => put_number(out, self.formula().variables() as usize)?,
-            "meaning" => put_meaning(out, self.meaning(number(words)?))?,
-            "branching" => put_numbers(out, branching_variables(alloc, self)?.as_slice())?,
-            "cubes" => cubes(alloc, self, number(words)?, out)?,
-            "cube_count" => count(alloc, self, number(words)?, out)?,
-            "cube" => cube(alloc, self, words, out)?,
-            "satisfied" => put_yes(out, told(alloc, self, words)?.satisfies(self.formula()))?,
-            "schedule" => schedule(alloc, self, words, out)?,
-            _ => return Err(Trouble::Script("no such call")),
+            "variables" => given.number(self.formula().variables() as usize),
+            "meaning" => put_meaning(self.meaning(number(words, given)), given),
+            "branching" => put_branching(self, given),
+            "cubes" => tell(&split(given.alloc, self, number(words, given)), given),
+            "cube_count" => put_count(self, words, given),
+            "cube" => put_cube(self, words, given),
+            _ => with_assignment(self, name, words, given),
         }
-        Ok(())
     }
 }
 
-fn put_fact(out: &mut String, fact: Fact) -> Result<(), AllocError> {
+fn put_fact(fact: Fact, given: &mut Given) {
     match fact {
-        Fact::Issued(call) => put_of(out, "issued", call.saturating_add(1)),
-        Fact::Buffered(call) => put_of(out, "buffered", call.saturating_add(1)),
-        Fact::Unfinished(rank) => put_of(out, "unfinished", rank),
+        Fact::Issued(call) => put_of("issued ", call.saturating_add(1), given),
+        Fact::Buffered(call) => put_of("buffered ", call.saturating_add(1), given),
+        Fact::Unfinished(rank) => put_of("unfinished ", rank, given),
         Fact::Matched(send, taker) => {
-            put_of(out, "matched", send.saturating_add(1))?;
-            put_number(out, taker.saturating_add(1))
+            put_of("matched ", send.saturating_add(1), given);
+            given.number(taker.saturating_add(1));
         }
     }
 }
 
-fn put_of(out: &mut String, word: &str, number: usize) -> Result<(), AllocError> {
-    put_word(out, word)?;
-    put_number(out, number)
+fn put_of(word: &str, number: usize, given: &mut Given) {
+    given.put(word);
+    given.show(number);
 }
 
-fn put_meaning(out: &mut String, meaning: Option<Meaning>) -> Result<(), AllocError> {
+fn put_meaning(meaning: Option<Meaning>, given: &mut Given) {
     match meaning {
-        None => put_word(out, "none"),
-        Some(Meaning::OfFact(fact)) => put_fact(out, fact),
-        Some(_) => put_word(out, "an order of events"),
+        None => given.put("none"),
+        Some(Meaning::OfFact(fact)) => put_fact(fact, given),
+        Some(_) => given.put("an order of events"),
     }
 }
 
-/// The paths of the tree of this depth.
-fn cubes(alloc: Global, encoded: &Encoded, depth: u32, out: &mut String) -> Result<(), AllocError> {
-    match split(alloc, encoded, depth) {
-        Ok(tree) => put_paths(out, &tree),
-        Err(fault) => write!(out, "{fault}"),
+fn put_branching(encoded: &Encoded, given: &mut Given) {
+    match branching_variables(given.alloc, encoded) {
+        Ok(variables) => put_all(variables.as_slice(), given),
+        Err(_error) => given.refuse("memory"),
     }
 }
 
 /// How many nodes the tree of this depth has.
-fn count(alloc: Global, encoded: &Encoded, depth: u32, out: &mut String) -> Result<(), AllocError> {
-    match split(alloc, encoded, depth) {
-        Ok(tree) => put_number(out, tree.len()),
-        Err(fault) => write!(out, "{fault}"),
+fn put_count(encoded: &Encoded, depth: &str, given: &mut Given) {
+    match split(given.alloc, encoded, number(depth, given)) {
+        Ok(tree) => given.number(tree.len()),
+        Err(fault) => given.show(fault),
     }
 }
 
 /// What a node of a tree is, such as `2 5`: of depth 2, node 5.
-fn cube(alloc: Global, encoded: &Encoded, words: &str, out: &mut String) -> Result<(), Trouble> {
-    let (depth, node) = cut_number(words)?;
-    let node = number(node)?;
-    put_node(out, &split(alloc, encoded, depth), node)?;
-    Ok(())
-}
-
-fn put_node(out: &mut String, tree: &Result<Tree, CubeFault>, node: u32) -> Result<(), AllocError> {
-    match tree {
-        Ok(tree) => put_kind(out, tree.kind(node)),
-        Err(fault) => write!(out, "{fault}"),
+fn put_cube(encoded: &Encoded, words: &str, given: &mut Given) {
+    let (depth, node) = cut_number(words, given);
+    let node = number(node, given);
+    match split(given.alloc, encoded, depth) {
+        Ok(tree) => tree.kind(node).put(given),
+        Err(fault) => given.show(fault),
     }
 }
 
 /// The fact that a line tells.
-fn fact(line: &str) -> Result<Fact, Trouble> {
-    let (word, rest) = cut(line);
-    let (first, second) = cut(rest);
-    match word {
-        "issued" => Ok(Fact::Issued(place(first)?)),
-        "buffered" => Ok(Fact::Buffered(place(first)?)),
-        "unfinished" => Ok(Fact::Unfinished(number(first)? as usize)),
-        "matched" => Ok(Fact::Matched(place(first)?, place(second)?)),
-        _ => Err(Trouble::Script("no fact")),
+impl Part for Fact {
+    fn read(text: &str, given: &mut Given) -> Option<Fact> {
+        let (word, rest) = cut(text);
+        let (first, second) = cut(rest);
+        match word {
+            "issued" => Some(Fact::Issued(place(first, given))),
+            "buffered" => Some(Fact::Buffered(place(first, given))),
+            "unfinished" => Some(Fact::Unfinished(number(first, given) as usize)),
+            "matched" => Some(Fact::Matched(place(first, given), place(second, given))),
+            _ => given.known(None, "not made: no fact"),
+        }
     }
-}
-
-fn facts(alloc: Global, lines: &str) -> Result<Vec<Fact>, Trouble> {
-    let mut facts = Vec::new(alloc);
-    for line in lines.split_terminator('/') {
-        facts.push(fact(line)?)?;
-    }
-    Ok(facts)
 }
 
 /// The event that a line tells.
-fn event(line: &str) -> Result<Event, Trouble> {
+fn event(line: &str, given: &mut Given) -> Event {
     let (word, call) = cut(line);
+    let call = place(call, given);
     match word {
-        "issue" => Ok(Event::Issue(place(call)?)),
-        "match" => Ok(Event::Match(place(call)?)),
-        _ => Err(Trouble::Script("no event")),
+        "issue" => Event::Issue(call),
+        "match" => Event::Match(call),
+        _ => {
+            given.refuse("not made: no event");
+            Event::Issue(call)
+        }
     }
 }
 
 /// The places of the events that the lines tell. The line `others` tells all events that no line before it tells.
-fn order(alloc: Global, encoded: &Encoded, lines: &str) -> Result<Vec<usize>, Trouble> {
-    let variables = encoded.variables(alloc)?;
-    let mut places = Vec::new(alloc);
+fn order(variables: &Variables<'_>, lines: &str, given: &mut Given) -> Vec<usize> {
+    let mut places = Vec::new(given.alloc);
     for line in lines.split_terminator('/') {
         if line == "others" {
-            push_others(&mut places, variables.event_count())?;
+            push_others(&mut places, variables.event_count(), given);
         } else {
-            places.push(variables.event_place(&event(line)?))?;
+            let event = event(line, given);
+            add(&mut places, variables.event_place(&event), given);
         }
     }
-    Ok(places)
+    places
 }
 
 /// Adds the places below this one that aren't there.
-fn push_others(places: &mut Vec<usize>, count: usize) -> Result<(), AllocError> {
+fn push_others(places: &mut Vec<usize>, count: usize, given: &mut Given) {
     for place in 0..count {
         if !places.contains(&place) {
-            places.push(place)?;
+            add(places, place, given);
         }
     }
-    Ok(())
 }
 
 /// A number without its last so many bits.
@@ -207,55 +195,46 @@ fn is_so(facts: &[Fact], order: &[usize], size: usize, meaning: &Meaning) -> boo
 
 /// The assignment that makes true what is so.
 fn assignment(
-    alloc: Global,
     encoded: &Encoded,
     facts: &[Fact],
     order: &[usize],
-) -> Result<Assignment, AllocError> {
-    let size = encoded.variables(alloc)?.clock_size();
-    let mut values = Vec::new(alloc);
+    size: usize,
+    given: &mut Given,
+) -> Assignment {
+    let mut values = Vec::new(given.alloc);
     for variable in 1..=encoded.formula().variables() {
-        let value = match encoded.meaning(variable) {
+        let is_true = match encoded.meaning(variable) {
             None => false,
             Some(meaning) => is_so(facts, order, size, &meaning),
         };
-        values.push(value)?;
+        add(&mut values, is_true, given);
     }
-    Ok(Assignment::make(values))
+    Assignment::make(values)
 }
 
 /// The assignment under which these facts are so and these events come in this order, such as `issued 1/unfinished 0 | issue 1/issue 2/match 2`;
 /// and `none` is the one under which all is false.
-fn told(alloc: Global, encoded: &Encoded, words: &str) -> Result<Assignment, Trouble> {
-    if words == "none" {
-        return Ok(Assignment::make(Vec::new(alloc)));
-    }
+fn told(encoded: &Encoded, words: &str, given: &mut Given) -> Assignment {
     let Some((lines, events)) = words.split_once("|") else {
-        return Err(Trouble::Script("no order"));
+        return Assignment::make(Vec::new(given.alloc));
     };
-    let facts = facts(alloc, lines.trim())?;
-    let order = order(alloc, encoded, events.trim())?;
-    Ok(assignment(alloc, encoded, facts.as_slice(), order.as_slice())?)
+    let facts = all::<Fact>(lines, '/', given);
+    match encoded.variables(given.alloc) {
+        Ok(variables) => {
+            let order = order(&variables, events.trim(), given);
+            let size = variables.clock_size();
+            assignment(encoded, facts.as_slice(), order.as_slice(), size, given)
+        }
+        Err(_error) => Assignment::make(Vec::new(given.alloc)),
+    }
 }
 
-/// The schedule of an assignment.
-fn schedule(
-    alloc: Global,
-    encoded: &Encoded,
-    words: &str,
-    out: &mut String,
-) -> Result<(), Trouble> {
-    let assignment = told(alloc, encoded, words)?;
-    put_schedule(out, &schedule_of(alloc, encoded, &assignment))?;
-    Ok(())
-}
-
-fn put_schedule(
-    out: &mut String,
-    answer: &Result<Vec<Step>, ExtractFault>,
-) -> Result<(), AllocError> {
-    match answer {
-        Ok(steps) => put_steps(out, steps.as_slice()),
-        Err(fault) => write!(out, "{fault}"),
+/// Answers a call about an assignment: whether the formula is satisfied, or the schedule.
+fn with_assignment(encoded: &Encoded, name: &str, words: &str, given: &mut Given) {
+    let values = told(encoded, words, given);
+    match name {
+        "satisfied" => given.yes(values.satisfies(encoded.formula())),
+        "schedule" => tell(&schedule_of(given.alloc, encoded, &values), given),
+        _ => given.refuse("not made: no such call"),
     }
 }

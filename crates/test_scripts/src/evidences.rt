@@ -1,8 +1,8 @@
 //! Texts of evidences.
-use crate::reading::{Trouble, cut, cut_number};
+use crate::given::{Given, Show, tell};
+use crate::reading::{cut, number};
 use crate::report::Report;
 use crate::scripts::Section;
-use crate::telling::{put_done, put_number, put_text, put_word};
 use clauses::Lit;
 use cubes::CubeFault;
 use pieces::LinesFault;
@@ -10,109 +10,104 @@ use prooflog::{
     Evidence, EvidenceFault, TrimFault, read_evidence, read_evidence_in, trim, write_evidence,
 };
 use refutations::{LineFault, MakeLineFault, TreeFault};
-use std::alloc::{AllocError, Global};
 use std::str;
 use std::thread::Threads;
 use trees::SplitFault;
 
 pub fn judge<R: Threads + Sync>(
     rt: &R,
-    alloc: Global,
     section: Section<'_>,
+    given: &mut Given,
     report: &mut Report,
-) -> Result<(), Trouble> {
-    let mut given = String::new(alloc);
+) {
     for call in section.calls {
-        given.clear();
         let (name, words) = cut(&call.text);
-        let answer = match name {
-            "read" => read(alloc, words, &mut given),
-            "read_in" => read_in(rt, alloc, words, &mut given),
-            "trim" => trimmed(alloc, words, &mut given),
-            "text" => put_fault(words, &mut given),
-            _ => Err(Trouble::Script("no such call")),
-        };
-        report.note(call, answer, &mut given)?;
+        answer(rt, name, words, given);
+        report.note(call, given.reply());
+        given.clear();
     }
-    Ok(())
+}
+
+fn answer<R: Threads + Sync>(rt: &R, name: &str, words: &str, given: &mut Given) {
+    if name == "text" {
+        return put_fault(words, given);
+    }
+    match words.replace(given.alloc, '/', "\n") {
+        Ok(text) => read(rt, name, &text, given),
+        Err(_error) => given.refuse("memory"),
+    }
+}
+
+/// Answers a call about a text: `read_in`, such as `4 evidence 1/..`, reads it in so many parts.
+fn read<R: Threads + Sync>(rt: &R, name: &str, text: &str, given: &mut Given) {
+    let alloc = given.alloc;
+    match name {
+        "read" => put_read(text, &read_evidence(alloc, text.as_bytes()), given),
+        "trim" => put_trimmed(&read_evidence(alloc, text.as_bytes()), given),
+        "read_in" => {
+            let (parts, text) = text.split_once(' ').unwrap_or(("", text));
+            let parts = number(parts, given) as usize;
+            let read = read_evidence_in(rt, alloc, text.as_bytes(), parts);
+            put_read(text, &read, given);
+        }
+        _ => given.refuse("not made: no such call"),
+    }
 }
 
 /// The text of a fault that only want of memory brings about, and the size of a literal.
-fn put_fault(words: &str, out: &mut String) -> Result<(), Trouble> {
+fn put_fault(words: &str, given: &mut Given) {
     match words {
-        "LineFault::Memory" => put_done(out, Err(LineFault::Memory))?,
-        "TreeFault::Memory" => put_done(out, Err(TreeFault::Memory))?,
-        "LinesFault::Memory" => put_done(out, Err(LinesFault::Memory))?,
-        "MakeLineFault::Memory" => put_done(out, Err(MakeLineFault::Memory))?,
-        "TrimFault::Memory" => put_done(out, Err(TrimFault::Memory))?,
-        "CubeFault::Memory" => put_done(out, Err(CubeFault::Memory))?,
-        "SplitFault::Memory" => put_done(out, Err(SplitFault::Memory))?,
-        "size_of Lit" => put_number(out, size_of::<Lit>())?,
-        _ => return Err(Trouble::Script("no such fault")),
+        "LineFault::Memory" => given.show(LineFault::Memory),
+        "TreeFault::Memory" => given.show(TreeFault::Memory),
+        "LinesFault::Memory" => given.show(LinesFault::Memory),
+        "MakeLineFault::Memory" => given.show(MakeLineFault::Memory),
+        "TrimFault::Memory" => given.show(TrimFault::Memory),
+        "CubeFault::Memory" => given.show(CubeFault::Memory),
+        "SplitFault::Memory" => given.show(SplitFault::Memory),
+        "size_of Lit" => given.show(size_of::<Lit>()),
+        _ => given.refuse("not made: no such fault"),
     }
-    Ok(())
 }
 
 /// Writes `read`, where the text is written as it was read, and else its fault.
-fn put_read(
-    alloc: Global,
-    text: &str,
-    read: &Result<Evidence, EvidenceFault>,
-    out: &mut String,
-) -> Result<(), AllocError> {
+fn put_read(text: &str, read: &Result<Evidence, EvidenceFault>, given: &mut Given) {
     match read {
-        Ok(evidence) => {
-            let written = write_evidence(alloc, evidence)?;
-            let is_same = written.as_slice() == text.as_bytes();
-            put_word(out, if is_same { "read" } else { "written otherwise" })
+        Ok(evidence) => put_written(text, evidence, given),
+        Err(fault) => given.show(fault),
+    }
+}
+
+fn put_written(text: &str, evidence: &Evidence, given: &mut Given) {
+    match write_evidence(given.alloc, evidence) {
+        Ok(written) => given.put(if written.as_slice() == text.as_bytes() {
+            "read"
+        } else {
+            "written otherwise"
+        }),
+        Err(_error) => given.refuse("memory"),
+    }
+}
+
+/// Writes the text of the refutation without the lines that aren't needed.
+fn put_trimmed(read: &Result<Evidence, EvidenceFault>, given: &mut Given) {
+    match read {
+        Ok(evidence) => tell(&trim(given.alloc, evidence), given),
+        Err(fault) => given.show(fault),
+    }
+}
+
+impl Show for Evidence {
+    fn put(&self, given: &mut Given) {
+        match write_evidence(given.alloc, self) {
+            Ok(written) => put_bytes(written.as_slice(), given),
+            Err(_error) => given.refuse("memory"),
         }
-        Err(fault) => write!(out, "{fault}"),
     }
 }
 
-/// Reads a text whose lines end where a `/` stands.
-fn read(alloc: Global, words: &str, out: &mut String) -> Result<(), Trouble> {
-    let text = words.replace(alloc, '/', "\n")?;
-    put_read(alloc, &text, &read_evidence(alloc, text.as_bytes()), out)?;
-    Ok(())
-}
-
-/// The same in so many parts, such as `4 evidence 1/..`.
-fn read_in<R: Threads + Sync>(
-    rt: &R,
-    alloc: Global,
-    words: &str,
-    out: &mut String,
-) -> Result<(), Trouble> {
-    let (parts, words) = cut_number(words)?;
-    let text = words.replace(alloc, '/', "\n")?;
-    let read = read_evidence_in(rt, alloc, text.as_bytes(), parts as usize);
-    put_read(alloc, &text, &read, out)?;
-    Ok(())
-}
-
-/// Reads such a text, and writes that of the refutation without the lines that aren't needed.
-fn trimmed(alloc: Global, words: &str, out: &mut String) -> Result<(), Trouble> {
-    let text = words.replace(alloc, '/', "\n")?;
-    match read_evidence(alloc, text.as_bytes()) {
-        Ok(evidence) => put_trimmed(alloc, &evidence, out),
-        Err(fault) => Ok(write!(out, "{fault}")?),
+fn put_bytes(bytes: &[u8], given: &mut Given) {
+    match str::from_utf8(bytes) {
+        Ok(text) => given.text(text),
+        Err(_fault) => given.put("no text"),
     }
-}
-
-fn put_trimmed(alloc: Global, evidence: &Evidence, out: &mut String) -> Result<(), Trouble> {
-    match trim(alloc, evidence) {
-        Ok(trimmed) => put_evidence(alloc, &trimmed, out),
-        Err(fault) => Ok(write!(out, "{fault}")?),
-    }
-}
-
-/// The text of an evidence.
-pub fn put_evidence(alloc: Global, evidence: &Evidence, out: &mut String) -> Result<(), Trouble> {
-    let written = write_evidence(alloc, evidence)?;
-    match str::from_utf8(written.as_slice()) {
-        Ok(text) => put_text(alloc, out, text)?,
-        Err(_fault) => put_word(out, "no text")?,
-    }
-    Ok(())
 }

@@ -1,122 +1,108 @@
 //! Logs of lines in pages, and lists that are handed out.
-use crate::reading::{Trouble, number};
+use crate::given::{Given, Show, add};
+use crate::reading::number;
 use crate::report::Report;
 use crate::scripts::{Section, Subject, judge_calls};
-use crate::telling::{put_line, put_number, put_word};
 use pages::{Extended, Lines, Log};
 use refutations::{Line, LineList};
-use std::alloc::{AllocError, Global};
 
 /// A log, and a list that was taken from it.
 #[derive(Drop)]
 struct Pages {
     log: Log,
-    held: Lines,
+    held: Option<Lines>,
 }
 
-pub fn judge(alloc: Global, section: Section<'_>, report: &mut Report) -> Result<(), Trouble> {
-    let mut pages = Pages {
-        log: Log::new(alloc),
-        held: Lines::from_vec(alloc, Vec::new(alloc))?,
-    };
-    judge_calls(alloc, &mut pages, section.calls, report)
+pub fn judge(section: Section<'_>, given: &mut Given, report: &mut Report) {
+    let log = Log::new(given.alloc);
+    let mut pages = Pages { log, held: None };
+    judge_calls(&mut pages, section.calls, given, report);
 }
 
 impl Subject for Pages {
-    fn answer(
-        &mut self,
-        alloc: Global,
-        name: &str,
-        words: &str,
-        out: &mut String,
-    ) -> Result<(), Trouble> {
+    fn answer(&mut self, name: &str, words: &str, given: &mut Given) {
         match name {
-            "append" => append(alloc, &mut self.log, number(words)?, out),
+            "append" => append(&mut self.log, words, given),
             "hold" => {
-                self.held = after(alloc, &self.log, number(words)?)?;
-                Ok(put_told(out, &self.held)?)
+                self.held = after(&self.log, words, given);
+                put_taken(&self.held, given);
             }
-            "held" => Ok(put_told(out, &self.held)?),
-            _ => asked(alloc, &self.log, name, words, out),
+            "held" => put_taken(&self.held, given),
+            "after" => put_taken(&after(&self.log, words, given), given),
+            "lines" => put_told(&self.log, given),
+            "get" => put_place(&self.log, words, given),
+            "extended" => put_extended(&self.log, words, given),
+            "from_vec" => put_taken(&from_vec(words, given), given),
+            _ => given.refuse("not made: no such call"),
         }
     }
-}
-
-fn asked(
-    alloc: Global,
-    log: &Log,
-    name: &str,
-    words: &str,
-    out: &mut String,
-) -> Result<(), Trouble> {
-    match name {
-        "lines" => put_told(out, log)?,
-        "get" => put_place(log, number(words)?, out)?,
-        "after" => put_told(out, &after(alloc, log, number(words)?)?)?,
-        "extended" => put_extended(alloc, log, number(words)?, out)?,
-        "from_vec" => put_told(
-            out,
-            &Lines::from_vec(alloc, numbered(alloc, 1, number(words)?)?)?,
-        )?,
-        _ => return Err(Trouble::Script("no such call")),
-    }
-    Ok(())
 }
 
 /// Lines without literals, each with one hint: the numbers from `first` on.
-fn numbered(alloc: Global, first: u32, count: u32) -> Result<Vec<Line>, Trouble> {
-    let mut lines = Vec::new(alloc);
-    for place in 0..count {
-        match Line::make(alloc, &[], &[first.wrapping_add(place)]) {
-            Ok(line) => lines.push(line)?,
-            Err(_fault) => return Err(Trouble::Script("no line")),
+fn numbered(first: u32, word: &str, given: &mut Given) -> Vec<Line> {
+    let mut lines = Vec::new(given.alloc);
+    for place in 0..number(word, given) {
+        match Line::make(given.alloc, &[], &[first.wrapping_add(place)]) {
+            Ok(line) => add(&mut lines, line, given),
+            Err(_fault) => given.refuse("not made: no line"),
         }
     }
-    Ok(lines)
+    lines
 }
 
 /// The number of the line that comes next.
-fn next(log: &Log) -> Result<u32, Trouble> {
-    match u32::try_from(log.len().saturating_add(1)) {
-        Ok(next) => Ok(next),
-        Err(_fault) => Err(Trouble::Script("a long log")),
-    }
+fn next(log: &Log) -> u32 {
+    u32::try_from(log.len().saturating_add(1)).unwrap_or(0)
 }
 
 /// Appends so many lines, numbered on.
-fn append(alloc: Global, log: &mut Log, count: u32, out: &mut String) -> Result<(), Trouble> {
-    let lines = numbered(alloc, next(log)?, count)?;
-    log.append(alloc, lines)?;
-    put_number(out, log.len())?;
-    Ok(())
-}
-
-fn after(alloc: Global, log: &Log, from: u32) -> Result<Lines, Trouble> {
-    let from = from as usize;
-    if from > log.len() {
-        return Err(Trouble::Script("past the end"));
+fn append(log: &mut Log, word: &str, given: &mut Given) {
+    let lines = numbered(next(log), word, given);
+    match log.append(given.alloc, lines) {
+        Ok(()) => given.number(log.len()),
+        Err(_error) => given.refuse("memory"),
     }
-    Ok(log.after(alloc, from)?)
 }
 
-fn put_place<L: LineList>(lines: &L, place: u32, out: &mut String) -> Result<(), AllocError> {
-    match lines.get(place as usize) {
-        Some(line) => put_line(out, line),
-        None => put_word(out, "none"),
+fn after(log: &Log, word: &str, given: &mut Given) -> Option<Lines> {
+    let from = number(word, given) as usize;
+    if from > log.len() {
+        return given.known(None, "not made: past the end");
+    }
+    log.after(given.alloc, from).ok()
+}
+
+fn from_vec(word: &str, given: &mut Given) -> Option<Lines> {
+    let lines = numbered(1, word, given);
+    Lines::from_vec(given.alloc, lines).ok()
+}
+
+fn put_taken(lines: &Option<Lines>, given: &mut Given) {
+    match lines {
+        Some(lines) => put_told(lines, given),
+        None => given.put("no lines"),
+    }
+}
+
+fn put_place<L: LineList>(lines: &L, word: &str, given: &mut Given) {
+    match lines.get(number(word, given) as usize) {
+        Some(line) => line.put(given),
+        None => given.put("none"),
     }
 }
 
 /// Such as `300 lines from 11`: how many lines there are, and the number of the first one, where each is numbered on.
-fn put_told<L: LineList>(out: &mut String, lines: &L) -> Result<(), AllocError> {
+fn put_told<L: LineList>(lines: &L, given: &mut Given) {
     let count = lines.len();
     let Some(first) = hint_of(lines, 0) else {
-        return put_word(out, "no lines");
+        return given.put("no lines");
     };
-    write!(out, "{count} lines from {first}")?;
+    given.show(count);
+    given.put(" lines from ");
+    given.show(first);
     if !are_numbered(lines, first, count) {
-        out.push_str(" in disorder")?;
+        given.put(" in disorder");
     }
-    Ok(())
 }
 
 /// The only hint of the line at this place.
@@ -140,14 +126,8 @@ fn are_numbered<L: LineList>(lines: &L, first: u32, count: usize) -> bool {
 }
 
 /// The log with so many lines more, which are no part of it.
-fn put_extended(alloc: Global, log: &Log, count: u32, out: &mut String) -> Result<(), Trouble> {
-    let more = numbered(alloc, next(log)?, count)?;
-    put_told(
-        out,
-        &Extended {
-            log,
-            more: more.as_slice(),
-        },
-    )?;
-    Ok(())
+fn put_extended(log: &Log, word: &str, given: &mut Given) {
+    let more = numbered(next(log), word, given);
+    let more = more.as_slice();
+    put_told(&Extended { log, more }, given);
 }

@@ -6,6 +6,7 @@ mod checks;
 mod deques;
 mod encodings;
 mod evidences;
+mod given;
 mod logs;
 mod programs;
 mod reading;
@@ -14,7 +15,6 @@ mod scripts;
 mod searches;
 mod shares;
 mod splits;
-mod telling;
 
 use report::Report;
 use scripts::judge_file;
@@ -53,19 +53,17 @@ fn judge_path(
 ) -> io::Result<()> {
     let text = fs::read_to_string(rt, path)?;
     judge_file(threads, rt.alloc(), path, &text, report)?;
-    print!(rt; "{}", report.failures())?;
+    print!(rt; "{}", report.failures.reply())?;
     report.forget();
     Ok(())
 }
 
 /// Prints how many rows hold, and how many don't. Answers whether all hold.
 fn tell(rt: &HostRuntime, report: &Report) -> io::Result<bool> {
-    let held = report.held();
-    let missed = report.missed();
-    if missed > 0 {
-        println!(rt; "{missed} rows don't hold")?;
+    if report.missed > 0 {
+        println!(rt; "{} rows don't hold", report.missed)?;
         return Ok(false);
     }
-    println!(rt; "{held} rows hold")?;
+    println!(rt; "{} rows hold", report.held)?;
     Ok(true)
 }

@@ -1,13 +1,16 @@
 //! Fitting pairs of programs, and the earlier calls that each pair waits for.
-use crate::reading::{Trouble, place};
+ghost use Rattle.std.specs.Prelude.{◌≡◌};
+ghost use Rattle.candidates.specs.Pairs.{pairs_of};
+
+use crate::given::{Given, put_all};
+use crate::reading::place;
 use crate::report::Report;
 use crate::scripts::{Section, Subject, judge_calls};
-use crate::telling::{put_calls, put_number, put_places};
 use callorder::Program;
-use calltext::read;
+use calltext::{Source, read};
 use candidates::{PairFault, Pairs, pairs};
 use nonovertake::{Earlier, earlier};
-use std::alloc::{AllocError, Global};
+use std::alloc::Global;
 use std::thread::Threads;
 
 /// A program's pairs, and the calls that each waits for.
@@ -19,114 +22,134 @@ struct Fitting {
 
 pub fn judge<R: Threads + Sync>(
     rt: &R,
-    alloc: Global,
     section: Section<'_>,
+    given: &mut Given,
     report: &mut Report,
-) -> Result<(), Trouble> {
-    let program = program_of(alloc, section.heading)?;
-    match pairs(alloc, &program) {
-        Ok(pairs) => {
-            let earlier = earlier(rt, alloc, &program, &pairs)?;
-            let mut fitting = Fitting { pairs, earlier };
-            judge_calls(alloc, &mut fitting, section.calls, report)
+) {
+    if let Some(program) = program_of(section.heading, given) {
+        match pairs(given.alloc, &program) {
+            Ok(pairs) => judge_pairs(rt, &program, pairs, section, given, report),
+            Err(mut fault) => judge_calls(&mut fault, section.calls, given, report),
         }
-        Err(mut fault) => judge_calls(alloc, &mut fault, section.calls, report),
+    }
+}
+
+fn judge_pairs<R: Threads + Sync>(
+    rt: &R,
+    program: &Program,
+    pairs: Pairs,
+    section: Section<'_>,
+    given: &mut Given,
+    report: &mut Report,
+)
+    requires { pairs ≡ pairs_of program.now }
+{
+    match earlier(rt, given.alloc, program, &pairs) {
+        Ok(earlier) => {
+            let mut fitting = Fitting { pairs, earlier };
+            judge_calls(&mut fitting, section.calls, given, report);
+        }
+        Err(_error) => given.refuse("memory"),
     }
 }
 
 /// The program of a text whose lines end where a `/` stands.
-pub fn program_of(alloc: Global, text: &str) -> Result<Program, Trouble> {
-    let text = text.replace(alloc, '/', "\n")?;
-    let Ok(source) = read(alloc, text.as_bytes()) else {
-        return Err(Trouble::Script("no program's text"));
+pub fn program_of(text: &str, given: &mut Given) -> Option<Program> {
+    let program = match text.replace(given.alloc, '/', "\n") {
+        Ok(text) => program_in(given.alloc, &text),
+        Err(_error) => None,
     };
-    match Program::resolve(alloc, &source) {
-        Ok(program) => Ok(program),
-        Err(_fault) => Err(Trouble::Script("no program")),
+    given.known(program, "no program")
+}
+
+fn program_in(alloc: Global, text: &str) -> Option<Program> {
+    match read(alloc, text.as_bytes()) {
+        Ok(source) => resolved(alloc, &source),
+        Err(_fault) => None,
     }
+}
+
+fn resolved(alloc: Global, source: &Source) -> Option<Program> {
+    Program::resolve(alloc, source).ok()
 }
 
 /// A program has no pairs where there are too many of them.
 impl Subject for PairFault {
-    fn answer(
-        &mut self,
-        _alloc: Global,
-        _name: &str,
-        _words: &str,
-        out: &mut String,
-    ) -> Result<(), Trouble> {
-        Ok(write!(out, "{self}")?)
+    fn answer(&mut self, _name: &str, _words: &str, given: &mut Given) {
+        given.show(&*self);
     }
 }
 
 impl Subject for Fitting {
-    fn answer(
-        &mut self,
-        _alloc: Global,
-        name: &str,
-        words: &str,
-        out: &mut String,
-    ) -> Result<(), Trouble> {
+    fn answer(&mut self, name: &str, words: &str, given: &mut Given) {
         let Fitting { pairs, earlier } = self;
         match name {
-            "pairs" => put_pairs(out, pairs)?,
-            "pair_count" => put_number(out, pairs.len())?,
-            "with_send" => put_places(out, pairs.with_send(place(words)?))?,
-            "with_send_count" => put_number(out, pairs.with_send(place(words)?).len())?,
-            "with_taker" => put_places(out, pairs.with_taker(place(words)?))?,
-            "with_taker_count" => put_number(out, pairs.with_taker(place(words)?).len())?,
-            "earlier" => put_all_earlier(out, earlier, pairs.len())?,
-            "earlier_counts" => put_counts(out, earlier, pairs.len())?,
-            "earlier_behind" => put_behind(out, earlier, pairs.len())?,
-            _ => return Err(Trouble::Script("no such call")),
+            "pairs" => put_pairs(pairs, given),
+            "pair_count" => given.number(pairs.len()),
+            "earlier" => put_all_earlier(earlier, pairs.len(), given),
+            "earlier_counts" => put_counts(earlier, pairs.len(), given),
+            "earlier_behind" => put_behind(earlier, pairs.len(), given),
+            _ => put_with(pairs, name, words, given),
         }
-        Ok(())
+    }
+}
+
+/// The places of the pairs with a call, or how many there are.
+fn put_with(pairs: &Pairs, name: &str, word: &str, given: &mut Given) {
+    let call = place(word, given);
+    match name {
+        "with_send" => put_all(pairs.with_send(call), given),
+        "with_send_count" => given.number(pairs.with_send(call).len()),
+        "with_taker" => put_all(pairs.with_taker(call), given),
+        "with_taker_count" => given.number(pairs.with_taker(call).len()),
+        _ => given.refuse("not made: no such call"),
     }
 }
 
 /// The pairs, their calls counted from 1, such as `1-2 1-3`.
-fn put_pairs(out: &mut String, pairs: &Pairs) -> Result<(), AllocError> {
+fn put_pairs(pairs: &Pairs, given: &mut Given) {
     for (send, taker) in pairs.as_slice() {
-        put_number(out, send.saturating_add(1))?;
-        let taker = taker.saturating_add(1);
-        write!(out, "-{taker}")?;
+        given.number(send.saturating_add(1));
+        given.put("-");
+        given.show(taker.saturating_add(1));
     }
-    Ok(())
 }
 
 /// The lists that aren't empty, each behind its pair's place, such as `1: sends 1 2 takers 4;`.
-fn put_all_earlier(out: &mut String, earlier: &Earlier, pairs: usize) -> Result<(), AllocError> {
+fn put_all_earlier(earlier: &Earlier, pairs: usize, given: &mut Given) {
     for pair in 0..pairs {
         if !earlier.sends(pair).is_empty() || !earlier.takers(pair).is_empty() {
-            put_earlier(out, earlier, pair)?;
+            given.number(pair);
+            given.put(": sends");
+            put_calls(earlier.sends(pair), given);
+            given.put(" takers");
+            put_calls(earlier.takers(pair), given);
+            given.put(";");
         }
     }
-    Ok(())
 }
 
-fn put_earlier(out: &mut String, earlier: &Earlier, pair: usize) -> Result<(), AllocError> {
-    put_number(out, pair)?;
-    out.push_str(": sends")?;
-    put_calls(out, earlier.sends(pair))?;
-    out.push_str(" takers")?;
-    put_calls(out, earlier.takers(pair))?;
-    out.push(';')
+/// Calls, counted from 1.
+fn put_calls(places: &[usize], given: &mut Given) {
+    for place in places {
+        given.number(place.saturating_add(1));
+    }
 }
 
 /// How many earlier calls there are behind the last pair.
-fn put_behind(out: &mut String, earlier: &Earlier, pairs: usize) -> Result<(), AllocError> {
-    put_number(out, earlier.sends(pairs).len())?;
-    put_number(out, earlier.takers(pairs).len())
+fn put_behind(earlier: &Earlier, pairs: usize, given: &mut Given) {
+    given.number(earlier.sends(pairs).len());
+    given.number(earlier.takers(pairs).len());
 }
 
 /// How many earlier sends and how many earlier takers all pairs wait for, each pair by itself.
-fn put_counts(out: &mut String, earlier: &Earlier, pairs: usize) -> Result<(), AllocError> {
+fn put_counts(earlier: &Earlier, pairs: usize, given: &mut Given) {
     let mut sends: usize = 0;
     let mut takers: usize = 0;
     for pair in 0..pairs {
         sends = sends.saturating_add(earlier.sends(pair).len());
         takers = takers.saturating_add(earlier.takers(pair).len());
     }
-    put_number(out, sends)?;
-    put_number(out, takers)
+    given.number(sends);
+    given.number(takers);
 }

@@ -1,30 +1,14 @@
-//! What the words of a script stand for.
+//! What the words of a script stand for. Where they stand for nothing, the reply says so.
+use crate::given::{Given, add};
 use batches::{Batch, BatchLine, Hint};
-use clauses::{Assignment, Clause, ClauseFault, Formula, Lit};
+use clauses::{Assignment, Clause, Formula, Lit};
 use pool::{Event, Why};
-use refutations::{Line, MakeLineFault, Node};
+use refutations::{Line, Node, ProofTree};
 use semantics::Step;
-use std::alloc::{AllocError, AllocFailed, Global};
 
-/// Why a call isn't made.
-#[derive(Clone, Copy, Debug, PartialEq, Eq)]
-pub enum Trouble {
-    /// Memory ran out.
-    Memory,
-    /// The row can't be read.
-    Script(&'static str),
-}
-
-impl From<AllocError> for Trouble {
-    fn from(_: AllocError) -> Trouble {
-        Trouble::Memory
-    }
-}
-
-impl<T: Drop> From<AllocFailed<T>> for Trouble {
-    fn from(_failed: AllocFailed<T>) -> Trouble {
-        Trouble::Memory
-    }
+/// What is written as a word, or as a part of a text.
+pub trait Part: Sized + Drop {
+    fn read(text: &str, given: &mut Given) -> Option<Self>;
 }
 
 /// The first word, and what follows it.
@@ -35,217 +19,175 @@ pub fn cut(text: &str) -> (&str, &str) {
     }
 }
 
-pub fn number(word: &str) -> Result<u32, Trouble> {
+pub fn number(word: &str, given: &mut Given) -> u32 {
     match word.parse::<u32>() {
-        Ok(number) => Ok(number),
-        Err(_fault) => Err(Trouble::Script("no number")),
+        Ok(number) => number,
+        Err(_fault) => {
+            given.refuse("not made: no number");
+            0
+        }
     }
 }
 
 /// The first word as a number, and what follows it.
-pub fn cut_number(text: &str) -> Result<(u32, &str), Trouble> {
+pub fn cut_number<'a>(text: &'a str, given: &mut Given) -> (u32, &'a str) {
     let (word, rest) = cut(text);
-    Ok((number(word)?, rest))
+    (number(word, given), rest)
 }
 
-pub fn numbers(alloc: Global, words: &str) -> Result<Vec<u32>, Trouble> {
-    let mut numbers = Vec::new(alloc);
-    for word in words.split_whitespace() {
-        numbers.push(number(word)?)?;
-    }
-    Ok(numbers)
-}
-
-/// The literal that is written as its variable, behind a `-` where it is negated; none where there is no such literal.
-pub fn literal_of(word: &str) -> Result<Option<Lit>, Trouble> {
-    match word.strip_prefix("-") {
-        Some(variable) => Ok(Lit::make(number(variable)?, false)),
-        None => Ok(Lit::make(number(word)?, true)),
-    }
-}
-
-pub fn literal(word: &str) -> Result<Lit, Trouble> {
-    match literal_of(word) {
-        Ok(Some(literal)) => Ok(literal),
-        Ok(None) => Err(Trouble::Script("no literal")),
-        Err(trouble) => Err(trouble),
-    }
-}
-
-pub fn literals(alloc: Global, words: &str) -> Result<Vec<Lit>, Trouble> {
-    let mut literals = Vec::new(alloc);
-    for word in words.split_whitespace() {
-        match literal(word) {
-            Ok(literal) => literals.push(literal)?,
-            Err(trouble) => return Err(trouble),
+/// The place of a call that is counted from 1.
+pub fn place(word: &str, given: &mut Given) -> usize {
+    match number(word, given).checked_sub(1) {
+        Some(place) => place as usize,
+        None => {
+            given.refuse("not made: calls are counted from 1");
+            0
         }
     }
-    Ok(literals)
 }
 
-pub fn clause(alloc: Global, words: &str) -> Result<Clause, Trouble> {
-    let literals = literals(alloc, words)?;
-    match Clause::make(alloc, literals.as_slice()) {
-        Ok(clause) => Ok(clause),
-        Err(ClauseFault::Memory) => Err(Trouble::Memory),
-        Err(ClauseFault::Order) => Err(Trouble::Script("no clause")),
+/// All parts of a text, with this between them. Empty ones count only between commas.
+pub fn all<T: Part>(text: &str, between: char, given: &mut Given) -> Vec<T> {
+    let mut parts = Vec::new(given.alloc);
+    for part in text.split(between) {
+        let part = part.trim();
+        if part.is_empty() && between != ',' {
+            continue;
+        }
+        if let Some(value) = T::read(part, given) {
+            add(&mut parts, value, given);
+        }
+    }
+    parts
+}
+
+impl Part for u32 {
+    fn read(text: &str, given: &mut Given) -> Option<u32> {
+        Some(number(text, given))
     }
 }
 
-/// Clauses with a `,` between them, or `none`.
-fn clauses(alloc: Global, text: &str) -> Result<Vec<Clause>, Trouble> {
-    let mut clauses = Vec::new(alloc);
-    if text == "none" {
-        return Ok(clauses);
+/// A literal is written as its variable, behind a `-` where it is negated.
+impl Part for Lit {
+    fn read(text: &str, given: &mut Given) -> Option<Lit> {
+        let literal = match text.strip_prefix("-") {
+            Some(variable) => Lit::make(number(variable, given), false),
+            None => Lit::make(number(text, given), true),
+        };
+        given.known(literal, "not made: no literal")
     }
-    for words in text.split(',') {
-        clauses.push(clause(alloc, words)?)?;
-    }
-    Ok(clauses)
 }
 
-/// A formula such as `3 of 1 2, -1 3`, over the variables up to 3.
-pub fn formula(alloc: Global, text: &str) -> Result<Formula, Trouble> {
-    let Some((variables, text)) = text.split_once(" of ") else {
-        return Err(Trouble::Script("no clauses"));
+impl Part for Clause {
+    fn read(text: &str, given: &mut Given) -> Option<Clause> {
+        let literals = all::<Lit>(text, ' ', given);
+        let clause = Clause::make(given.alloc, literals.as_slice()).ok();
+        given.known(clause, "not made: no clause")
+    }
+}
+
+/// A formula such as `3 of 1 2, -1 3`, over the variables up to 3; its clauses may be `none`.
+pub fn formula(text: &str, given: &mut Given) -> Option<Formula> {
+    let (variables, text) = text.split_once(" of ").unwrap_or((text, "none"));
+    let variables = number(variables, given);
+    let clauses = if text == "none" {
+        Vec::new(given.alloc)
+    } else {
+        all::<Clause>(text, ',', given)
     };
-    let variables = number(variables)?;
-    match Formula::make(variables, clauses(alloc, text)?) {
-        Ok(formula) => Ok(formula),
-        Err(_clauses) => Err(Trouble::Script("a variable past the last")),
-    }
+    let formula = Formula::make(variables, clauses).ok();
+    given.known(formula, "a variable past the last")
 }
 
 /// A value for each variable, `0` or `1`.
-pub fn assignment(alloc: Global, digits: &str) -> Result<Assignment, Trouble> {
-    let mut values = Vec::new(alloc);
+pub fn assignment(digits: &str, given: &mut Given) -> Assignment {
+    let mut values = Vec::new(given.alloc);
     for digit in digits.chars() {
-        values.push(digit == '1')?;
+        add(&mut values, digit == '1', given);
     }
-    Ok(Assignment::make(values))
+    Assignment::make(values)
 }
 
 /// The parts before and behind a `:`.
-pub fn halves(text: &str) -> Result<(&str, &str), Trouble> {
+fn halves<'a>(text: &'a str, given: &mut Given) -> (&'a str, &'a str) {
     match text.split_once(":") {
-        Some((front, back)) => Ok((front.trim(), back.trim())),
-        None => Err(Trouble::Script("no colon")),
+        Some(halves) => halves,
+        None => {
+            given.refuse("not made: no colon");
+            (text, "")
+        }
     }
 }
 
 /// A proof line such as `1 -2 : 4 3`.
-pub fn line(alloc: Global, text: &str) -> Result<Line, Trouble> {
-    let (words, hints) = halves(text)?;
-    let literals = literals(alloc, words)?;
-    let hints = numbers(alloc, hints)?;
-    match Line::make(alloc, literals.as_slice(), hints.as_slice()) {
-        Ok(line) => Ok(line),
-        Err(MakeLineFault::Memory) => Err(Trouble::Memory),
-        Err(_fault) => Err(Trouble::Script("no line")),
+impl Part for Line {
+    fn read(text: &str, given: &mut Given) -> Option<Line> {
+        let (words, hints) = halves(text, given);
+        let literals = all::<Lit>(words, ' ', given);
+        let hints = all::<u32>(hints, ' ', given);
+        let line = Line::make(given.alloc, literals.as_slice(), hints.as_slice()).ok();
+        given.known(line, "not made: no line")
     }
 }
 
-/// Lines with a `;` between them.
-pub fn proof_lines(alloc: Global, text: &str) -> Result<Vec<Line>, Trouble> {
-    let mut lines = Vec::new(alloc);
-    for part in text.split_terminator(';') {
-        lines.push(line(alloc, part)?)?;
-    }
-    Ok(lines)
-}
-
-fn node(word: &str) -> Result<Node, Trouble> {
-    match word.strip_prefix("s") {
-        Some(variable) => Ok(Node::Split(number(variable)?)),
-        None => Ok(Node::Leaf(number(word)?)),
+/// A node such as `s1`, a split by variable 1, or `4`, the leaf of clause 4.
+impl Part for Node {
+    fn read(text: &str, given: &mut Given) -> Option<Node> {
+        match text.strip_prefix("s") {
+            Some(variable) => Some(Node::Split(number(variable, given))),
+            None => Some(Node::Leaf(number(text, given))),
+        }
     }
 }
 
-/// Nodes such as `s1 4 3`: a split by variable 1 over the leaves of clauses 4 and 3.
-pub fn nodes(alloc: Global, words: &str) -> Result<Vec<Node>, Trouble> {
-    let mut nodes = Vec::new(alloc);
-    for word in words.split_whitespace() {
-        nodes.push(node(word)?)?;
-    }
-    Ok(nodes)
+/// The tree of nodes such as `s1 4 3`.
+pub fn tree(words: &str, given: &mut Given) -> Option<ProofTree> {
+    let tree = ProofTree::make(all::<Node>(words, ' ', given)).ok();
+    given.known(tree, "not made: no tree")
 }
 
 /// A hint: the number of a clause, or `+` and the place of a line of the batch.
-fn hint(word: &str) -> Result<Hint, Trouble> {
-    match word.strip_prefix("+") {
-        Some(place) => Ok(Hint::Own(number(place)?)),
-        None => Ok(Hint::Known(number(word)?)),
+impl Part for Hint {
+    fn read(text: &str, given: &mut Given) -> Option<Hint> {
+        match text.strip_prefix("+") {
+            Some(place) => Some(Hint::Own(number(place, given))),
+            None => Some(Hint::Known(number(text, given))),
+        }
     }
 }
 
-fn hints(alloc: Global, words: &str) -> Result<Vec<Hint>, Trouble> {
-    let mut hints = Vec::new(alloc);
-    for word in words.split_whitespace() {
-        hints.push(hint(word)?)?;
-    }
-    Ok(hints)
-}
-
-fn batch_line(alloc: Global, text: &str) -> Result<BatchLine, Trouble> {
-    let (words, numbers) = halves(text)?;
-    let clause = clause(alloc, words)?;
-    let hints = hints(alloc, numbers)?;
-    Ok(BatchLine { clause, hints })
-}
-
-/// A batch such as `-2 : 1 2; : +0 3`, with a `;` between its lines.
-pub fn batch(alloc: Global, text: &str) -> Result<Batch, Trouble> {
-    let mut lines = Vec::new(alloc);
-    for part in text.split_terminator(';') {
-        lines.push(batch_line(alloc, part)?)?;
-    }
-    Ok(Batch { lines })
-}
-
-/// The place of a call that is counted from 1.
-pub fn place(word: &str) -> Result<usize, Trouble> {
-    match number(word)?.checked_sub(1) {
-        Some(place) => Ok(place as usize),
-        None => Err(Trouble::Script("calls are counted from 1")),
+impl Part for BatchLine {
+    fn read(text: &str, given: &mut Given) -> Option<BatchLine> {
+        let (words, hints) = halves(text, given);
+        let hints = all::<Hint>(hints, ' ', given);
+        match Clause::read(words, given) {
+            Some(clause) => Some(BatchLine { clause, hints }),
+            None => None,
+        }
     }
 }
 
 /// A step in the form of a schedule's line.
-pub fn step(line: &str) -> Result<Step, Trouble> {
-    let (word, rest) = cut(line);
-    let (first, second) = cut(rest);
-    match word {
-        "match" => Ok(Step::Match {
-            send: place(first)?,
-            taker: place(second)?,
-        }),
-        "see" => Ok(Step::See {
-            send: place(first)?,
-            probe: place(second)?,
-        }),
-        "issue" => Ok(Step::Issue {
-            rank: number(first)?,
-            buffered: second == "buffered",
-        }),
-        _ => Err(Trouble::Script("no step")),
+impl Part for Step {
+    fn read(text: &str, given: &mut Given) -> Option<Step> {
+        let (word, rest) = cut(text);
+        let (first, second) = cut(rest);
+        match word {
+            "issue" => Some(Step::Issue {
+                rank: number(first, given),
+                buffered: second == "buffered",
+            }),
+            "match" => Some(Step::Match {
+                send: place(first, given),
+                taker: place(second, given),
+            }),
+            "see" => Some(Step::See {
+                send: place(first, given),
+                probe: place(second, given),
+            }),
+            _ => given.known(None, "not made: no step"),
+        }
     }
-}
-
-/// Steps, each of which ends with a `/`.
-pub fn steps(alloc: Global, text: &str) -> Result<Vec<Step>, Trouble> {
-    let mut steps = Vec::new(alloc);
-    for line in text.split_terminator('/') {
-        steps.push(step(line)?)?;
-    }
-    Ok(steps)
-}
-
-/// A number of places; `most` for the largest.
-pub fn place_count(word: &str) -> Result<usize, Trouble> {
-    if word == "most" {
-        return Ok(usize::MAX);
-    }
-    Ok(number(word)? as usize)
 }
 
 /// Why a worker leaves; none where it is done.
@@ -259,45 +201,46 @@ pub fn why_of(word: &str) -> Option<Why> {
     }
 }
 
-/// The call of this name that a worker makes, such as `publish` with `0 : 1 3 2`.
-pub fn event(alloc: Global, name: &str, words: &str) -> Result<Event, Trouble> {
-    let (worker, words) = cut_number(words)?;
+/// The call of this name that a worker makes, such as `publish` with `0 : 1 3 2`. A batch such as `-2 : 1 2; : +0 3` has a `;` between its lines.
+pub fn event(name: &str, words: &str, given: &mut Given) -> Option<Event> {
+    let (worker, words) = cut_number(words, given);
     match name {
-        "publish" => Ok(Event::Publish {
-            worker,
-            batch: batch(alloc, words)?,
-        }),
-        "found" => Ok(Event::Found {
-            worker,
-            steps: steps(alloc, words)?,
-        }),
-        "leave" => Ok(Event::Leave {
-            worker,
-            why: why_of(words),
-        }),
-        "fetch" => Ok(Event::Fetch {
-            worker,
-            from: number(words)? as usize,
-        }),
-        _ => leaf_event(name, worker, words),
+        "publish" => {
+            let lines = all::<BatchLine>(words, ';', given);
+            let batch = Batch { lines };
+            Some(Event::Publish { worker, batch })
+        }
+        "found" => {
+            let steps = all::<Step>(words, '/', given);
+            Some(Event::Found { worker, steps })
+        }
+        "leave" => {
+            let why = why_of(words);
+            Some(Event::Leave { worker, why })
+        }
+        "fetch" => {
+            let from = number(words, given) as usize;
+            Some(Event::Fetch { worker, from })
+        }
+        _ => leaf_event(name, worker, words, given),
     }
 }
 
 /// A call about a leaf, such as `close` with `0 4`.
-fn leaf_event(name: &str, worker: u32, words: &str) -> Result<Event, Trouble> {
-    let (leaf, other) = cut_number(words)?;
-    let number = number(other)?;
+fn leaf_event(name: &str, worker: u32, words: &str, given: &mut Given) -> Option<Event> {
+    let (leaf, other) = cut_number(words, given);
+    let number = number(other, given);
     match name {
-        "close" => Ok(Event::Close {
+        "close" => Some(Event::Close {
             worker,
             leaf,
             number,
         }),
-        "split_leaf" => Ok(Event::Split {
+        "split_leaf" => Some(Event::Split {
             worker,
             leaf,
             variable: number,
         }),
-        _ => Err(Trouble::Script("no such call")),
+        _ => given.known(None, "not made: no such call"),
     }
 }

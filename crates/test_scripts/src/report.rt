@@ -1,6 +1,6 @@
 //! What was judged so far.
-use crate::reading::Trouble;
-use std::alloc::{AllocError, Global};
+use crate::given::Given;
+use std::alloc::Global;
 
 /// How many bytes are printed at most of a call, of what was wanted and of what was given: they may have millions.
 const MOST_SHOWN: usize = 700;
@@ -28,9 +28,9 @@ pub struct Call<'a> {
 /// How many rows held and how many didn't, and what is to be printed of the latter.
 #[derive(Drop)]
 pub struct Report {
-    held: u64,
-    missed: u64,
-    failures: String,
+    pub held: u64,
+    pub missed: u64,
+    pub failures: Given,
     /// The line of the last row that didn't hold, and 0 where there is none in this file.
     line: usize,
 }
@@ -40,21 +40,9 @@ impl Report {
         Report {
             held: 0,
             missed: 0,
-            failures: String::new(alloc),
+            failures: Given::new(alloc),
             line: 0,
         }
-    }
-
-    pub fn held(&self) -> u64 {
-        self.held
-    }
-
-    pub fn missed(&self) -> u64 {
-        self.missed
-    }
-
-    pub fn failures(&self) -> &str {
-        &self.failures
     }
 
     /// Forgets what was printed of a file.
@@ -63,66 +51,38 @@ impl Report {
         self.line = 0;
     }
 
-    /// Notes the reply that a call was given, or why it wasn't made. A row holds once its last call is met and none of it was missed.
-    pub fn note(
-        &mut self,
-        call: &Call<'_>,
-        answer: Result<(), Trouble>,
-        given: &mut String,
-    ) -> Result<(), AllocError> {
-        put_trouble(given, answer)?;
+    /// Notes the reply that a call was given. A row holds once its last call is met and none of it was missed.
+    pub fn note(&mut self, call: &Call<'_>, given: &str) {
         if self.line == call.place.line {
-            return Ok(());
+            return;
         }
-        if call.wanted.as_str() != ".." && call.wanted.as_str() != given.as_str() {
-            return self.miss(call.place, &call.text, &call.wanted, given);
-        }
-        if call.is_last {
+        if call.wanted.as_str() != ".." && call.wanted.as_str() != given {
+            self.miss(call.place, &call.text, &call.wanted, given);
+        } else if call.is_last {
             self.held = self.held.saturating_add(1);
         }
-        Ok(())
     }
 
     /// Notes that the row at this place doesn't hold.
-    pub fn miss(
-        &mut self,
-        place: Place<'_>,
-        call: &str,
-        wanted: &str,
-        given: &str,
-    ) -> Result<(), AllocError> {
+    pub fn miss(&mut self, place: Place<'_>, call: &str, wanted: &str, given: &str) {
         self.missed = self.missed.saturating_add(1);
         self.line = place.line;
-        let line = place.line;
-        self.failures.push_str(place.path)?;
-        write!(self.failures, ":{line}: ")?;
-        put_front(&mut self.failures, call)?;
-        self.failures.push_str("\n  wanted: ")?;
-        put_front(&mut self.failures, wanted)?;
-        self.failures.push_str("\n  given:  ")?;
-        put_front(&mut self.failures, given)?;
-        self.failures.push('\n')
+        self.failures.put(place.path);
+        self.failures.put(":");
+        self.failures.show(place.line);
+        self.put_front(": ", call);
+        self.put_front("\n  wanted: ", wanted);
+        self.put_front("\n  given:  ", given);
+        self.failures.put("\n");
     }
-}
 
-/// Writes the front of a text, and `..` where more follows.
-fn put_front(out: &mut String, text: &str) -> Result<(), AllocError> {
-    let front = &text[..text.floor_char_boundary(MOST_SHOWN)];
-    out.push_str(front)?;
-    if front.len() < text.len() {
-        out.push_str("..")?;
-    }
-    Ok(())
-}
-
-/// Writes why a call isn't made.
-fn put_trouble(given: &mut String, answer: Result<(), Trouble>) -> Result<(), AllocError> {
-    match answer {
-        Ok(()) => Ok(()),
-        Err(Trouble::Memory) => given.push_str("memory"),
-        Err(Trouble::Script(why)) => {
-            given.push_str("not made: ")?;
-            given.push_str(why)
+    /// Writes the front of a text, and `..` where more follows.
+    fn put_front(&mut self, name: &str, text: &str) {
+        let front = &text[..text.floor_char_boundary(MOST_SHOWN)];
+        self.failures.put(name);
+        self.failures.put(front);
+        if front.len() < text.len() {
+            self.failures.put("..");
         }
     }
 }

@@ -1,9 +1,9 @@
 //! Files, their sections and rows. The crate's `README.md` tells the language.
-use crate::reading::{Trouble, cut, number};
+use crate::given::Given;
+use crate::reading::cut;
 use crate::report::{Call, Place, Report};
 use crate::{checks, deques, encodings, evidences, logs, programs, searches, shares, splits};
 use std::alloc::{AllocError, Global};
-use std::mem;
 use std::sync::Wait;
 use std::thread::Threads;
 
@@ -21,13 +21,7 @@ pub struct Section<'a> {
 /// What rows are about.
 pub trait Subject {
     /// Makes the call of this name with these words, and writes its reply.
-    fn answer(
-        &mut self,
-        alloc: Global,
-        name: &str,
-        words: &str,
-        out: &mut String,
-    ) -> Result<(), Trouble>;
+    fn answer(&mut self, name: &str, words: &str, given: &mut Given);
 }
 
 /// Judges the rows of a file's text.
@@ -56,94 +50,112 @@ fn judge_section(
     text: &str,
     report: &mut Report,
 ) -> Result<(), AllocError> {
-    let (front, _back) = text.split_once("\nthen").unwrap_or((text, ""));
-    let (first, rows) = front.split_once("\n").unwrap_or((front, ""));
+    let (first, rows) = text.split_once("\n").unwrap_or((text, ""));
+    let calls = calls_of(alloc, place, rows)?;
+    let first = written_out(alloc, first, 0)?;
+    judge_rows(rt, alloc, place, &first, calls.as_slice(), report);
+    Ok(())
+}
+
+fn judge_rows(
+    rt: &(impl Threads + Wait + Sync),
+    alloc: Global,
+    place: Place<'_>,
+    first: &str,
+    calls: &[Call<'_>],
+    report: &mut Report,
+) {
     let (kind, heading) = cut(first);
-    let calls = calls_of(alloc, below(place, first), rows)?;
-    let back = from_then(alloc, text)?;
-    let later = calls_of(alloc, below(place, front), &back)?;
-    let heading = written_out(alloc, heading, 0)?;
+    let (calls, later) = halves(calls);
     let section = Section {
-        heading: &heading,
-        calls: calls.as_slice(),
-        later: later.as_slice(),
+        heading,
+        calls,
+        later,
     };
-    match judge_kind(rt, alloc, kind, section, report) {
-        Ok(()) => Ok(()),
-        Err(Trouble::Memory) => Err(AllocError),
-        Err(Trouble::Script(why)) => report.miss(place, first, "a section", why),
+    let mut given = Given::new(alloc);
+    judge_kind(rt, kind, section, &mut given, report);
+    if given.is_refused() {
+        report.miss(place, first, "a section", given.reply());
     }
 }
 
-/// What stands from the row `then` on.
-fn from_then(alloc: Global, text: &str) -> Result<String, AllocError> {
-    match text.split_once("\nthen") {
-        Some((_front, back)) => format!(in alloc; "then{back}"),
-        None => Ok(String::new(alloc)),
+/// The calls before the row `then`, and the others.
+fn halves<'a, 'b>(calls: &'b [Call<'a>]) -> (&'b [Call<'a>], &'b [Call<'a>]) {
+    match calls.iter().position(|call| call.text.as_str() == "then") {
+        Some(place) => calls.split_at(place),
+        None => calls.split_at(calls.len()),
     }
-}
-
-/// The line below a text that begins here.
-fn below<'a>(place: Place<'a>, text: &str) -> Place<'a> {
-    let line = place.line.saturating_add(text.split('\n').count());
-    Place { line, ..place }
 }
 
 fn judge_kind<R: Threads + Wait + Sync>(
     rt: &R,
-    alloc: Global,
     kind: &str,
     section: Section<'_>,
+    given: &mut Given,
     report: &mut Report,
-) -> Result<(), Trouble> {
+) {
     match kind {
-        "formula" => checks::judge(rt, alloc, section, report),
-        "tree" => splits::judge(alloc, section, report),
-        "log" => logs::judge(alloc, section, report),
-        "evidences" => evidences::judge(rt, alloc, section, report),
-        "program" => programs::judge(rt, alloc, section, report),
-        "encoding" => encodings::judge(rt, alloc, section, report),
-        "solver" => searches::judge(alloc, section, report),
-        "pool" => shares::judge_pool(rt, alloc, section, report),
-        "run" => shares::judge_run(rt, alloc, section, report),
-        "seats" => shares::judge_seats(rt, alloc, section, report),
-        "deque" => deques::judge(alloc, section, report),
-        _ => Err(Trouble::Script("no such kind")),
+        "formula" => checks::judge(rt, section, given, report),
+        "tree" => splits::judge(section, given, report),
+        "log" => logs::judge(section, given, report),
+        "evidences" => evidences::judge(rt, section, given, report),
+        "program" => programs::judge(rt, section, given, report),
+        "encoding" => encodings::judge(rt, section, given, report),
+        "solver" => searches::judge(section, given, report),
+        "pool" => shares::judge_pool(rt, section, given, report),
+        "run" => shares::judge_run(rt, section, given, report),
+        "seats" => shares::judge_seats(rt, section, given, report),
+        "deque" => deques::judge(section, given, report),
+        _ => given.refuse("no such kind"),
     }
 }
 
-/// The calls of these rows, the first of which stands here.
+/// The calls of the rows below this place.
 fn calls_of<'a>(alloc: Global, place: Place<'a>, text: &str) -> Result<Vec<Call<'a>>, AllocError> {
     let mut calls = Vec::new(alloc);
-    for (index, row) in text.lines().enumerate() {
-        let line = place.line.saturating_add(index);
-        push_calls(alloc, &mut calls, Place { line, ..place }, row)?;
+    let mut line = place.line;
+    for row in text.lines() {
+        line = line.saturating_add(1);
+        if !row.is_empty() && !row.starts_with("#") {
+            push_calls(alloc, &mut calls, Place { line, ..place }, row)?;
+        }
     }
     Ok(calls)
 }
 
-/// Adds a row's calls; none where the line is empty or a comment.
+/// Adds a row's calls.
 fn push_calls<'a>(
     alloc: Global,
     calls: &mut Vec<Call<'a>>,
     place: Place<'a>,
     row: &str,
 ) -> Result<(), AllocError> {
-    if row.is_empty() || row.starts_with("#") {
-        return Ok(());
-    }
     let (call, wanted) = row.split_once("=").unwrap_or((row, ".."));
     let (first, times, call) = counted(call.trim());
     for time in 0..times {
+        let is_last = time.saturating_add(1) == times;
         let number = first.saturating_add(time);
-        calls.push(Call {
-            place,
-            text: written_out(alloc, call, number)?,
-            wanted: written_out(alloc, wanted.trim(), number)?,
-            is_last: time.saturating_add(1) == times,
-        })?;
+        calls.push(call_of(alloc, place, call, wanted.trim(), number, is_last)?)?;
     }
     Ok(())
+}
+
+fn call_of<'a>(
+    alloc: Global,
+    place: Place<'a>,
+    call: &str,
+    wanted: &str,
+    number: u32,
+    is_last: bool,
+) -> Result<Call<'a>, AllocError> {
+    let text = written_out(alloc, call, number)?;
+    let wanted = written_out(alloc, wanted, number)?;
+    Ok(Call {
+        place,
+        text,
+        wanted,
+        is_last,
+    })
 }
 
 /// The number that stands for the first call of a row, how often the call is made, and the call.
@@ -151,81 +163,44 @@ fn counted(row: &str) -> (u32, u32, &str) {
     let Some((times, call)) = row.split_once(" times ") else {
         return (0, 1, row);
     };
-    let times = number(times).unwrap_or(1);
+    let times = times.parse::<u32>().unwrap_or(1);
     let Some(rest) = call.strip_prefix("from ") else {
         return (0, times, call);
     };
     let (first, call) = cut(rest);
-    (number(first).unwrap_or(0), times, call)
+    (first.parse::<u32>().unwrap_or(0), times, call)
 }
 
 /// Judges these calls of a subject.
 pub fn judge_calls<S: Subject>(
-    alloc: Global,
     subject: &mut S,
     calls: &[Call<'_>],
+    given: &mut Given,
     report: &mut Report,
-) -> Result<(), Trouble> {
-    let mut given = String::new(alloc);
+) {
     for call in calls {
-        given.clear();
         let (name, words) = cut(&call.text);
-        let answer = subject.answer(alloc, name, words, &mut given);
-        report.note(call, answer, &mut given)?;
+        subject.answer(name, words, given);
+        report.note(call, given.reply());
+        given.clear();
     }
-    Ok(())
 }
 
-/// A text with each `{N PART}` in it written out, also within another, and each `%` as this number.
+/// A text with each `%` as this number, and each `{N PART}` in it written out, also within another.
 fn written_out(alloc: Global, text: &str, time: u32) -> Result<String, AllocError> {
-    let mut whole = String::new(alloc);
-    let mut outer = Vec::new(alloc);
-    for (place, piece) in text.split("{").enumerate() {
-        if place > 0 {
-            outer.push(mem::replace(&mut whole, String::new(alloc)))?;
-        }
-        put_closing(alloc, &mut whole, &mut outer, piece, time)?;
+    let time = time.to_string(alloc)?;
+    let mut whole = text.replace(alloc, '%', &time)?;
+    for _ in text.split('{').skip(1) {
+        whole = with_last_part(alloc, &whole)?;
     }
     Ok(whole)
 }
 
-/// Writes a text each `}` of which closes a part.
-fn put_closing(
-    alloc: Global,
-    whole: &mut String,
-    outer: &mut Vec<String>,
-    text: &str,
-    time: u32,
-) -> Result<(), AllocError> {
-    for (place, piece) in text.split("}").enumerate() {
-        if place > 0 {
-            close(alloc, whole, outer)?;
-        }
-        put_numbered(whole, piece, time)?;
-    }
-    Ok(())
-}
-
-/// Writes the part `N PART` so often behind what stood before it.
-fn close(alloc: Global, whole: &mut String, outer: &mut Vec<String>) -> Result<(), AllocError> {
-    let before = match outer.pop() {
-        Some(before) => before,
-        None => String::new(alloc),
-    };
-    let part = mem::replace(whole, before);
+/// The text with the last `{N PART}` in it written out, within which there is no other.
+fn with_last_part(alloc: Global, text: &str) -> Result<String, AllocError> {
+    let (front, rest) = text.rsplit_once("{").unwrap_or((text, ""));
+    let (part, back) = rest.split_once("}").unwrap_or((rest, ""));
     let (count, part) = part.split_once(" ").unwrap_or(("0", ""));
-    let count = count.parse::<usize>().unwrap_or(0);
-    let part = part.repeat(alloc, count)?;
-    whole.push_str(&part)
-}
-
-/// Writes a text with `%` as this number.
-fn put_numbered(whole: &mut String, text: &str, time: u32) -> Result<(), AllocError> {
-    for (place, piece) in text.split("%").enumerate() {
-        if place > 0 {
-            write!(whole, "{time}")?;
-        }
-        whole.push_str(piece)?;
-    }
-    Ok(())
+    let part = part.repeat(alloc, count.parse::<usize>().unwrap_or(0))?;
+    format!(in alloc; "{front}{part}{back}")
 }

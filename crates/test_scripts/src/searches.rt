@@ -1,13 +1,12 @@
 //! Searches. Each line that a search learns is checked, and none is taken in where one isn't derived.
-use crate::reading::{Trouble, clause, cut_number, formula, line, literals, numbers};
+use crate::given::{Given, add, put_all, tell};
+use crate::reading::{Part, all, cut_number, formula};
 use crate::report::Report;
 use crate::scripts::{Section, Subject, judge_calls};
-use crate::telling::{put_done, put_literals, put_number, put_word};
 use batches::{Batch, BatchLine, Hint};
-use cdcl::{Found, SolveFault, Solver};
-use clauses::{Assignment, Formula, Lit};
-use refutations::{Line, MakeLineFault, check_line};
-use std::alloc::{AllocError, Global};
+use cdcl::{Found, Solver};
+use clauses::{Assignment, Clause, Formula, Lit};
+use refutations::{Line, check_line, clause_at};
 
 /// A solver, and the lines that were taken in.
 #[derive(Drop)]
@@ -18,209 +17,181 @@ struct Searches<'f> {
 }
 
 /// Judges a section `PROBED over N of CLAUSES`.
-pub fn judge(alloc: Global, section: Section<'_>, report: &mut Report) -> Result<(), Trouble> {
-    let Some((probed, text)) = section.heading.split_once("over ") else {
-        return Err(Trouble::Script("no formula"));
-    };
-    let probed = numbers(alloc, probed)?;
-    let formula = formula(alloc, text)?;
-    judge_over(alloc, &formula, probed.as_slice(), section, report)
-}
-
-fn judge_over(
-    alloc: Global,
-    formula: &Formula,
-    probed: &[u32],
-    section: Section<'_>,
-    report: &mut Report,
-) -> Result<(), Trouble> {
-    let mut searches = Searches {
-        formula,
-        solver: Solver::new(alloc, formula, probed)?,
-        lines: Vec::new(alloc),
-    };
-    judge_calls(alloc, &mut searches, section.calls, report)
-}
-
-impl Subject for Searches<'_> {
-    fn answer(
-        &mut self,
-        alloc: Global,
-        name: &str,
-        words: &str,
-        out: &mut String,
-    ) -> Result<(), Trouble> {
-        match name {
-            "conflicts" => put_conflicts(out, &self.solver)?,
-            "lines" => put_number(out, self.lines.len())?,
-            "import" => import(alloc, &mut self.solver, words, out)?,
-            "take_in" => take_in(alloc, &mut self.lines, words, out)?,
-            _ => {
-                let Searches {
-                    formula,
-                    solver,
-                    lines,
-                } = self;
-                called(alloc, formula, solver, lines, name, words, out)?;
-            }
-        }
-        Ok(())
+pub fn judge(section: Section<'_>, given: &mut Given, report: &mut Report) {
+    let (probed, text) = section
+        .heading
+        .split_once("over ")
+        .unwrap_or(("", section.heading));
+    let probed = all::<u32>(probed, ' ', given);
+    if let Some(formula) = formula(text, given) {
+        judge_over(&formula, probed.as_slice(), section, given, report);
     }
 }
 
-fn put_conflicts(out: &mut String, solver: &Solver<'_>) -> Result<(), AllocError> {
-    let count = solver.conflicts();
-    write!(out, "{count}")
+fn judge_over(
+    formula: &Formula,
+    probed: &[u32],
+    section: Section<'_>,
+    given: &mut Given,
+    report: &mut Report,
+) {
+    match Solver::new(given.alloc, formula, probed) {
+        Ok(solver) => {
+            let mut searches = Searches {
+                formula,
+                solver,
+                lines: Vec::new(given.alloc),
+            };
+            judge_calls(&mut searches, section.calls, given, report);
+        }
+        Err(_error) => given.refuse("memory"),
+    }
+}
+
+impl Subject for Searches<'_> {
+    fn answer(&mut self, name: &str, words: &str, given: &mut Given) {
+        let Searches {
+            formula,
+            solver,
+            lines,
+        } = self;
+        match name {
+            "conflicts" => given.show(solver.conflicts()),
+            "lines" => given.number(lines.len()),
+            "import" => import(solver, words, given),
+            "take_in" => take_in(lines, words, given),
+            _ => called(formula, solver, lines, name, words, given),
+        }
+    }
 }
 
 /// Imports a clause under a number, such as `5 1 -2`.
-fn import(
-    alloc: Global,
-    solver: &mut Solver<'_>,
-    words: &str,
-    out: &mut String,
-) -> Result<(), Trouble> {
-    let (number, words) = cut_number(words)?;
-    let clause = clause(alloc, words)?;
-    put_done(out, solver.import(alloc, number, &clause))?;
-    Ok(())
+fn import(solver: &mut Solver<'_>, words: &str, given: &mut Given) {
+    let (number, words) = cut_number(words, given);
+    if let Some(clause) = Clause::read(words, given) {
+        tell(&solver.import(given.alloc, number, &clause), given);
+    }
 }
 
 /// Takes in a line, unchecked.
-fn take_in(
-    alloc: Global,
-    lines: &mut Vec<Line>,
-    words: &str,
-    out: &mut String,
-) -> Result<(), Trouble> {
-    lines.push(line(alloc, words)?)?;
-    put_word(out, "ok")?;
-    Ok(())
+fn take_in(lines: &mut Vec<Line>, words: &str, given: &mut Given) {
+    if let Some(line) = Line::read(words, given) {
+        add(lines, line, given);
+        given.put("ok");
+    }
 }
 
 /// A search with so many conflicts below a cube, such as `100 -1 2`.
 fn called(
-    alloc: Global,
     formula: &Formula,
     solver: &mut Solver<'_>,
     lines: &mut Vec<Line>,
     name: &str,
     words: &str,
-    out: &mut String,
-) -> Result<(), Trouble> {
-    let (budget, words) = cut_number(words)?;
-    let cube = literals(alloc, words)?;
-    let cube = cube.as_slice();
+    given: &mut Given,
+) {
+    let (budget, words) = cut_number(words, given);
     let budget = u64::from(budget);
+    let cube = all::<Lit>(words, ' ', given);
+    let cube = cube.as_slice();
     match name {
-        "search" => {
-            let _is_end = search(alloc, formula, solver, lines, cube, budget, out)?;
-            Ok(())
-        }
-        "search_on" => search_on(alloc, formula, solver, lines, cube, budget, out),
-        "lose" => lose(alloc, formula, solver, lines, cube, budget, out),
-        _ => Err(Trouble::Script("no such call")),
+        "search" => search_on(formula, solver, lines, cube, budget, 1, given),
+        "search_on" => search_on(formula, solver, lines, cube, budget, 1_000, given),
+        "lose" => lose(formula, solver, lines, cube, budget, given),
+        _ => given.refuse("not made: no such call"),
     }
 }
 
-/// Searches once, hands the lines back, and answers whether that was the end.
-fn search(
-    alloc: Global,
+/// Searches with so many conflicts each time, and hands the lines back, until one tells the end, or so often.
+fn search_on(
     formula: &Formula,
     solver: &mut Solver<'_>,
     lines: &mut Vec<Line>,
     cube: &[Lit],
     budget: u64,
-    out: &mut String,
-) -> Result<bool, Trouble> {
-    match solver.search(alloc, cube, budget) {
-        Ok(found) => take(alloc, formula, solver, lines, &found, cube, out),
+    times: u32,
+    given: &mut Given,
+) {
+    for _ in 0..times {
+        given.rewrite();
+        if search(formula, solver, lines, cube, budget, given) {
+            return;
+        }
+    }
+    if times > 1 {
+        given.word("and no end");
+    }
+}
+
+/// Searches once, hands the lines back, and answers whether that was the end.
+fn search(
+    formula: &Formula,
+    solver: &mut Solver<'_>,
+    lines: &mut Vec<Line>,
+    cube: &[Lit],
+    budget: u64,
+    given: &mut Given,
+) -> bool {
+    match solver.search(given.alloc, cube, budget) {
+        Ok(found) => take(formula, solver, lines, &found, cube, given),
         Err(fault) => {
-            write!(out, "{fault}")?;
-            Ok(true)
+            given.show(fault);
+            true
         }
     }
 }
 
 /// Takes in what was found, and answers whether it is an end.
 fn take(
-    alloc: Global,
     formula: &Formula,
     solver: &mut Solver<'_>,
     lines: &mut Vec<Line>,
     found: &Found,
     cube: &[Lit],
-    out: &mut String,
-) -> Result<bool, Trouble> {
-    let base = next_number(formula, lines.as_slice());
+    given: &mut Given,
+) -> bool {
     match found {
         Found::Model(assignment) => {
-            put_model(out, formula, cube, assignment)?;
-            Ok(true)
+            put_model(formula, cube, assignment, given);
+            true
         }
         Found::Closed(batch, last) => {
-            take_batch(alloc, formula, solver, lines, batch)?;
-            put_closing(formula, lines.as_slice(), number_of(base, last), out)?;
-            Ok(true)
+            let number = number_of(next_number(formula, lines.as_slice()), last);
+            take_batch(formula, solver, lines, batch, given);
+            put_closing(formula, lines.as_slice(), number, given);
+            true
         }
         Found::Budget(batch) => {
-            take_batch(alloc, formula, solver, lines, batch)?;
-            put_word(out, "budget")?;
-            put_none(out, batch)?;
-            Ok(false)
+            take_batch(formula, solver, lines, batch, given);
+            given.put(if batch.lines.is_empty() {
+                "budget without lines"
+            } else {
+                "budget"
+            });
+            false
         }
     }
-}
-
-/// Tells that there are no lines.
-fn put_none(out: &mut String, batch: &Batch) -> Result<(), AllocError> {
-    if batch.lines.is_empty() {
-        return put_word(out, "without lines");
-    }
-    Ok(())
-}
-
-/// Searches on with so many conflicts each time until one tells the end.
-fn search_on(
-    alloc: Global,
-    formula: &Formula,
-    solver: &mut Solver<'_>,
-    lines: &mut Vec<Line>,
-    cube: &[Lit],
-    budget: u64,
-    out: &mut String,
-) -> Result<(), Trouble> {
-    for _ in 0..1_000 {
-        out.clear();
-        if search(alloc, formula, solver, lines, cube, budget, out)? {
-            return Ok(());
-        }
-    }
-    put_word(out, "and no end")?;
-    Ok(())
 }
 
 /// Searches once, has the lines checked, and forgets them.
 fn lose(
-    alloc: Global,
     formula: &Formula,
     solver: &mut Solver<'_>,
     lines: &mut Vec<Line>,
     cube: &[Lit],
     budget: u64,
-    out: &mut String,
-) -> Result<(), Trouble> {
-    let count = lines.len();
-    match solver.search(alloc, cube, budget) {
+    given: &mut Given,
+) {
+    match solver.search(given.alloc, cube, budget) {
         Ok(Found::Budget(batch)) => {
-            accept(alloc, formula, lines, &batch)?;
+            let count = lines.len();
+            accept(formula, lines, &batch, given);
             lines.truncate(count);
-            put_word(out, "lost")?;
+            given.put("lost");
         }
-        Ok(_found) => put_word(out, "an end")?,
-        Err(fault) => write!(out, "{fault}")?,
+        Ok(_found) => given.put("an end"),
+        Err(fault) => given.show(fault),
     }
-    Ok(())
 }
 
 /// The number that the next line gets.
@@ -237,106 +208,65 @@ fn number_of(base: u32, hint: &Hint) -> u32 {
     }
 }
 
-fn line_of(alloc: Global, base: u32, found: &BatchLine) -> Result<Line, Trouble> {
-    let mut hints = Vec::new(alloc);
+fn line_of(base: u32, found: &BatchLine, given: &mut Given) -> Option<Line> {
+    let mut hints = Vec::new(given.alloc);
     for hint in &found.hints {
-        hints.push(number_of(base, hint))?;
+        add(&mut hints, number_of(base, hint), given);
     }
-    match Line::make(alloc, found.clause.literals(), &hints) {
-        Ok(line) => Ok(line),
-        Err(MakeLineFault::Memory) => Err(Trouble::Memory),
-        Err(_fault) => Err(Trouble::Script("a hint out of range")),
-    }
+    Line::make(given.alloc, found.clause.literals(), hints.as_slice()).ok()
 }
 
 /// Has each line of the batch checked, and takes it in.
-fn accept(
-    alloc: Global,
-    formula: &Formula,
-    lines: &mut Vec<Line>,
-    batch: &Batch,
-) -> Result<(), Trouble> {
+fn accept(formula: &Formula, lines: &mut Vec<Line>, batch: &Batch, given: &mut Given) {
     let base = next_number(formula, lines.as_slice());
     for found in &batch.lines {
-        accept_line(alloc, formula, lines, line_of(alloc, base, found)?)?;
+        match line_of(base, found, given) {
+            Some(line) => accept_line(formula, lines, line, given),
+            None => given.refuse("a hint out of range"),
+        }
     }
-    Ok(())
 }
 
-fn accept_line(
-    alloc: Global,
-    formula: &Formula,
-    lines: &mut Vec<Line>,
-    line: Line,
-) -> Result<(), Trouble> {
-    if check_line(alloc, formula, &lines.as_slice(), &line).is_err() {
-        return Err(Trouble::Script("a line that isn't derived"));
+fn accept_line(formula: &Formula, lines: &mut Vec<Line>, line: Line, given: &mut Given) {
+    if check_line(given.alloc, formula, &lines.as_slice(), &line).is_err() {
+        given.refuse("a line that isn't derived");
     }
-    lines.push(line)?;
-    Ok(())
+    add(lines, line, given);
 }
 
 /// Has the batch's lines checked, and hands them back to the solver.
 fn take_batch(
-    alloc: Global,
     formula: &Formula,
     solver: &mut Solver<'_>,
     lines: &mut Vec<Line>,
     batch: &Batch,
-) -> Result<(), Trouble> {
-    let base = next_number(formula, lines.as_slice());
-    accept(alloc, formula, lines, batch)?;
-    for (place, found) in batch.lines.iter().enumerate() {
-        hand_back(alloc, solver, base, place, found)?;
-    }
-    Ok(())
-}
-
-fn hand_back(
-    alloc: Global,
-    solver: &mut Solver<'_>,
-    base: u32,
-    place: usize,
-    found: &BatchLine,
-) -> Result<(), Trouble> {
-    let number = u32::try_from(place)
-        .unwrap_or(u32::MAX)
-        .saturating_add(base);
-    match solver.import(alloc, number, &found.clause) {
-        Ok(()) => Ok(()),
-        Err(SolveFault::Memory) => Err(Trouble::Memory),
-        Err(_fault) => Err(Trouble::Script("a line that doesn't come back")),
+    given: &mut Given,
+) {
+    let mut number = next_number(formula, lines.as_slice());
+    accept(formula, lines, batch, given);
+    for found in &batch.lines {
+        if solver.import(given.alloc, number, &found.clause).is_err() {
+            given.refuse("a line that doesn't come back");
+        }
+        number = number.saturating_add(1);
     }
 }
 
-fn put_model(
-    out: &mut String,
-    formula: &Formula,
-    cube: &[Lit],
-    assignment: &Assignment,
-) -> Result<(), AllocError> {
+fn put_model(formula: &Formula, cube: &[Lit], assignment: &Assignment, given: &mut Given) {
     let is_model = assignment.satisfies(formula)
         && cube.iter().all(|literal| assignment.holds(literal));
-    put_word(
-        out,
-        if is_model {
-            "model"
-        } else {
-            "an assignment that is no model"
-        },
-    )
+    given.put(if is_model {
+        "model"
+    } else {
+        "an assignment that is no model"
+    });
 }
 
 /// Tells the clause of this number, by which the cube is closed.
-fn put_closing(
-    formula: &Formula,
-    lines: &[Line],
-    number: u32,
-    out: &mut String,
-) -> Result<(), AllocError> {
-    put_word(out, "closed by")?;
-    match refutations::clause_at(formula, &lines, number) {
-        Some(literals) => put_literals(out, literals),
-        None => put_word(out, "no clause"),
+fn put_closing(formula: &Formula, lines: &[Line], number: u32, given: &mut Given) {
+    given.put("closed by");
+    match clause_at(formula, &lines, number) {
+        Some(literals) => put_all(literals, given),
+        None => given.put(" no clause"),
     }
 }

@@ -1,18 +1,16 @@
 //! A pool's calls: by the pool itself, by one `run`, and under a lock by two workers with their seats.
-ghost use Rattle.std.specs.Prelude.{◌≡◌, IfOk, [], length};
+ghost use Rattle.std.specs.Prelude.{◌≡◌, IfSome, [], length};
 ghost use Rattle.crossbeam_utils.specs.Seq.{cell_view};
 ghost use Rattle.sharedpool.specs.Views.{knower};
 
 use crate::encodings::encoded;
-use crate::evidences::put_evidence;
-use crate::reading::{Trouble, cut, event, number, place_count, why_of};
+use crate::given::{Given, Show, add, put_all, tell};
+use crate::reading::{cut, event, number, why_of};
 use crate::report::{Call, Report};
 use crate::scripts::{Section, Subject, judge_calls};
-use crate::telling::{put_done, put_number, put_path, put_places, put_reply, put_status};
 use clauses::LARGEST_VARIABLE;
 use encode::Encoded;
-use pool::{AssembleFault, Event, Pool, Reply, Share, run};
-use prooflog::Evidence;
+use pool::{Event, Pool, Reply, Share, Status, run};
 use sharedpool::{Cell, Room, SharedPool, Token, open_room};
 use std::alloc::{AllocError, Global};
 use std::marker::Brand;
@@ -29,98 +27,111 @@ struct Handed {
     kept: Reply,
 }
 
+/// Judges calls of a pool, before which workers made so many.
+fn judge_handed(
+    pool: Pool,
+    counts: Vec<usize>,
+    calls: &[Call<'_>],
+    given: &mut Given,
+    report: &mut Report,
+) {
+    let mut handed = Handed {
+        pool,
+        counts,
+        kept: Reply::Leave,
+    };
+    judge_calls(&mut handed, calls, given, report);
+}
+
 /// Judges calls of a new pool.
 pub fn judge_pool<R: Threads + Sync>(
     rt: &R,
-    alloc: Global,
     section: Section<'_>,
+    given: &mut Given,
     report: &mut Report,
-) -> Result<(), Trouble> {
-    let pool = fresh(rt, alloc, section.heading)?;
-    let mut handed = Handed {
-        pool,
-        counts: Vec::new(alloc),
-        kept: Reply::Leave,
-    };
-    judge_calls(alloc, &mut handed, section.calls, report)
+) {
+    if let Some(pool) = fresh(rt, section.heading, given) {
+        judge_handed(pool, Vec::new(given.alloc), section.calls, given, report);
+    }
 }
 
 /// A pool with a tree of one leaf over a text's program.
-fn fresh<R: Threads + Sync>(rt: &R, alloc: Global, text: &str) -> Result<Pool, Trouble>
-    ensures { IfOk result (λ pool. pool.history ≡ []) }
+fn fresh<R: Threads + Sync>(rt: &R, text: &str, given: &mut Given) -> Option<Pool>
+    ensures { IfSome result (λ pool. pool.history ≡ []) }
 {
-    let encoded = encoded(rt, alloc, text)?;
-    let tree = one_leaf(alloc, &encoded)?;
-    match Pool::new(alloc, encoded, tree) {
-        Ok(pool) => Ok(pool),
-        Err(AllocError) => Err(Trouble::Memory),
+    match encoded(rt, text, given) {
+        Some(encoded) => fresh_of(given.alloc, encoded),
+        None => None,
     }
 }
 
-fn one_leaf(alloc: Global, encoded: &Encoded) -> Result<Tree, Trouble>
-    ensures { IfOk result (λ tree. tree.variables ≡ encoded.now.formula.variables) }
+fn fresh_of(alloc: Global, encoded: Encoded) -> Option<Pool>
+    ensures { IfSome result (λ pool. pool.history ≡ []) }
+{
+    match one_leaf(alloc, &encoded) {
+        Some(tree) => Pool::new(alloc, encoded, tree).ok(),
+        None => None,
+    }
+}
+
+fn one_leaf(alloc: Global, encoded: &Encoded) -> Option<Tree>
+    ensures { IfSome result (λ tree. tree.variables ≡ encoded.now.formula.variables) }
 {
     let variables = encoded.formula().variables();
     if variables > LARGEST_VARIABLE {
-        return Err(Trouble::Script("too many variables"));
+        return None;
     }
-    match Tree::new(alloc, variables) {
-        Ok(tree) => Ok(tree),
-        Err(AllocError) => Err(Trouble::Memory),
-    }
+    Tree::new(alloc, variables).ok()
 }
 
 impl Subject for Handed {
-    fn answer(
-        &mut self,
-        alloc: Global,
-        name: &str,
-        words: &str,
-        out: &mut String,
-    ) -> Result<(), Trouble> {
+    fn answer(&mut self, name: &str, words: &str, given: &mut Given) {
         match name {
-            "then" => put_places(out, self.counts.as_slice())?,
-            "kept" => put_reply(out, &self.kept)?,
-            "status" => put_status(out, self.pool.status())?,
-            "history" => put_number(out, self.pool.history().len())?,
-            "path" => put_path(out, &self.pool.path(alloc, number(words)?))?,
-            "evidence" => put_assembled(alloc, &self.pool.assemble(alloc), out)?,
-            "keep_places" => put_done(out, self.pool.keep_places(place_count(words)?))?,
-            "leave_kept" => leave_kept(&mut self.pool, words, out)?,
+            "then" => put_all(self.counts.as_slice(), given),
+            "kept" => self.kept.put(given),
+            "status" => self.pool.status().put(given),
+            "history" => given.number(self.pool.history().len()),
+            "path" => put_path(&self.pool, words, given),
+            "evidence" => tell(&self.pool.assemble(given.alloc), given),
+            "keep_places" => keep_places(&mut self.pool, words, given),
+            "leave_kept" => leave_kept(&mut self.pool, words, given),
             _ => {
-                let reply = made(alloc, &mut self.pool, event(alloc, name, words)?)?;
-                put_and_keep(out, &mut self.kept, reply)?;
+                if let Some(event) = event(name, words, given) {
+                    let reply = made(given.alloc, &mut self.pool, event);
+                    put_and_keep(&mut self.kept, reply, given);
+                }
             }
         }
-        Ok(())
     }
 }
 
 /// Writes the reply, and keeps it where it is one to a `fetch`.
-fn put_and_keep(out: &mut String, kept: &mut Reply, reply: Reply) -> Result<(), AllocError> {
-    put_reply(out, &reply)?;
-    if matches!(&reply, Reply::Fetch(_)) {
-        let _before = mem::replace(kept, reply);
-    }
-    Ok(())
-}
-
-/// The evidence, or why there is none.
-fn put_assembled(
-    alloc: Global,
-    assembled: &Result<Evidence, AssembleFault>,
-    out: &mut String,
-) -> Result<(), Trouble> {
-    match assembled {
-        Ok(evidence) => put_evidence(alloc, evidence, out),
-        Err(fault) => Ok(write!(out, "{fault}")?),
+fn put_and_keep(kept: &mut Reply, reply: Result<Reply, AllocError>, given: &mut Given) {
+    tell(&reply, given);
+    if let Ok(Reply::Fetch(lines)) = reply {
+        let _before = mem::replace(kept, Reply::Fetch(lines));
     }
 }
 
-fn leave_kept(pool: &mut Pool, words: &str, out: &mut String) -> Result<(), Trouble> {
+fn put_path(pool: &Pool, leaf: &str, given: &mut Given) {
+    let leaf = number(leaf, given);
+    tell(&pool.path(given.alloc, leaf), given);
+}
+
+/// Keeps so many places; `most` for the largest number.
+fn keep_places(pool: &mut Pool, word: &str, given: &mut Given) {
+    let places = if word == "most" {
+        usize::MAX
+    } else {
+        number(word, given) as usize
+    };
+    tell(&pool.keep_places(places), given);
+}
+
+fn leave_kept(pool: &mut Pool, words: &str, given: &mut Given) {
     let (worker, word) = cut(words);
-    put_done(out, pool.leave_kept(number(worker)?, why_of(word)))?;
-    Ok(())
+    let worker = number(worker, given);
+    tell(&pool.leave_kept(worker, why_of(word)), given);
 }
 
 /// Makes a call of the pool.
@@ -146,156 +157,199 @@ fn made(alloc: Global, pool: &mut Pool, event: Event) -> Result<Reply, AllocErro
     }
 }
 
+/// What a call of a pool was answered.
+impl Show for Reply {
+    fn put(&self, given: &mut Given) {
+        match self {
+            Reply::Publish(answer) => tell(answer, given),
+            Reply::Fetch(answer) => tell(answer, given),
+            Reply::Close(answer) => tell(answer, given),
+            Reply::Split(answer) => tell(answer, given),
+            Reply::Found(answer) => tell(answer, given),
+            Reply::Leave => given.put("ok"),
+        }
+    }
+}
+
+/// Such as `found, 2 open, budget`.
+impl Show for Status {
+    fn put(&self, given: &mut Given) {
+        if self.is_found {
+            given.put("found, ");
+        }
+        given.show(self.open_leaves);
+        given.put(" open");
+        if let Some(why) = self.why {
+            given.put(", ");
+            given.show(why);
+        }
+    }
+}
+
 /// Judges the calls before `then` by one run of them all, and the others on the pool that it leaves.
 pub fn judge_run<R: Threads + Sync>(
     rt: &R,
-    alloc: Global,
     section: Section<'_>,
+    given: &mut Given,
     report: &mut Report,
-) -> Result<(), Trouble> {
-    let encoded = encoded(rt, alloc, section.heading)?;
-    let events = events_of(alloc, section.calls)?;
-    let (pool, replies) = pool_after(alloc, encoded, events.as_slice())?;
-    let mut handed = Handed {
-        pool,
-        counts: Vec::new(alloc),
-        kept: Reply::Leave,
-    };
-    judge_replies(alloc, replies.as_slice(), section.calls, report)?;
-    judge_calls(alloc, &mut handed, section.later, report)
+) {
+    let events = events_of(section.calls, given);
+    if let Some(encoded) = encoded(rt, section.heading, given) {
+        judge_run_of(encoded, events.as_slice(), section, given, report);
+    }
 }
 
-fn pool_after(
-    alloc: Global,
+fn judge_run_of(
     encoded: Encoded,
     events: &[Event],
-) -> Result<(Pool, Vec<Reply>), Trouble> {
-    let tree = one_leaf(alloc, &encoded)?;
-    match run(alloc, encoded, tree, events) {
-        Ok(after) => Ok(after),
-        Err(AllocError) => Err(Trouble::Memory),
+    section: Section<'_>,
+    given: &mut Given,
+    report: &mut Report,
+) {
+    match pool_after(given.alloc, encoded, events) {
+        Some((pool, replies)) => {
+            judge_replies(replies.as_slice(), section.calls, given, report);
+            judge_handed(pool, Vec::new(given.alloc), section.later, given, report);
+        }
+        None => given.refuse("not run"),
     }
 }
 
-fn events_of(alloc: Global, calls: &[Call<'_>]) -> Result<Vec<Event>, Trouble> {
-    let mut events = Vec::new(alloc);
+fn pool_after(alloc: Global, encoded: Encoded, events: &[Event]) -> Option<(Pool, Vec<Reply>)> {
+    match one_leaf(alloc, &encoded) {
+        Some(tree) => run(alloc, encoded, tree, events).ok(),
+        None => None,
+    }
+}
+
+fn events_of(calls: &[Call<'_>], given: &mut Given) -> Vec<Event> {
+    let mut events = Vec::new(given.alloc);
     for call in calls {
         let (name, words) = cut(&call.text);
-        events.push(event(alloc, name, words)?)?;
+        if let Some(event) = event(name, words, given) {
+            add(&mut events, event, given);
+        }
     }
-    Ok(events)
+    events
 }
 
 /// Judges calls by these replies.
-fn judge_replies(
-    alloc: Global,
-    replies: &[Reply],
-    calls: &[Call<'_>],
-    report: &mut Report,
-) -> Result<(), AllocError> {
-    let mut given = String::new(alloc);
+fn judge_replies(replies: &[Reply], calls: &[Call<'_>], given: &mut Given, report: &mut Report) {
     for (call, reply) in calls.iter().zip(replies) {
+        reply.put(given);
+        report.note(call, given.reply());
         given.clear();
-        put_reply(&mut given, reply)?;
-        report.note(call, Ok(()), &mut given)?;
     }
-    Ok(())
 }
 
 /// Judges the calls before `then` with the seats of two workers, and the others on the pool that is handed out.
 pub fn judge_seats<R: Threads + Wait + Sync>(
     rt: &R,
-    alloc: Global,
     section: Section<'_>,
+    given: &mut Given,
     report: &mut Report,
-) -> Result<(), Trouble> {
-    let pool = fresh(rt, alloc, section.heading)?;
-    let (cell, keeper) = open_room(alloc)?;
-    let (pool, counts) = finished::<Brand, R>(
-        rt,
-        alloc,
-        cell,
-        keeper,
-        pool,
-        section.calls,
-        report,
-    )?;
-    let mut handed = Handed {
-        pool,
-        counts,
-        kept: Reply::Leave,
-    };
-    judge_calls(alloc, &mut handed, section.later, report)
+) {
+    if let Some(pool) = fresh(rt, section.heading, given) {
+        judge_seats_of(rt, pool, section, given, report);
+    }
+}
+
+fn judge_seats_of<R: Wait>(
+    rt: &R,
+    pool: Pool,
+    section: Section<'_>,
+    given: &mut Given,
+    report: &mut Report,
+)
+    requires { pool.history ≡ [] }
+{
+    match finished_in(rt, pool, section.calls, given, report) {
+        Some((pool, counts)) => judge_handed(pool, counts, section.later, given, report),
+        None => given.refuse("not finished"),
+    }
+}
+
+fn finished_in<R: Wait>(
+    rt: &R,
+    pool: Pool,
+    calls: &[Call<'_>],
+    given: &mut Given,
+    report: &mut Report,
+) -> Option<(Pool, Vec<usize>)>
+    requires { pool.history ≡ [] }
+{
+    match open_room(given.alloc) {
+        Ok((cell, keeper)) => finished::<Brand, R>(rt, cell, keeper, pool, calls, given, report),
+        Err(_error) => None,
+    }
 }
 
 /// The pool after the calls, in a room that has a name, and how many calls each worker made.
 fn finished<B: Room, R: Wait>(
     rt: &R,
-    alloc: Global,
     cell: Cell,
     keeper: Token,
     pool: Pool,
     calls: &[Call<'_>],
+    given: &mut Given,
     report: &mut Report,
-) -> Result<(Pool, Vec<usize>), Trouble>
+) -> Option<(Pool, Vec<usize>)>
     requires room { (cell.table.shared.table_id ≡ B.table) × (keeper.table_id ≡ B.table) × (cell_view keeper ≡ knower 0 []) }
     requires fresh { (pool.history ≡ []) × (pool.held ≡ B.opening) }
     requires workers { B.workers ≡ 2 }
 {
-    let (shared, mut seats) = SharedPool::<B>::new(alloc, cell, keeper, pool, 2)?;
-    judge_shared(rt, alloc, &shared, seats.as_mut_slice(), calls, report)?;
+    let alloc = given.alloc;
+    let Ok((shared, mut seats)) = SharedPool::<B>::new(alloc, cell, keeper, pool, 2) else {
+        return None;
+    };
+    judge_shared(rt, &shared, seats.as_mut_slice(), calls, given, report);
     seats.reverse();
-    match shared.finish(rt, alloc, seats) {
-        Ok(finished) => Ok(finished),
-        Err(_back) => Err(Trouble::Script("not finished")),
-    }
+    shared.finish(rt, alloc, seats).ok()
 }
 
 fn judge_shared<S: Share, R: Wait>(
     rt: &R,
-    alloc: Global,
     shared: &S,
     seats: &mut [S::Seat],
     calls: &[Call<'_>],
+    given: &mut Given,
     report: &mut Report,
-) -> Result<(), AllocError> {
-    let mut given = String::new(alloc);
+) {
     let mut kept = Reply::Leave;
     for call in calls {
+        answer(rt, shared, seats, &call.text, &mut kept, given);
+        report.note(call, given.reply());
         given.clear();
-        let answer = answer(rt, alloc, shared, seats, &call.text, &mut kept, &mut given);
-        report.note(call, answer, &mut given)?;
     }
-    Ok(())
 }
 
 /// Makes a call that takes no seat, or one that a worker makes with its own.
 fn answer<S: Share, R: Wait>(
     rt: &R,
-    alloc: Global,
     shared: &S,
     seats: &mut [S::Seat],
     call: &str,
     kept: &mut Reply,
-    out: &mut String,
-) -> Result<(), Trouble> {
+    given: &mut Given,
+) {
     let (name, words) = cut(call);
     match name {
-        "kept" => put_reply(out, kept)?,
-        "status" => put_status(out, shared.status(rt))?,
-        "path" => put_path(out, &shared.path(rt, alloc, number(words)?))?,
-        "evidence" => put_assembled(alloc, &shared.assemble(rt, alloc), out)?,
+        "kept" => kept.put(given),
+        "status" => shared.status(rt).put(given),
+        "path" => put_shared_path(rt, shared, words, given),
+        "evidence" => tell(&shared.assemble(rt, given.alloc), given),
         _ => {
-            let worker = number(cut(words).0)?;
-            let event = event(alloc, name, words)?;
-            let Some(seat) = seats.get_mut(worker as usize) else {
-                return Err(Trouble::Script("no such seat"));
-            };
-            let reply = asked(rt, alloc, shared, seat, event)?;
-            put_and_keep(out, kept, reply)?;
+            if let Some(event) = event(name, words, given) {
+                let reply = asked(rt, given.alloc, shared, seats, event);
+                put_and_keep(kept, reply, given);
+            }
         }
     }
-    Ok(())
+}
+
+fn put_shared_path<S: Share, R: Wait>(rt: &R, shared: &S, leaf: &str, given: &mut Given) {
+    let leaf = number(leaf, given);
+    tell(&shared.path(rt, given.alloc, leaf), given);
 }
 
 /// Makes a worker's call with its seat.
@@ -303,9 +357,12 @@ fn asked<S: Share, R: Wait>(
     rt: &R,
     alloc: Global,
     shared: &S,
-    seat: &mut S::Seat,
+    seats: &mut [S::Seat],
     event: Event,
 ) -> Result<Reply, AllocError> {
+    let Some(seat) = seats.get_mut(worker_of(&event) as usize) else {
+        return Err(AllocError);
+    };
     match event {
         Event::Publish { batch, .. } => {
             Ok(Reply::Publish(shared.publish(rt, alloc, seat, &batch)))
@@ -320,5 +377,17 @@ fn asked<S: Share, R: Wait>(
             Ok(()) => Ok(Reply::Leave),
             Err(error) => Err(error),
         },
+    }
+}
+
+/// The worker that makes the call.
+fn worker_of(event: &Event) -> u32 {
+    match event {
+        Event::Publish { worker, .. } => *worker,
+        Event::Fetch { worker, .. } => *worker,
+        Event::Close { worker, .. } => *worker,
+        Event::Split { worker, .. } => *worker,
+        Event::Found { worker, .. } => *worker,
+        Event::Leave { worker, .. } => *worker,
     }
 }

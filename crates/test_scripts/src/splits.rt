@@ -1,112 +1,114 @@
 //! Trees whose leaves are split.
-use crate::reading::{Trouble, cut, number, numbers};
+use crate::given::{Given, Show, put_all, tell};
+use crate::reading::{all, cut, number};
 use crate::report::Report;
 use crate::scripts::{Section, Subject, judge_calls};
-use crate::telling::{put_literals, put_nodes, put_number, put_pair, put_word};
 use clauses::LARGEST_VARIABLE;
 use refutations::{Node, is_numbered};
-use std::alloc::{AllocError, Global};
 use trees::{Kind, Tree};
 
-pub fn judge(alloc: Global, section: Section<'_>, report: &mut Report) -> Result<(), Trouble> {
-    let variables = number(section.heading)?;
+pub fn judge(section: Section<'_>, given: &mut Given, report: &mut Report) {
+    let variables = number(section.heading, given);
     if variables > LARGEST_VARIABLE {
-        return Err(Trouble::Script("too many variables"));
+        return given.refuse("too many variables");
     }
-    let mut tree = Tree::new(alloc, variables)?;
-    judge_calls(alloc, &mut tree, section.calls, report)
+    match Tree::new(given.alloc, variables) {
+        Ok(mut tree) => judge_calls(&mut tree, section.calls, given, report),
+        Err(_error) => given.refuse("memory"),
+    }
 }
 
 impl Subject for Tree {
-    fn answer(
-        &mut self,
-        alloc: Global,
-        name: &str,
-        words: &str,
-        out: &mut String,
-    ) -> Result<(), Trouble> {
+    fn answer(&mut self, name: &str, words: &str, given: &mut Given) {
         match name {
-            "split" => split(alloc, self, words, out),
-            "nodes" => Ok(put_number(out, self.len())?),
-            "kind" => Ok(put_kind(out, self.kind(number(words)?))?),
-            "path" => put_path(out, self, number(words)?),
-            "paths" => Ok(put_paths(out, self)?),
-            "proof_tree" => put_preorder(alloc, self, words, out),
-            _ => Err(Trouble::Script("no such call")),
+            "split" => split(self, words, given),
+            "nodes" => given.number(self.len()),
+            "kind" => self.kind(number(words, given)).put(given),
+            "path" => put_path(self, words, given),
+            "paths" => self.put(given),
+            "proof_tree" => put_preorder(self, words, given),
+            _ => given.refuse("not made: no such call"),
         }
     }
 }
 
 /// The leaf of this number, or the last node's.
-fn leaf_of(tree: &Tree, word: &str) -> Result<u32, Trouble> {
+fn leaf_of(tree: &Tree, word: &str, given: &mut Given) -> u32 {
     if word == "last" {
-        return Ok(tree.len().saturating_sub(1) as u32);
+        return tree.len().saturating_sub(1) as u32;
     }
-    number(word)
+    number(word, given)
 }
 
 /// Splits a leaf on a variable, such as `0 2`.
-fn split(alloc: Global, tree: &mut Tree, words: &str, out: &mut String) -> Result<(), Trouble> {
+fn split(tree: &mut Tree, words: &str, given: &mut Given) {
     let (leaf, variable) = cut(words);
-    let leaf = leaf_of(tree, leaf)?;
-    let variable = number(variable)?;
+    let leaf = leaf_of(tree, leaf, given);
+    let variable = number(variable, given);
     if !tree.is_leaf(leaf) {
-        return Err(Trouble::Script("no leaf"));
+        return given.refuse("not made: no leaf");
     }
     if variable == 0 || variable > tree.variables() {
-        return Err(Trouble::Script("no variable"));
+        return given.refuse("not made: no variable");
     }
-    put_pair(out, tree.split_leaf(alloc, leaf, variable))?;
-    Ok(())
+    tell(&tree.split_leaf(given.alloc, leaf, variable), given);
 }
 
 /// Such as `split 1 3 4`: the variable, and the nodes where it is true and where it is false.
-pub fn put_kind(out: &mut String, kind: Option<Kind>) -> Result<(), AllocError> {
-    match kind {
-        None => put_word(out, "none"),
-        Some(Kind::Leaf) => put_word(out, "leaf"),
-        Some(
-            Kind::Split {
-                variable,
-                if_true,
-                if_false,
-            },
-        ) => write!(out, "split {variable} {if_true} {if_false}"),
+impl Show for Option<Kind> {
+    fn put(&self, given: &mut Given) {
+        match *self {
+            None => given.put("none"),
+            Some(Kind::Leaf) => given.put("leaf"),
+            Some(
+                Kind::Split {
+                    variable,
+                    if_true,
+                    if_false,
+                },
+            ) => {
+                given.put("split");
+                put_all(&[variable, if_true, if_false], given);
+            }
+        }
     }
 }
 
-fn put_path(out: &mut String, tree: &Tree, node: u32) -> Result<(), Trouble> {
+fn put_path(tree: &Tree, word: &str, given: &mut Given) {
+    let node = number(word, given);
     if node as usize >= tree.len() {
-        return Err(Trouble::Script("no node"));
+        return given.refuse("not made: no node");
     }
-    put_literals(out, tree.path(node))?;
-    Ok(())
+    put_all(tree.path(node), given);
 }
 
 /// The paths of all nodes, with a stroke between them.
-pub fn put_paths(out: &mut String, tree: &Tree) -> Result<(), AllocError> {
-    for node in 0..tree.len() {
-        if node > 0 {
-            put_word(out, "|")?;
+impl Show for Tree {
+    fn put(&self, given: &mut Given) {
+        for node in 0..self.len() {
+            if node > 0 {
+                given.word("|");
+            }
+            put_all(self.path(node as u32), given);
         }
-        put_literals(out, tree.path(node as u32))?;
     }
-    Ok(())
 }
 
 /// The nodes in preorder, each leaf with the number at its place.
-fn put_preorder(alloc: Global, tree: &Tree, words: &str, out: &mut String) -> Result<(), Trouble> {
-    let numbers = numbers(alloc, words)?;
-    if numbers.len() != tree.len() {
-        return Err(Trouble::Script("numbers for other nodes"));
-    }
-    if !numbers
+fn put_preorder(tree: &Tree, words: &str, given: &mut Given) {
+    let numbers = all::<u32>(words, ' ', given);
+    put_numbered(tree, numbers.as_slice(), given);
+}
+
+fn put_numbered(tree: &Tree, numbers: &[u32], given: &mut Given) {
+    let are_numbers = numbers
         .iter()
-        .all(|number| is_numbered(&Node::Leaf(*number)))
-    {
-        return Err(Trouble::Script("no number of a clause"));
+        .all(|number| is_numbered(&Node::Leaf(*number)));
+    if numbers.len() != tree.len() || !are_numbers {
+        return given.refuse("not made: not the numbers of its nodes");
     }
-    let proof = tree.proof_tree(alloc, numbers.as_slice())?;
-    put_nodes(out, proof.nodes())?;
-    Ok(())
+    match tree.proof_tree(given.alloc, numbers) {
+        Ok(proof) => put_all(proof.nodes(), given),
+        Err(_error) => given.refuse("memory"),
+    }
 }
