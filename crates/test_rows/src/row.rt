@@ -5,7 +5,7 @@ use std::thread::Threads;
 use std::time::Clock;
 use test_runs::{Ended, Scene, run};
 
-/// The columns of a row. In each text `/` stands for the end of a line, and in the two files that are read `{N PART}` stands for
+/// The columns of a row. In each text `/` stands for the end of a line and `~` for a `|`, and in the two files that are read `{N PART}` stands for
 /// N times PART, in which others may stand.
 #[derive(Clone, Copy)]
 pub struct Row<'a> {
@@ -134,9 +134,9 @@ fn column(text: &str) -> (&str, &str) {
     }
 }
 
-/// A text whose lines end where a `/` stands.
+/// A text whose lines end where a `/` stands, with a `|` for each `~`.
 fn lines(alloc: Global, text: &str) -> Result<String, AllocError> {
-    text.replace(alloc, '/', "\n")
+    text.replace(alloc, '/', "\n")?.replace(alloc, '~', "|")
 }
 
 /// A text with the first `{N PART}` in it that holds no other one written out; none where there is none.
