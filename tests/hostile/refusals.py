@@ -69,7 +69,8 @@ def rows(trims):
     yield Row(3, ['check', 'buffered.mpi', 'idle.evidence'])
     yield Row(3, ['check', 'buffering-lets-it-hang.mpi', 'early.evidence'])
     yield Row(5, ['check', 'buffered.mpi', 'missing.evidence'])
-    yield Row(1, ['replay', *HANGS])
+    for more in ([], ['--lines']):
+        yield Row(1, ['replay', *HANGS, *more])
     yield Row(3, ['replay', *REFUTED])
     for more in ([], ['--dimacs']):
         yield Row(0, ['encode', 'message.mpi', *more])
@@ -80,6 +81,10 @@ def rows(trims):
         yield Row(3, ['explain', 'buffered.mpi', 'idle.evidence', *more])
         yield Row(0, ['explain', 'gather.mpi', *more])
         yield Row(1, ['explain', 'buffering-lets-it-hang.mpi', *more])
+    for more in (['--json'], ['--chart'], ['--svg']):
+        yield Row(0, ['explain', *REFUTED, *more])
+        yield Row(1, ['explain', *HANGS, *more])
+    yield Row(3, ['explain', 'buffered.mpi', 'idle.evidence', '--json'])
     yield Row(2, ['explain', 'buffered.mpi', '--budget', '0'])
     yield Row(3, ['explain', 'barrier.mpi'])
     yield Row(0, ['export', *REFUTED, *out])
@@ -89,6 +94,10 @@ def rows(trims):
         yield Row(0, ['trim', 'unneeded.evidence', *out])
         yield Row(3, ['trim', 'nothing.evidence', *out])
         yield Row(3, ['trim', 'early.evidence', '--json', *out])
+    for more in ([], out):
+        yield Row(1, ['shrink', 'buffering-lets-it-hang.mpi', *more])
+        yield Row(2, ['shrink', 'buffered.mpi', *more])
+        yield Row(3, ['shrink', 'barrier.mpi', *more])
     yield Row(0, ['--help'])
     yield Row(6, ['prove'])
 
