@@ -1,4 +1,0 @@
-use Rattle.test_scripts.proofs.shares.judge_seats.Given as goal
-
-abbrev pub ghosts-finished : goal.ghosts-finished
-ghosts-finished g a = record { table = a.keeper.table_id; opening = a.pool.held; workers = 2 }
