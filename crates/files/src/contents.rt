@@ -1,24 +1,42 @@
 //! A whole content, read and written.
 ghost use Rattle.std.specs.Prelude.{OnErr, OnOk, IfOk};
-ghost use Rattle.std.specs.Io.KnownBytes.{Appends, IsAtEnd};
-ghost use Rattle.files.specs.Contents.{AppendsPart, AreAll, IsEndOf};
+ghost use Rattle.std.specs.Io.KnownBytes.{Appends, Consumes};
+ghost use Rattle.files.specs.Contents.{AppendsPart, AreEnough, IsEndOf};
 
-use crate::{LoadFault, StoreFault};
+use crate::{Extent, LoadFault, StoreFault};
 use std::alloc::Global;
 use std::io::{ErrorKind, Read, Write};
 
-/// Reads all that a reader has left.
+/// The most bytes that one read moves.
+const PIECE: usize = 65_536;
+
+/// Reads what a reader has left, as far as this extent says: all of it, or a beginning that is enough.
 ///
-/// After a fault the reader has lost what was read, and no byte past it. A read that is interrupted
-/// is tried again.
-pub fn load<R: Read>(alloc: Global, reader: &mut R) -> Result<Vec<u8>, LoadFault>
-    ensures all { IfOk result (λ bytes. AreAll (R.remaining reader.old) bytes.items) }
-    ensures end { OnOk result (IsAtEnd (R.remaining reader.new)) }
+/// The reader has lost what was read, and no byte past it, after a fault too. A read that is
+/// interrupted is tried again.
+pub fn load<R: Read>(
+    alloc: Global,
+    reader: &mut R,
+    extent: &Extent<'_>,
+) -> Result<Vec<u8>, LoadFault>
+    ensures enough { IfOk result (λ bytes. AreEnough extent.now (R.remaining reader.old) bytes.items) }
+    ensures lost { IfOk result (λ bytes. Consumes (R.remaining reader.old) (R.remaining reader.new) bytes.items) }
     ensures part { OnErr result (IsEndOf (R.remaining reader.old) (R.remaining reader.new)) }
 {
     let mut bytes = Vec::new(alloc);
-    reader.read_to_end(&mut bytes)?;
-    Ok(bytes)
+    let mut piece = [0; PIECE];
+    for _ in 0..u64::MAX {
+        if extent.is_enough(&bytes) {
+            return Ok(bytes);
+        }
+        match reader.read(&mut piece) {
+            Ok(0) => return Ok(bytes),
+            Ok(count) => bytes.extend_from_slice(&piece[..count])?,
+            Err(error) if error.kind() == ErrorKind::Interrupted => continue,
+            Err(error) => return Err(LoadFault::from(error)),
+        }
+    }
+    Err(LoadFault::Device)
 }
 
 /// Writes all the bytes.

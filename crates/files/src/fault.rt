@@ -1,8 +1,10 @@
 //! Why a file can't be opened, read or written.
 ghost use Rattle.std.specs.IoError.{error_kind};
 ghost use Rattle.std.specs.Prelude.{◌≡◌};
+ghost use Rattle.files.specs.declared.fault.LoadFault.TheVariants as loading;
 ghost use Rattle.files.specs.Faults.{load_fault, open_fault, unopened};
 
+use std::alloc::AllocError;
 use std::io;
 use thiserror::Error;
 
@@ -47,6 +49,14 @@ impl From<io::Error> for LoadFault {
             io::ErrorKind::OutOfMemory => LoadFault::Memory,
             _ => LoadFault::Device,
         }
+    }
+}
+
+impl From<AllocError> for LoadFault {
+    ghost from_gives = { λ _ fault. fault ≡ loading.Memory };
+
+    fn from(_error: AllocError) -> LoadFault {
+        LoadFault::Memory
     }
 }
 

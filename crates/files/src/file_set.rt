@@ -1,9 +1,9 @@
 //! Files that are opened by their path.
 ghost use Rattle.std.specs.Prelude.{◌≡◌, ℕ, Bool, false, true, List, [], Option, Some, None, IfErr, IfOk, IsTrue, OnErr, OnOk};
-ghost use Rattle.files.specs.Contents.{AreAll, KeepsOthers};
+ghost use Rattle.files.specs.Contents.{AreEnough, KeepsOthers};
 ghost use Rattle.files.specs.declared.fault.LoadFault.{LoadFault};
 
-use crate::{LoadFault, OpenFault, StoreFault};
+use crate::{Extent, LoadFault, OpenFault, StoreFault};
 use std::alloc::Global;
 use std::io::Write;
 
@@ -21,15 +21,16 @@ pub trait FileSet {
     // Whether the set's writers tell the bytes that they took, and the set what it then holds.
     ghost tells_written: { Bool } = { false };
 
-    // Whether the set tells that it reads the whole file at this path, unless memory runs out.
+    // Whether the set tells that it reads the file at this path, unless memory runs out.
     ghost reads: { Self → List ℕ → Bool } = { λ _ _. false };
 
     // Whether a file at this path can be written.
     ghost takes: { Self → List ℕ → Bool } = { λ _ _. true };
 
-    /// The whole content of the file at a path. No file changes, nor which are read.
-    fn read(&mut self, alloc: Global, path: &str) -> Result<Vec<u8>, LoadFault>
-        ensures bytes { IfOk result (λ bytes. AreAll (held self.old path.now) bytes.items) }
+    /// The content of the file at a path, as far as this extent says. No file changes, nor which are
+    /// read.
+    fn read(&mut self, alloc: Global, path: &str, extent: &Extent<'_>) -> Result<Vec<u8>, LoadFault>
+        ensures bytes { IfOk result (λ bytes. AreEnough extent.now (held self.old path.now) bytes.items) }
         ensures fault { IfErr result (λ fault. IsTrue (reads self.old path.now) → fault ≡ LoadFault.Memory) }
         ensures same { held self.new ≡ held self.old }
         ensures same_reads { reads self.new ≡ reads self.old };

@@ -2,11 +2,13 @@
 #![tactic(auto)]
 
 mod contents;
+mod extent;
 mod fault;
 mod file_set;
 mod host_files;
 
 pub use contents::{load, store};
+pub use extent::Extent;
 pub use fault::{LoadFault, OpenFault, StoreFault};
 pub use file_set::FileSet;
 pub use host_files::HostFiles;

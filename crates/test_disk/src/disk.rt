@@ -1,7 +1,7 @@
 //! A disk in memory.
 ghost use Rattle.std.specs.Prelude.{◌≤◌, IfOk};
 
-use files::{FileSet, LoadFault, OpenFault, StoreFault, load};
+use files::{Extent, FileSet, LoadFault, OpenFault, StoreFault, load};
 use std::alloc::Global;
 use std::cell::{Cell, RefCell};
 use std::io;
@@ -100,9 +100,14 @@ pub struct DiskFiles<'a> {
 impl<'a> FileSet for DiskFiles<'a> {
     type Writer = DiskWriter<'a>;
 
-    fn read(&mut self, alloc: Global, path: &str) -> Result<Vec<u8>, LoadFault> {
+    fn read(
+        &mut self,
+        alloc: Global,
+        path: &str,
+        extent: &Extent<'_>,
+    ) -> Result<Vec<u8>, LoadFault> {
         let mut reader = self.disk.reader(path)?;
-        load(alloc, &mut reader)
+        load(alloc, &mut reader, extent)
     }
 
     fn open_write(&mut self, path: &str) -> Result<DiskWriter<'a>, OpenFault> {

@@ -3,7 +3,7 @@ ghost use Rattle.std.specs.Prelude.{◌≡◌, ◌||◌, IfErr, IfOk, bytes_eq, 
 ghost use Rattle.files.specs.declared.fault.LoadFault.{LoadFault};
 ghost use Rattle.test_disk.specs.Shelves.{shelf_file};
 
-use files::{FileSet, LoadFault, OpenFault, StoreFault};
+use files::{Extent, FileSet, LoadFault, OpenFault, StoreFault};
 use std::alloc::Global;
 
 /// Two files that can be read, `program` and `evidence`, and one that can be written, `out`.
@@ -32,7 +32,12 @@ impl FileSet for Shelf<'_> {
 
     type Writer = Vec<u8>;
 
-    fn read(&mut self, alloc: Global, path: &str) -> Result<Vec<u8>, LoadFault> {
+    fn read(
+        &mut self,
+        alloc: Global,
+        path: &str,
+        _extent: &Extent<'_>,
+    ) -> Result<Vec<u8>, LoadFault> {
         if path == "program" {
             return copied(alloc, self.program);
         }
