@@ -294,27 +294,63 @@ fn orders_of(alloc: Global, encoded: &Encoded) -> Result<Vec<Option<(usize, usiz
     Ok(orders)
 }
 
+/// The calls and the ranks.
+#[derive(Drop)]
+struct Ranked {
+    calls: Vec<CallShape>,
+    ranks: Vec<RankShape>,
+}
+
+fn rank_calls(
+    alloc: Global,
+    program: &Program,
+    variables: &Variables<'_>,
+) -> Result<Ranked, AllocError> {
+    let mut calls = calls_of(alloc, program, variables)?;
+    set_waiters(calls.as_mut_slice());
+    let ranks = ranks_of(alloc, program, variables)?;
+    Ok(Ranked { calls, ranks })
+}
+
+/// What fits these calls together.
+#[derive(Drop)]
+struct Fitting {
+    matches: Vec<PairShape>,
+    of_sends: Vec<Vec<usize>>,
+    orders: Vec<Option<(usize, usize)>>,
+}
+
+fn fit_calls(
+    alloc: Global,
+    encoded: &Encoded,
+    variables: &Variables<'_>,
+    calls: &[CallShape],
+) -> Result<Fitting, AllocError> {
+    let matches = matches_of(alloc, encoded.pairs(), variables)?;
+    let of_sends = of_sends(alloc, calls, &matches)?;
+    let orders = orders_of(alloc, encoded)?;
+    Ok(Fitting {
+        matches,
+        of_sends,
+        orders,
+    })
+}
+
 impl<'e> Shape<'e> {
     /// The shape of the program. The only error is want of memory.
     pub fn new(alloc: Global, encoded: &'e Encoded) -> Result<Shape<'e>, AllocError> {
         let variables = encoded.variables(alloc)?;
-        let program = encoded.program();
-        let pairs = encoded.pairs();
-        let mut calls = calls_of(alloc, program, &variables)?;
-        set_waiters(calls.as_mut_slice());
-        let ranks = ranks_of(alloc, program, &variables)?;
-        let matches = matches_of(alloc, pairs, &variables)?;
-        let of_sends = of_sends(alloc, &calls, &matches)?;
-        let orders = orders_of(alloc, encoded)?;
+        let ranked = rank_calls(alloc, encoded.program(), &variables)?;
+        let fitting = fit_calls(alloc, encoded, &variables, &ranked.calls)?;
         Ok(Shape {
-            policy: program.policy(),
+            policy: encoded.program().policy(),
             variables,
-            pairs,
-            calls,
-            ranks,
-            matches,
-            of_sends,
-            orders,
+            pairs: encoded.pairs(),
+            calls: ranked.calls,
+            ranks: ranked.ranks,
+            matches: fitting.matches,
+            of_sends: fitting.of_sends,
+            orders: fitting.orders,
         })
     }
 

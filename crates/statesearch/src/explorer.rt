@@ -60,19 +60,37 @@ fn first_tasks(alloc: Global) -> Result<Vec<Task>, AllocError> {
     Ok(tasks)
 }
 
+/// What is made anew where all is forgotten.
+#[derive(Drop)]
+struct Fresh {
+    engine: Engine,
+    lemmas: Lemmas,
+    tasks: Vec<Task>,
+}
+
+fn begin_anew(alloc: Global, encoded: &Encoded, shape: &Shape<'_>) -> Result<Fresh, AllocError> {
+    let engine = Engine::new(alloc, encoded.formula())?;
+    let lemmas = Lemmas::new(alloc, shape)?;
+    let tasks = first_tasks(alloc)?;
+    Ok(Fresh {
+        engine,
+        lemmas,
+        tasks,
+    })
+}
+
 impl<'e> Explorer<'e> {
     /// What is known at first.
     pub(crate) fn new(alloc: Global, encoded: &'e Encoded) -> Result<Explorer<'e>, AllocError> {
         let shape = Shape::new(alloc, encoded)?;
-        let engine = Engine::new(alloc, encoded.formula())?;
-        let lemmas = Lemmas::new(alloc, &shape)?;
+        let fresh = begin_anew(alloc, encoded, &shape)?;
         Ok(Explorer {
             shape,
-            engine,
-            lemmas,
+            engine: fresh.engine,
+            lemmas: fresh.lemmas,
             table: HashMap::new(alloc),
             near: HashMap::new(alloc),
-            tasks: first_tasks(alloc)?,
+            tasks: fresh.tasks,
             learner: None,
             learnt_from: 0,
             learnt_to: 0,
@@ -83,11 +101,12 @@ impl<'e> Explorer<'e> {
 
     /// Forgets all.
     fn restart(&mut self, alloc: Global, encoded: &'e Encoded) -> Result<(), AllocError> {
-        self.engine = Engine::new(alloc, encoded.formula())?;
-        self.lemmas = Lemmas::new(alloc, &self.shape)?;
+        let fresh = begin_anew(alloc, encoded, &self.shape)?;
+        self.engine = fresh.engine;
+        self.lemmas = fresh.lemmas;
+        self.tasks = fresh.tasks;
         self.table = HashMap::new(alloc);
         self.near = HashMap::new(alloc);
-        self.tasks = first_tasks(alloc)?;
         self.learner = None;
         self.leaves_cycles = false;
         Ok(())
@@ -289,6 +308,18 @@ impl<'e> Explorer<'e> {
         if !self.stand_on(alloc, &assumptions)? {
             return Ok(());
         }
+        self.visit_open(alloc, state, key, assumptions, batch)
+    }
+
+    /// Closes or branches a state with this key, whose assumptions stand on the trail.
+    fn visit_open(
+        &mut self,
+        alloc: Global,
+        state: State,
+        key: Vec<u32>,
+        assumptions: Vec<u32>,
+        batch: &mut Batch,
+    ) -> Result<(), AllocError> {
         if let Some(clause) = self.near_clause(alloc, &key)? {
             return self.close_too(key, clause);
         }
@@ -296,6 +327,18 @@ impl<'e> Explorer<'e> {
             return self.push(Task::Visit(state));
         }
         let read = read_off(alloc, &self.shape, &self.engine.trail, &state)?;
+        self.visit_read(alloc, read, key, assumptions, batch)
+    }
+
+    /// Branches the state that was read off the trail of the one with this key, or visits it before, where it is another one.
+    fn visit_read(
+        &mut self,
+        alloc: Global,
+        read: State,
+        key: Vec<u32>,
+        assumptions: Vec<u32>,
+        batch: &mut Batch,
+    ) -> Result<(), AllocError> {
         let read_key = read.key(alloc)?;
         if read_key.as_slice() != key.as_slice() {
             self.push(Task::Alias(key, read_key))?;
