@@ -69,4 +69,9 @@ impl<S, G> Common<'_, S, G> {
             budget
         }
     }
+
+    /// How much of the budget is used where so much is left.
+    pub(crate) fn used(&self, left: u64) -> u64 {
+        u64::from(self.budget).saturating_sub(left)
+    }
 }

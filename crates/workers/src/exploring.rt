@@ -137,6 +137,14 @@ impl Worker<'_> {
         }
     }
 
+    /// Whether this worker searches below no cube as long as it explores.
+    pub(crate) fn only_explores(&self) -> bool {
+        match &self.exploration {
+            Some(exploration) => exploration.turns.is_alone,
+            None => false,
+        }
+    }
+
     /// Searches over sets of matched calls, and counts what that took, which it answers, too.
     fn search_states(&mut self) -> Result<Option<(Found, u64)>, Stop> {
         let Some(exploration) = &mut self.exploration else {
@@ -233,9 +241,10 @@ impl Worker<'_> {
     ) -> Result<(), Stop> {
         let next = self.hand_on_states(rt, common.shared, seat, found);
         let open = common.shared.status(rt).open_leaves;
+        let used = common.used(self.left);
         common
             .gate
-            .after(worker, Searched::of(found, open, counted, true));
+            .after(worker, Searched::of(found, 0, open, counted, used, true));
         next
     }
 

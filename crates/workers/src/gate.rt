@@ -7,19 +7,31 @@ use cdcl::Found;
 pub struct Searched {
     /// How many cubes are open in the pool afterwards.
     pub open: u32,
+    /// How many literals the path of its cube has; none where it searched the whole formula.
+    pub depth: usize,
     /// Whether the search refuted its cube, or the formula.
     pub is_closed: bool,
     /// How many lines it learnt.
     pub lines: usize,
     /// How many conflicts it counted, and lines, where it went over sets of matched calls.
     pub conflicts: u64,
+    /// How much of the budget its worker has used by now.
+    pub used: u64,
     /// Whether it went over sets of matched calls.
     pub over_sets: bool,
 }
 
 impl Searched {
-    /// What a search did that found this and counted so many conflicts, where so many cubes are open now.
-    pub(crate) fn of(found: &Found, open: u32, conflicts: u64, over_sets: bool) -> Searched {
+    /// What a search did below a path of so many literals that found this and counted so many conflicts, where so many cubes are open
+    /// now and so much of the budget is used.
+    pub(crate) fn of(
+        found: &Found,
+        depth: usize,
+        open: u32,
+        conflicts: u64,
+        used: u64,
+        over_sets: bool,
+    ) -> Searched {
         let (is_closed, lines) = match found {
             Found::Closed(batch, _last) => (true, batch.lines.len()),
             Found::Model(_assignment) => (false, 0),
@@ -27,9 +39,11 @@ impl Searched {
         };
         Searched {
             open,
+            depth,
             is_closed,
             lines,
             conflicts,
+            used,
             over_sets,
         }
     }

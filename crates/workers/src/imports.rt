@@ -2,7 +2,10 @@
 
 use pages::Lines;
 
-/// How many lines of others are taken in at a time, beside those of at most two literals.
+/// Lines of others with so many literals at most are always taken in.
+pub(crate) const SHORT: usize = 2;
+
+/// How many lines of others are taken in at a time, beside those short ones.
 const MOST_LINES: usize = 6_000;
 
 /// From this many literals on lengths aren't told apart.
@@ -28,7 +31,7 @@ pub(crate) fn longest(lines: &Lines) -> usize {
     let mut sum: usize = 0;
     for (length, count) in lengths(lines).iter().enumerate() {
         sum = sum.saturating_add(*count);
-        if sum > MOST_LINES && length > 2 {
+        if sum > MOST_LINES && length > SHORT {
             return length - 1;
         }
     }

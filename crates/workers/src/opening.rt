@@ -61,9 +61,10 @@ fn tell<S: Share, G: Gate, R: Wait>(
 ) -> Result<(), Stop> {
     hand_on(rt, worker, common.shared, seat, cubes, found)?;
     let open = common.shared.status(rt).open_leaves;
+    let used = common.used(worker.left);
     common
         .gate
-        .after(0, Searched::of(found, open, conflicts, false));
+        .after(0, Searched::of(found, 0, open, conflicts, used, false));
     Ok(())
 }
 

@@ -7,7 +7,7 @@ use crate::common::Common;
 use crate::events::EventCount;
 use crate::exploring::Exploration;
 use crate::gate::{Gate, Searched};
-use crate::imports::longest;
+use crate::imports::{SHORT, longest};
 use crate::numbers::{line_number, line_place, number_of};
 use crate::source::Cubes;
 use crate::stop::Stop;
@@ -147,6 +147,14 @@ impl<'e> Worker<'e> {
         self.encoded.formula().len()
     }
 
+    /// How many literals a line of others has at most that the solver takes in: short ones alone as long as it isn't asked.
+    fn longest_of(&self, lines: &Lines) -> usize {
+        if self.only_explores() {
+            return SHORT;
+        }
+        longest(lines)
+    }
+
     /// Takes in the line at this place of the log, from 0, where it is one of the solver's own or has at most so many literals.
     fn import_line(&mut self, place: usize, clause: &Clause, longest: usize) -> Result<(), Stop> {
         let number = line_number(self.clauses(), place);
@@ -165,7 +173,7 @@ impl<'e> Worker<'e> {
 
     /// Takes in of these lines, which stand in the log after those that were seen, the solver's own and the shortest of others.
     fn import(&mut self, lines: &Lines) -> Result<(), Stop> {
-        let longest = longest(lines);
+        let longest = self.longest_of(lines);
         for place in 0..lines.len() {
             let Some(line) = lines.get(place) else {
                 unreachable!()
@@ -326,9 +334,9 @@ impl<'e> Worker<'e> {
     {
         let next = self.hand_on(rt, common.shared, seat, cubes, cube, path, found);
         let open = common.shared.status(rt).open_leaves;
-        common
-            .gate
-            .after(worker, Searched::of(found, open, conflicts, false));
+        let used = common.used(self.left);
+        let searched = Searched::of(found, path.len(), open, conflicts, used, false);
+        common.gate.after(worker, searched);
         next
     }
 
@@ -472,7 +480,7 @@ fn reason<S: Share, C: Cubes, G: Gate, R: Wait>(
 /// Worker 0 searches over sets of matched calls, where that is wanted, at most 2,000 lines at a time and 600,000 in all; each counts as a
 /// conflict of its budget. Meanwhile the log has room for what it may still write: where others have come close to that, they wait until it has
 /// ended. Where the log has an empty clause, each cube is closed by it. Of the lines of others a worker takes in the shortest, up
-/// to 6,000 after each search, and all with at most two literals.
+/// to 6,000 after each search, and all with at most two literals; these alone as long as it searches below no cube.
 ///
 /// The worker leaves with no reason once a schedule was found or no leaf is open, or, without a cube, once another worker left for a
 /// reason; else it pauses without a cube, and rests until the events are advanced. It advances them after each search and when it leaves. It
