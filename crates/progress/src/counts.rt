@@ -1,35 +1,53 @@
 //! What the workers of a search have told so far.
 
-ghost use Rattle.std.specs.Prelude.{◌≡◌};
+ghost use Rattle.std.specs.Prelude.{◌≡◌, ◌/◌, ◌^◌, ◌≤◌};
 
-use crate::moment::Moment;
+use crate::moment::{Moment, WHOLE};
 use prover::Gate;
 use std::sync::Wait;
 use std::sync::atomic::{AtomicU64, Ordering};
 use std::time::Duration;
 use workers::Searched;
 
+/// What a closed cube whose path has so many literals is of the tree; one of more than 56 counts for nothing.
+fn share_of(depth: usize) -> u64
+    ensures { depth ≤ 56 → result ≡ 2 ^ 56 / 2 ^ depth }
+{
+    if depth > 56 { 0 } else { WHOLE >> depth }
+}
+
 /// What the workers of a search have told so far, and whether it is over. It holds no worker back.
 #[derive(Drop)]
 pub struct Counts {
+    /// How many conflicts each worker may count.
+    budget: u32,
     open: AtomicU64,
     closed: AtomicU64,
+    /// How much of the tree is closed.
+    share: AtomicU64,
     lines: AtomicU64,
     conflicts: AtomicU64,
     set_lines: AtomicU64,
+    /// The most that a worker has used of its budget.
+    used: AtomicU64,
     /// 0 until the search is over.
     over: AtomicU64,
 }
 
 impl Counts {
-    /// Nothing was told yet.
-    pub fn new() -> Counts {
+    /// Nothing was told yet of a search each of whose workers has this budget.
+    pub fn new(budget: u32) -> Counts
+        ensures { result.budget ≡ budget }
+    {
         Counts {
+            budget,
             open: AtomicU64::new(0),
             closed: AtomicU64::new(0),
+            share: AtomicU64::new(0),
             lines: AtomicU64::new(0),
             conflicts: AtomicU64::new(0),
             set_lines: AtomicU64::new(0),
+            used: AtomicU64::new(0),
             over: AtomicU64::new(0),
         }
     }
@@ -45,17 +63,23 @@ impl Counts {
         self.over.load(Ordering::SeqCst) != 0
     }
 
-    /// What was told so far, for the moment after so many seconds.
+    /// What was told so far, for the moment after so many seconds. Who tells a closed cube has told before how many are open, so
+    /// the share is read first.
     pub fn at(&self, seconds: u64) -> Moment
-        ensures { result.seconds ≡ seconds }
+        ensures seconds { result.seconds ≡ seconds }
+        ensures budget { result.budget ≡ self.now.budget }
     {
+        let share = self.share.load(Ordering::SeqCst);
         Moment {
             seconds,
             open: self.open.load(Ordering::SeqCst),
             closed: self.closed.load(Ordering::SeqCst),
+            share,
             lines: self.lines.load(Ordering::SeqCst),
             conflicts: self.conflicts.load(Ordering::SeqCst),
             set_lines: self.set_lines.load(Ordering::SeqCst),
+            used: self.used.load(Ordering::SeqCst),
+            budget: self.budget,
         }
     }
 
@@ -65,19 +89,17 @@ impl Counts {
     }
 }
 
-impl Default for Counts {
-    fn default() -> Counts {
-        Counts::new()
-    }
-}
-
 impl Gate for Counts {
     fn before(&self, _worker: u32, _cube: u32) {}
 
     fn after(&self, _worker: u32, searched: Searched) {
         self.open.store(u64::from(searched.open), Ordering::SeqCst);
-        self.closed
-            .fetch_add(u64::from(searched.is_closed), Ordering::SeqCst);
+        self.used.fetch_max(searched.used, Ordering::SeqCst);
+        if searched.is_closed {
+            self.closed.fetch_add(1, Ordering::SeqCst);
+            self.share
+                .fetch_add(share_of(searched.depth), Ordering::SeqCst);
+        }
         let lines = searched.lines as u64;
         if searched.over_sets {
             self.set_lines.fetch_add(lines, Ordering::SeqCst);

@@ -42,8 +42,8 @@ fn to_next_second(passed: Duration) -> Duration {
 
 /// Tells once a second how far the search is, from its first second on, until it is over.
 ///
-/// The line is `progress S s: N cubes open, N closed, N lines, N conflicts, N set lines`. Each has more whole seconds than the one before it. Where the clock or
-/// the output fails, or memory runs out, nothing more is told.
+/// The line is `progress S s: N cubes open, N closed, N lines, N conflicts, N set lines, N % of the tree, N % of the budget, N % of the log`. Each has
+/// more whole seconds than the one before it. Where the clock or the output fails, or memory runs out, nothing more is told.
 pub fn tell<R: Wait, C: Clock, E: Write>(
     rt: &R,
     clock: &C,
@@ -88,7 +88,7 @@ pub fn prove_telling<R: Threads + Wait + Clock + Sync, E: Write + Send>(
     ensures finishes { FinishesIfUnknown options.budget program.now result }
     ensures told { TellsProgress (E.contents err.old) (E.contents err.new) }
 {
-    let counts = Counts::new();
+    let counts = Counts::new(options.budget());
     let ((), answer) = join_mut(
         rt,
         &mut ||
