@@ -1,9 +1,11 @@
 //! What helps where a text is refused.
 
 use crate::evidences::{put_evidence, put_step};
-use crate::lines::{lines_of, put_line};
+use crate::forms::{object_text, plain_text};
+use crate::lines::lines_of;
 use crate::requests::put_resolve;
 use crate::syntax::put_syntax;
+use crate::told::{File, Help};
 use callorder::ResolveFault;
 use calltext::ReadFault;
 use checker::Reason;
@@ -12,7 +14,7 @@ use std::alloc::{AllocError, Global};
 
 /// Tells why a program's text can't be read.
 fn put_read(
-    out: &mut String,
+    help: &mut Help,
     alloc: Global,
     program: &[u8],
     fault: ReadFault,
@@ -20,21 +22,25 @@ fn put_read(
     let lines = lines_of(alloc, program)?;
     match fault {
         ReadFault::Memory => Ok(()),
-        ReadFault::TooLarge => out.push_str("a program's text has at most 1048576 bytes\n"),
+        ReadFault::TooLarge => help
+            .notes
+            .push_str("a program's text has at most 1048576 bytes\n"),
         ReadFault::NotAscii { line } => {
-            put_line(out, "line", &lines, line as usize)?;
-            out.push_str("a program's text has ASCII characters alone\n")
+            help.show(alloc, File::Program, &lines, line as usize)?;
+            help.notes
+                .push_str("a program's text has ASCII characters alone\n")
         }
         ReadFault::OutOfProfile { line, word } => {
-            put_line(out, "line", &lines, line as usize)?;
+            help.show(alloc, File::Program, &lines, line as usize)?;
             let text = word.text();
+            help.name(text.as_bytes())?;
             write!(
-                out,
+                help.notes,
                 "{text} can't be written in a program: see FROM_MPI.md in the folder docs\n"
             )
         }
-        ReadFault::Syntax { line } => put_syntax(out, alloc, &lines, line as usize),
-        ReadFault::Range { line } => put_syntax(out, alloc, &lines, line as usize),
+        ReadFault::Syntax { line } => put_syntax(help, alloc, &lines, line as usize),
+        ReadFault::Range { line } => put_syntax(help, alloc, &lines, line as usize),
     }
 }
 
@@ -58,6 +64,25 @@ const TOO_LARGE: &str = "the program is too large: fewer ranks, calls or rounds 
 const CHANGED: &str =
     "it isn't as prove writes it: is it for another program, or was it changed?\n";
 
+/// Tells what helps where a text is refused for this reason.
+fn put_help(
+    help: &mut Help,
+    alloc: Global,
+    program: &[u8],
+    evidence: &[u8],
+    reason: Reason,
+) -> Result<(), AllocError> {
+    match reason {
+        Reason::Read(fault) => put_read(help, alloc, program, fault),
+        Reason::Resolve(ResolveFault::At { rank, place, fault }) => {
+            put_resolve(help, alloc, program, rank, place, fault)
+        }
+        Reason::Evidence(fault) => put_evidence(help, alloc, evidence, fault),
+        Reason::Replay { at } => put_step(help, alloc, evidence, at),
+        _ => help.notes.push_str(reason_words(reason)),
+    }
+}
+
 /// What helps where a program, or an evidence that is named, is refused for this reason: lines, each with its LF. The only error is want of
 /// memory.
 pub fn help(
@@ -66,16 +91,21 @@ pub fn help(
     evidence: Option<&[u8]>,
     reason: Reason,
 ) -> Result<Vec<u8>, AllocError> {
-    let mut out = String::new(alloc);
-    let evidence = evidence.unwrap_or(b"");
-    match reason {
-        Reason::Read(fault) => put_read(&mut out, alloc, program, fault)?,
-        Reason::Resolve(ResolveFault::At { rank, place, fault }) => {
-            put_resolve(&mut out, alloc, program, rank, place, fault)?;
-        }
-        Reason::Evidence(fault) => put_evidence(&mut out, alloc, evidence, fault)?,
-        Reason::Replay { at } => put_step(&mut out, alloc, evidence, at)?,
-        _ => out.push_str(reason_words(reason))?,
-    }
-    Ok(out.into_bytes())
+    let mut help = Help::new(alloc);
+    put_help(&mut help, alloc, program, evidence.unwrap_or(b""), reason)?;
+    let text = plain_text(alloc, &help)?;
+    Ok(text.into_bytes())
+}
+
+/// The same as the text of a JSON object, without an LF: which `line` of which `file` is meant, the `rank` whose call it is, what was `found`
+/// there, which `word` of it is meant, `notes` on what is wrong, and what is `expected` there. Each is null where there is nothing to tell.
+pub fn help_object(
+    alloc: Global,
+    program: &[u8],
+    evidence: Option<&[u8]>,
+    reason: Reason,
+) -> Result<String, AllocError> {
+    let mut help = Help::new(alloc);
+    put_help(&mut help, alloc, program, evidence.unwrap_or(b""), reason)?;
+    object_text(alloc, &help)
 }

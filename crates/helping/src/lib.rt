@@ -5,11 +5,13 @@
 
 mod calls;
 mod evidences;
+mod forms;
 mod helping;
 mod lines;
 mod requests;
 mod shapes;
 mod spelling;
 mod syntax;
+mod told;
 
-pub use helping::help;
+pub use helping::{help, help_object};

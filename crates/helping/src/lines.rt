@@ -57,15 +57,3 @@ pub fn put_shown(out: &mut String, bytes: &[u8]) -> Result<(), AllocError> {
     }
     Ok(())
 }
-
-/// Shows the line of this number, from 1.
-pub fn put_line(
-    out: &mut String,
-    front: &str,
-    lines: &[&[u8]],
-    number: usize,
-) -> Result<(), AllocError> {
-    write!(out, "{front} {number}: ")?;
-    put_shown(out, bytes_at(lines, number))?;
-    out.push('\n')
-}

@@ -1,8 +1,9 @@
 //! What is wrong with a call line among the others.
 
-use crate::lines::{bytes_at, lines_of, put_shown};
+use crate::lines::{bytes_at, lines_of};
 use crate::shapes::{Slot, shape_of, slot_of};
 use crate::syntax::ranks_of;
+use crate::told::{File, Help};
 use callorder::CallFault;
 use calltext::Verb;
 use plaintext::{number_of, words_of};
@@ -16,7 +17,7 @@ const UNKNOWN_HANDLE: &str = " isn't probed above, or its message was received a
 
 const OPEN_HANDLE: &str = " was probed above, and its message not received yet";
 
-const TOO_MANY: &str = "with this line there are more than 1024 calls of all ranks";
+const TOO_MANY: &str = "with this line there are more than 1024 calls of all ranks\n";
 
 /// The number of the line, from 1, in this place, from 1, of a rank.
 fn line_number(lines: &[&[u8]], rank: u32, place: usize) -> usize {
@@ -56,29 +57,37 @@ fn stray_rank<'a>(words: &[&'a [u8]], ranks: usize) -> Option<&'a [u8]> {
 }
 
 /// Tells a fault of the request or the handle of a line.
-fn put_named(out: &mut String, slot: Slot, words: &[&[u8]], fault: &str) -> Result<(), AllocError> {
+fn put_named(help: &mut Help, slot: Slot, words: &[&[u8]], fault: &str) -> Result<(), AllocError> {
     let kind = if slot == Slot::Request {
-        "request "
+        "request"
     } else {
-        "handle "
+        "handle"
     };
-    out.push_str(kind)?;
-    put_shown(out, named(slot, words).unwrap_or(b"of it"))?;
-    out.push_str(fault)
+    match named(slot, words) {
+        Some(word) => {
+            help.name(word)?;
+            let name = &help.word;
+            write!(help.notes, "{kind} {name}{fault}\n")
+        }
+        None => write!(help.notes, "{kind} of it{fault}\n"),
+    }
 }
 
 /// Tells which rank the program lacks.
-fn put_stray(out: &mut String, lines: &[&[u8]], words: &[&[u8]]) -> Result<(), AllocError> {
+fn put_stray(help: &mut Help, lines: &[&[u8]], words: &[&[u8]]) -> Result<(), AllocError> {
     let ranks = ranks_of(lines);
-    out.push_str("rank ")?;
-    put_shown(out, stray_rank(words, ranks).unwrap_or(b"?"))?;
+    help.name(stray_rank(words, ranks).unwrap_or(b"?"))?;
+    let rank = &help.word;
     let last = ranks.saturating_sub(1);
-    write!(out, " isn't there: the ranks are 0 to {last}")
+    write!(
+        help.notes,
+        "rank {rank} isn't there: the ranks are 0 to {last}\n"
+    )
 }
 
 /// Tells the fault of a call line.
 fn put_fault(
-    out: &mut String,
+    help: &mut Help,
     lines: &[&[u8]],
     words: &[&[u8]],
     fault: CallFault,
@@ -90,15 +99,15 @@ fn put_fault(
         CallFault::HandleUnknown => (Slot::Handle, UNKNOWN_HANDLE),
         CallFault::HandleOpen => (Slot::Handle, OPEN_HANDLE),
         CallFault::HandleLeft => (Slot::Handle, " is never received"),
-        CallFault::PeerRange => return put_stray(out, lines, words),
-        CallFault::TooManyCalls => return out.push_str(TOO_MANY),
+        CallFault::PeerRange => return put_stray(help, lines, words),
+        CallFault::TooManyCalls => return help.notes.push_str(TOO_MANY),
     };
-    put_named(out, slot, words, told)
+    put_named(help, slot, words, told)
 }
 
 /// Tells what is wrong with the call line in this place, from 1, of a rank.
 pub fn put_resolve(
-    out: &mut String,
+    help: &mut Help,
     alloc: Global,
     program: &[u8],
     rank: u32,
@@ -107,11 +116,7 @@ pub fn put_resolve(
 ) -> Result<(), AllocError> {
     let lines = lines_of(alloc, program)?;
     let number = line_number(&lines, rank, place);
-    let line = bytes_at(&lines, number);
-    write!(out, "rank {rank}, line {number}: ")?;
-    put_shown(out, line)?;
-    out.push_str(": ")?;
-    let words = words_of(alloc, line)?;
-    put_fault(out, &lines, &words, fault)?;
-    out.push('\n')
+    help.show_call(alloc, &lines, number, rank)?;
+    let words = words_of(alloc, bytes_at(&lines, number))?;
+    put_fault(help, &lines, &words, fault)
 }

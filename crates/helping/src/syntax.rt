@@ -1,8 +1,9 @@
 //! What is wrong with a line that may not stand in its place, or has a number beyond its limit.
 
 use crate::calls::put_call;
-use crate::lines::{Found, find, put_line};
+use crate::lines::{Found, find};
 use crate::spelling::spelling_fault;
+use crate::told::{File, Help};
 use calltext::Verb;
 use plaintext::{is_word, number_of, words_of};
 use std::alloc::{AllocError, Global};
@@ -10,7 +11,7 @@ use std::alloc::{AllocError, Global};
 /// All calls.
 const CALLS: &str =
     "a call: send, ssend, bsend, isend, issend, ibsend, recv, irecv, probe, mprobe, mrecv, \
-    imrecv, wait, waitall or sendrecv\n";
+    imrecv, wait, waitall or sendrecv";
 
 /// How many headings of ranks stand above the line of this number.
 fn headings_above(lines: &[&[u8]], number: usize) -> usize {
@@ -33,19 +34,21 @@ pub fn ranks_of(lines: &[&[u8]]) -> usize {
 }
 
 /// Tells what may stand in a place.
-fn put_expected(out: &mut String, lines: &[&[u8]], number: usize) -> Result<(), AllocError> {
+fn put_expected(help: &mut Help, lines: &[&[u8]], number: usize) -> Result<(), AllocError> {
     let is_evidence = lines
         .first()
         .is_some_and(|line| line.starts_with(b"evidence "));
+    if number == 1 && is_evidence {
+        return help.notes.push_str(
+            "this looks like an evidence: the order is PROGRAM, then EVIDENCE\n",
+        );
+    }
+    let out = &mut help.expected;
     match number {
-        1 if is_evidence => {
-            out.push_str("this looks like an evidence: the order is PROGRAM, then EVIDENCE\n")
-        }
-        1 => out.push_str("expected ranks NUMBER, from 1 to 64\n"),
-        2 => out.push_str("expected policy any, policy none or policy all\n"),
-        3 => out.push_str("expected rank 0\n"),
+        1 => out.push_str("ranks NUMBER, from 1 to 64"),
+        2 => out.push_str("policy any, policy none or policy all"),
+        3 => out.push_str("rank 0"),
         _ => {
-            out.push_str("expected ")?;
             let next = headings_above(lines, number);
             if next < ranks_of(lines) {
                 write!(out, "rank {next}, or ")?;
@@ -64,7 +67,7 @@ fn meant(alloc: Global, word: &[u8]) -> Result<Option<Verb>, AllocError> {
 
 /// Tells what is wrong with the words of a line below the first three.
 fn put_words(
-    out: &mut String,
+    help: &mut Help,
     alloc: Global,
     lines: &[&[u8]],
     number: usize,
@@ -72,55 +75,54 @@ fn put_words(
 ) -> Result<(), AllocError> {
     let words = words_of(alloc, line)?;
     let Some(first) = words.first() else {
-        return put_expected(out, lines, number);
+        return put_expected(help, lines, number);
     };
     if let Some(verb) = Verb::find(first) {
-        return put_call(out, verb, &words);
+        return put_call(help, verb, &words);
     }
     if is_word(first, "rank") {
-        out.push_str("each rank has one heading, and they stand in order\n")?;
+        help.notes
+            .push_str("each rank has one heading, and they stand in order\n")?;
     }
     if let Some(verb) = meant(alloc, first)? {
         let text = verb.text();
-        write!(out, "did you mean \"{text}\"?\n")?;
+        write!(help.notes, "did you mean \"{text}\"?\n")?;
     }
-    put_expected(out, lines, number)
+    put_expected(help, lines, number)
 }
 
 /// Shows the line of this number, and tells what is wrong with it.
 pub fn put_syntax(
-    out: &mut String,
+    help: &mut Help,
     alloc: Global,
     lines: &[&[u8]],
     number: usize,
 ) -> Result<(), AllocError> {
     let found = find(lines, number);
+    help.show(alloc, File::Program, lines, number)?;
     let Found::Whole(line) = found else {
-        return put_end(out, lines, number, found);
+        return put_end(help, lines, number, found);
     };
-    put_line(out, "line", lines, number)?;
     if let Some(fault) = spelling_fault(line) {
-        out.push_str(fault)?;
-        return out.push('\n');
+        return write!(help.notes, "{fault}\n");
     }
     if number > 3 {
-        put_words(out, alloc, lines, number, line)
+        put_words(help, alloc, lines, number, line)
     } else {
-        put_expected(out, lines, number)
+        put_expected(help, lines, number)
     }
 }
 
 /// The same of a line at the end of the text, which is missing or lacks its LF.
 fn put_end(
-    out: &mut String,
+    help: &mut Help,
     lines: &[&[u8]],
     number: usize,
     found: Found<'_>,
 ) -> Result<(), AllocError> {
     if let Found::Missing = found {
-        out.push_str("the text ends above it\n")?;
-        return put_expected(out, lines, number);
+        help.notes.push_str("the text ends above it\n")?;
+        return put_expected(help, lines, number);
     }
-    put_line(out, "line", lines, number)?;
-    out.push_str("it lacks its LF at the end: each line ends with one, the last one too\n")
+    help.notes.push_str("it lacks its LF at the end: each line ends with one, the last one too\n")
 }
