@@ -1,3 +1,4 @@
 pub mod Lines
 pub mod Replayed
+pub mod WordByWord
 pub mod Ways

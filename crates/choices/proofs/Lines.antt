@@ -1,12 +1,13 @@
 -- Where a line of a text stands, and the text with another one in its place.
 use Rattle.std.proofs.Common.{◌≡◌, ℕ, ◌+◌, ◌-◌, ◌≤◌, List, [], ◌∷◌, ◌++◌, length, take, sym, ◌∙◌, ap, append_assoc, length-append, arith}
-use Rattle.std.specs.List.{flat_map}
 use Rattle.std.proofs.Math.Seq.{take-append_seam}
 use Rattle.std.proofs.lemmas.Grind.{flat_map-append}
 use Rattle.std.proofs.lemmas.List.Concat.{flat_map-cons}
 use Rattle.plaintext.specs.Plain.{text_lines}
 use Rattle.plaintext.proofs.Texts.{joined-lines}
 use Rattle.choices.specs.Pins.{AreAround, IsPast, IsPinned, joined}
+use Rattle.choices.specs.Words.{line_with}
+use Rattle.choices.specs.declared.items.Taken.{Taken}
 
 -- past one more line
 pub past_more : (text : List ℕ) (count : ℕ) (rest line next : List ℕ) → IsPast text count rest → text_lines rest ≡ (line ++ 10 ∷ []) ∷ text_lines next → IsPast text (count + 1) next
@@ -35,10 +36,9 @@ front_of text front rest is =
 
 -- what stands around the line after those lines
 pub around_next : (text : List ℕ) (number count : ℕ) (rest old after : List ℕ) → IsPast text count rest → text_lines rest ≡ (old ++ 10 ∷ []) ∷ text_lines after → number ≡ count + 1
-    → AreAround text number (take (length text - length rest) text) after
+    → AreAround text number (take (length text - length rest) text) old after
 around_next text number count rest old after past e at = record {
   before = past.before;
-  old = old ++ 10 ∷ [];
   after = text_lines after;
   cut = past.cut ∙ ap (λ (x : List (List ℕ)). past.before ++ x) e;
   place = omega (arith, past.many, at);
@@ -49,18 +49,20 @@ around_next text number count rest old after past e at = record {
 regroup : (a b c d : List ℕ) → ((a ++ b) ++ c) ++ d ≡ a ++ ((b ++ c) ++ d)
 regroup a b c d = simp append_assoc
 
--- what stands around a line, with another one between, is the pinned text
-pub pinned_of : (text : List ℕ) (number : ℕ) (line front back pinned : List ℕ) → AreAround text number front back → pinned ≡ ((front ++ line) ++ 10 ∷ []) ++ back → IsPinned text number line pinned
-pinned_of text number line front back pinned around is = record {
-  before = around.before;
-  old = around.old;
-  after = around.after;
-  cut = around.cut;
-  place = around.place;
-  is =
-      is ∙ regroup front line (10 ∷ []) back
-      ∙ ap (λ (x : List ℕ). x ++ ((line ++ 10 ∷ []) ++ back)) around.front_is
-      ∙ ap (λ (x : List ℕ). joined around.before ++ ((line ++ 10 ∷ []) ++ x)) around.back_is
-      ∙ ap (λ (x : List ℕ). joined around.before ++ x) (sym (flat_map-cons (λ (l : List ℕ). l) (line ++ 10 ∷ []) around.after))
-      ∙ sym (flat_map-append (λ (l : List ℕ). l) around.before ((line ++ 10 ∷ []) ∷ around.after));
-}
+-- what stands around a line, with other words between, is the pinned text
+pub pinned_of : (text : List ℕ) (number : ℕ) (taken : Taken) (front old back pinned : List ℕ) → AreAround text number front old back
+    → pinned ≡ ((front ++ line_with taken old) ++ 10 ∷ []) ++ back → IsPinned text number taken pinned
+pinned_of text number taken front old back pinned around is =
+    let line = line_with taken old in record {
+      before = around.before;
+      old = old;
+      after = around.after;
+      cut = around.cut;
+      place = around.place;
+      is =
+          is ∙ regroup front line (10 ∷ []) back
+          ∙ ap (λ (x : List ℕ). x ++ ((line ++ 10 ∷ []) ++ back)) around.front_is
+          ∙ ap (λ (x : List ℕ). joined around.before ++ ((line ++ 10 ∷ []) ++ x)) around.back_is
+          ∙ ap (λ (x : List ℕ). joined around.before ++ x) (sym (flat_map-cons (λ (l : List ℕ). l) (line ++ 10 ∷ []) around.after))
+          ∙ sym (flat_map-append (λ (l : List ℕ). l) around.before ((line ++ 10 ∷ []) ∷ around.after));
+    }

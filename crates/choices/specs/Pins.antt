@@ -2,26 +2,27 @@
 use Rattle.std.specs.Prelude.{◌≡◌, ℕ, ◌+◌, List, [], ◌∷◌, ◌++◌, length}
 use Rattle.std.specs.List.{flat_map}
 use Rattle.plaintext.specs.Plain.{text_lines}
+use Rattle.choices.specs.Words.{line_with}
+use Rattle.choices.specs.declared.items.Taken.{Taken}
 
 -- lines, one after another
 abbrev pub joined : List (List ℕ) → List ℕ
 joined lines = flat_map (λ line. line) lines
 
--- The pinned text has the lines of the text, but for that of this number, from 1, in whose place stands the given one, and an LF.
-pub record IsPinned (text : List ℕ) (number : ℕ) (line pinned : List ℕ) : Type 0 where
+-- The pinned text has the lines of the text, but for that of this number, from 1, whose words say that what is taken is taken.
+pub record IsPinned (text : List ℕ) (number : ℕ) (taken : Taken) (pinned : List ℕ) : Type 0 where
   pub before : List (List ℕ)
   pub old : List ℕ
   pub after : List (List ℕ)
-  pub cut : text_lines text ≡ before ++ old ∷ after
+  pub cut : text_lines text ≡ before ++ (old ++ 10 ∷ []) ∷ after
   pub place : number ≡ length before + 1
-  pub is : pinned ≡ joined (before ++ (line ++ 10 ∷ []) ∷ after)
+  pub is : pinned ≡ joined (before ++ (line_with taken old ++ 10 ∷ []) ∷ after)
 
--- the lines before that of this number, from 1, are the front, and the lines after it the back
-pub record AreAround (text : List ℕ) (number : ℕ) (front back : List ℕ) : Type 0 where
+-- the line of this number, from 1, without its LF; the lines before it are the front, and the lines after it the back
+pub record AreAround (text : List ℕ) (number : ℕ) (front old back : List ℕ) : Type 0 where
   pub before : List (List ℕ)
-  pub old : List ℕ
   pub after : List (List ℕ)
-  pub cut : text_lines text ≡ before ++ old ∷ after
+  pub cut : text_lines text ≡ before ++ (old ++ 10 ∷ []) ∷ after
   pub place : number ≡ length before + 1
   pub front_is : front ≡ joined before
   pub back_is : back ≡ joined after

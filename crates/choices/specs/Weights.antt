@@ -1,6 +1,5 @@
 -- What is known of a choice.
 use Rattle.std.specs.Prelude.{◌≡◌, ℕ, List, Some, slice_get, All}
-use Rattle.std.specs.Global.{Vec}
 use Rattle.checker.specs.Verdicts.{IsNeverStuck}
 use Rattle.prover.specs.Answers.{CanHang}
 use Rattle.choices.specs.Pins.{IsPinned}
@@ -9,15 +8,16 @@ use Rattle.choices.specs.declared.asking.Way.TheVariants as ways
 use Rattle.choices.specs.declared.items.Choice.{Choice}
 use Rattle.choices.specs.declared.items.Need.{Need}
 use Rattle.choices.specs.declared.items.Need.TheVariants as needs
+use Rattle.choices.specs.declared.items.Taken.{Taken}
 use Rattle.choices.specs.declared.items.Weighed.{Weighed}
 
--- with this line in the place of that of the number, the text is a program's that has a run that ends stuck
-abbrev pub HangsWith : List ℕ → ℕ → List ℕ → Type 0
-HangsWith text number line = (pinned : List ℕ) × IsPinned text number line pinned × CanHang pinned
+-- with other words in the line of this number, which leave open no more than this, the text is a program's that has a run that ends stuck
+abbrev pub HangsWith : List ℕ → ℕ → Taken → Type 0
+HangsWith text number taken = (pinned : List ℕ) × IsPinned text number taken pinned × CanHang pinned
 
--- with this line in the place of that of the number, the text is a program's of which no run ends stuck
-abbrev pub NeverWith : List ℕ → ℕ → List ℕ → Type 0
-NeverWith text number line = (pinned : List ℕ) × IsPinned text number line pinned × IsNeverStuck pinned
+-- with such words the text is a program's of which no run ends stuck
+abbrev pub NeverWith : List ℕ → ℕ → Taken → Type 0
+NeverWith text number taken = (pinned : List ℕ) × IsPinned text number taken pinned × IsNeverStuck pinned
 
 -- what is told of a text holds
 abbrev pub IsWay : List ℕ → Way → Type 0
@@ -25,19 +25,19 @@ IsWay text ways.Hangs = CanHang text
 IsWay text ways.Never = IsNeverStuck text
 IsWay text ways.Open = Unit {0}
 
--- what is told of the text with another line holds
-abbrev pub IsWayWith : List ℕ → ℕ → List ℕ → Way → Type 0
-IsWayWith text number line ways.Hangs = HangsWith text number line
-IsWayWith text number line ways.Never = NeverWith text number line
-IsWayWith text number line ways.Open = Unit {0}
+-- what is told of the text with such words holds
+abbrev pub IsWayWith : List ℕ → ℕ → Taken → Way → Type 0
+IsWayWith text number taken ways.Hangs = HangsWith text number taken
+IsWayWith text number taken ways.Never = NeverWith text number taken
+IsWayWith text number taken ways.Open = Unit {0}
 
--- with each of these lines no run ends stuck
-abbrev pub AreNever : List ℕ → ℕ → List (Vec ℕ) → Type 0
-AreNever text number lines = All (λ line. NeverWith text number line.items) lines
+-- in each of these ways no run ends stuck
+abbrev pub AreNever : List ℕ → ℕ → List Taken → Type 0
+AreNever text number others = All (λ taken. NeverWith text number taken) others
 
--- with some of these lines a run ends stuck
-abbrev pub SomeHangs : List ℕ → ℕ → List (Vec ℕ) → Type 0
-SomeHangs text number lines = (place : ℕ) × (line : Vec ℕ) × (slice_get lines place ≡ Some line) × HangsWith text number line.items
+-- in some of these ways a run ends stuck
+abbrev pub SomeHangs : List ℕ → ℕ → List Taken → Type 0
+SomeHangs text number others = (place : ℕ) × (taken : Taken) × (slice_get others place ≡ Some taken) × HangsWith text number taken
 
 -- what is told of the other ways of a choice
 abbrev pub AreOthers : List ℕ → Choice → Need → Type 0
@@ -46,12 +46,12 @@ AreOthers text choice needs.Tried = Unit {0}
 AreOthers text choice needs.No = SomeHangs text choice.line choice.others.items
 AreOthers text choice needs.NotAsked = Unit {0}
 
--- Where a choice was asked about, the program of the text with its line pinned as in the run has a run that ends stuck. Where it is known to be needed, no
--- run ends stuck with the line of any other way. Where it is told not to be needed, some run ends stuck with the line of another way.
+-- Where a choice was asked about, the program of the text whose line says what the run did has a run that ends stuck. Where it is known to be needed,
+-- no run ends stuck where the line says any other way. Where it is told not to be needed, some run ends stuck where it says another way.
 abbrev pub IsWeighed : List ℕ → Choice → Need → Type 0
-IsWeighed text choice needs.Known = HangsWith text choice.line choice.pinned.items × AreNever text choice.line choice.others.items
-IsWeighed text choice needs.Tried = HangsWith text choice.line choice.pinned.items
-IsWeighed text choice needs.No = HangsWith text choice.line choice.pinned.items × SomeHangs text choice.line choice.others.items
+IsWeighed text choice needs.Known = HangsWith text choice.line choice.taken × AreNever text choice.line choice.others.items
+IsWeighed text choice needs.Tried = HangsWith text choice.line choice.taken
+IsWeighed text choice needs.No = HangsWith text choice.line choice.taken × SomeHangs text choice.line choice.others.items
 IsWeighed text choice needs.NotAsked = Unit {0}
 
 -- all that is told of these choices holds

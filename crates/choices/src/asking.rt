@@ -5,7 +5,8 @@ ghost use Rattle.semantics.specs.Machine.{IsStuckRun};
 ghost use Rattle.prover.specs.Answers.{CanHang};
 ghost use Rattle.choices.specs.Weights.{HangsWith, IsWay, IsWayWith};
 
-use crate::pinning::with_line;
+use crate::items::Taken;
+use crate::pinning::with_choice;
 use callorder::Program;
 use checker::program_of;
 use prover::{Answer, Gate, Options, Reason, Until, Why, prove, walk_ends};
@@ -66,19 +67,19 @@ fn walked(alloc: Global, text: &[u8]) -> Result<Way, AllocError>
     }
 }
 
-/// What is known of the program of the text with another line in the place of that of this number, from 1: by a search, or where
-/// none is given by walks alone.
+/// What is known of the program of the text in whose line of this number, from 1, other words leave open no more than this: by a search, or
+/// where none is given by walks alone.
 pub fn way_with<R: Threads + Wait + Sync>(
     rt: &R,
     alloc: Global,
     text: &[u8],
     number: usize,
-    line: &[u8],
+    taken: Taken,
     search: Option<Options>,
 ) -> Result<Way, AllocError>
-    ensures { IfOk result (IsWayWith text.now number line.now) }
+    ensures { IfOk result (IsWayWith text.now number taken) }
 {
-    let found = with_line(alloc, text, number, line)?;
+    let found = with_choice(alloc, text, number, taken)?;
     let Some(pinned) = found else {
         return Ok(Way::Open);
     };
@@ -111,18 +112,18 @@ fn is_run(alloc: Global, program: &Program, steps: &[Step]) -> Result<bool, Allo
     }
 }
 
-/// Whether the steps are a run that ends stuck of the program of the text with another line in the place of that of this
-/// number, from 1.
+/// Whether the steps are a run that ends stuck of the program of the text in whose line of this number, from 1, other words leave open no more
+/// than this.
 pub fn hangs_with(
     alloc: Global,
     text: &[u8],
     number: usize,
-    line: &[u8],
+    taken: Taken,
     steps: &[Step],
 ) -> Result<bool, AllocError>
-    ensures { IfOk result (λ is. IsTrue is → HangsWith text.now number line.now) }
+    ensures { IfOk result (λ is. IsTrue is → HangsWith text.now number taken) }
 {
-    let found = with_line(alloc, text, number, line)?;
+    let found = with_choice(alloc, text, number, taken)?;
     let Some(pinned) = found else {
         return Ok(false);
     };

@@ -3,11 +3,9 @@
 ghost use Rattle.semantics.specs.Machine.{IsStuckRun};
 
 use crate::items::{Choice, Taken};
-use crate::places::{line_numbers, lines_of, verb_of};
+use crate::places::{line_numbers, lines_of};
 use crate::rivals::{is_wildcard, rivals};
 use callorder::{Kind, Mode, Policy, Program};
-use calltext::Verb;
-use plaintext::{is_word, put_number, words_of};
 use semantics::{State, Step};
 use std::alloc::{AllocError, Global};
 
@@ -16,104 +14,44 @@ use std::alloc::{AllocError, Global};
 pub struct Found {
     /// Those whose line can be pinned, in the order of the run.
     pub choices: Vec<Choice>,
-    /// How many others there are, in lines that stand for several calls.
+    /// How many others there are: whether sends of `sendrecv` lines are buffered.
     pub left_out: usize,
 }
 
-/// A line of the text, by its number, from 1.
-#[derive(Clone, Copy)]
-struct Numbered<'a> {
-    number: usize,
-    line: &'a [u8],
-}
-
-/// The line of a call, if it stands for that call alone.
-fn line_of_call<'a>(lines: &[&'a [u8]], numbers: &[usize], call: usize) -> Option<Numbered<'a>> {
+/// The number, from 1, of the line of a call, if other words in it can say what the call does.
+fn line_of_call(numbers: &[usize], call: usize) -> Option<usize> {
     let number = numbers.get(call).copied()?;
-    if number == 0 {
-        return None;
-    }
-    let line = lines.get(number - 1).copied()?;
-    Some(Numbered { number, line })
-}
-
-/// A send's line with a letter before its `send`.
-fn with_mode(alloc: Global, line: &[u8], letter: u8) -> Result<Vec<u8>, AllocError> {
-    let started = usize::from(line.starts_with(b"i")).min(line.len());
-    let mut out = Vec::from_slice(alloc, &line[..started])?;
-    out.push(letter)?;
-    out.extend_from_slice(&line[started..])?;
-    Ok(out)
-}
-
-/// The place, from 0, of the word that names the source.
-fn source_place(words: &[&[u8]]) -> usize {
-    match verb_of(words) {
-        Some(Verb::Receive { started: true } | Verb::MatchedProbe) => 2,
-        _ => 1,
-    }
-}
-
-/// The line of a call that finds messages, with this source and this tag in the place of stars.
-fn with_message(alloc: Global, line: &[u8], source: u32, tag: u32) -> Result<Vec<u8>, AllocError> {
-    let words = words_of(alloc, line)?;
-    let place_of_source = source_place(&words);
-    let mut out = Vec::new(alloc);
-    for (place, word) in words.iter().enumerate() {
-        if place > 0 {
-            out.push(b' ')?;
-        }
-        if !is_word(word, "*") {
-            out.extend_from_slice(word)?;
-        } else if place == place_of_source {
-            put_number(&mut out, source)?;
-        } else {
-            put_number(&mut out, tag)?;
-        }
-    }
-    Ok(out)
+    if number == 0 { None } else { Some(number) }
 }
 
 /// The choice of a standard send.
 fn send_choice(
     alloc: Global,
-    at: Numbered<'_>,
+    line: usize,
     rank: u32,
     step: usize,
     buffered: bool,
 ) -> Result<Choice, AllocError> {
-    let with_buffer = with_mode(alloc, at.line, b'b')?;
-    let without = with_mode(alloc, at.line, b's')?;
-    let (taken, pinned, other) = if buffered {
-        (Taken::Buffered, with_buffer, without)
+    let (taken, other) = if buffered {
+        (Taken::Buffered, Taken::NotBuffered)
     } else {
-        (Taken::NotBuffered, without, with_buffer)
+        (Taken::NotBuffered, Taken::Buffered)
     };
     let mut others = Vec::new(alloc);
     others.push(other)?;
     Ok(Choice {
-        line: at.number,
+        line,
         rank,
         step,
         taken,
-        pinned,
         others,
     })
 }
 
-/// The line with the message of each of these sends in the place of stars.
-fn lines_with(
-    alloc: Global,
-    program: &Program,
-    line: &[u8],
-    sends: &[usize],
-) -> Result<Vec<Vec<u8>>, AllocError> {
-    let mut others = Vec::new(alloc);
-    for send in sends {
-        let (source, tag) = envelope(program, *send);
-        others.push(with_message(alloc, line, source, tag)?)?;
-    }
-    Ok(others)
+/// That a call finds the message of this send.
+fn message_of(program: &Program, send: usize) -> Taken {
+    let (source, tag) = envelope(program, send);
+    Taken::Message { source, tag }
 }
 
 /// The rank and the tag of a send.
@@ -183,39 +121,27 @@ fn rank_of(program: &Program, call: usize) -> u32 {
     }
 }
 
-/// The choice of a call that found a message where others fitted too.
+/// The choice of a call that found the message of a send where others fitted too.
 fn message_choice(
     alloc: Global,
     program: &Program,
-    at: Numbered<'_>,
+    line: usize,
     finder: usize,
     step: usize,
-    sends: &[usize],
+    send: usize,
+    rivals: &[usize],
 ) -> Result<Choice, AllocError> {
-    let mut others = lines_with(alloc, program, at.line, sends)?;
-    let (source, tag) = match sends.first() {
-        Some(send) => envelope(program, *send),
-        None => (0, 0),
-    };
-    let pinned = with_message(alloc, at.line, source, tag)?;
-    if !others.is_empty() {
-        let _first = others.remove(0);
+    let mut others = Vec::new(alloc);
+    for rival in rivals {
+        others.push(message_of(program, *rival))?;
     }
     Ok(Choice {
-        line: at.number,
+        line,
         rank: rank_of(program, finder),
         step,
-        taken: Taken::Message { source, tag },
-        pinned,
+        taken: message_of(program, send),
         others,
     })
-}
-
-/// What is known of the text while its choices are found.
-#[derive(Clone, Copy)]
-struct Text<'a> {
-    lines: &'a [&'a [u8]],
-    numbers: &'a [usize],
 }
 
 /// Adds a choice of a send.
@@ -223,16 +149,16 @@ fn put_send(
     found: &mut Found,
     alloc: Global,
     program: &Program,
-    text: Text<'_>,
+    numbers: &[usize],
     step: usize,
     call: usize,
     buffered: bool,
 ) -> Result<(), AllocError> {
-    match line_of_call(text.lines, text.numbers, call) {
+    match line_of_call(numbers, call) {
         None => found.left_out = found.left_out.saturating_add(1),
-        Some(at) => {
+        Some(line) => {
             let rank = rank_of(program, call);
-            let choice = send_choice(alloc, at, rank, step, buffered)?;
+            let choice = send_choice(alloc, line, rank, step, buffered)?;
             found.choices.push(choice)?;
         }
     }
@@ -244,23 +170,20 @@ fn put_message(
     found: &mut Found,
     alloc: Global,
     program: &Program,
-    text: Text<'_>,
+    numbers: &[usize],
     state: &State,
     step: usize,
     send: usize,
     finder: usize,
 ) -> Result<(), AllocError> {
-    let others = rivals(alloc, program, state, send, finder)?;
-    if others.is_empty() {
+    let rivals = rivals(alloc, program, state, send, finder)?;
+    if rivals.is_empty() {
         return Ok(());
     }
-    let mut sends = Vec::new(alloc);
-    sends.push(send)?;
-    sends.extend_from_slice(&others)?;
-    match line_of_call(text.lines, text.numbers, finder) {
+    match line_of_call(numbers, finder) {
         None => found.left_out = found.left_out.saturating_add(1),
-        Some(at) => {
-            let choice = message_choice(alloc, program, at, finder, step, &sends)?;
+        Some(line) => {
+            let choice = message_choice(alloc, program, line, finder, step, send, &rivals)?;
             found.choices.push(choice)?;
         }
     }
@@ -272,7 +195,7 @@ fn put_choice(
     found: &mut Found,
     alloc: Global,
     program: &Program,
-    text: Text<'_>,
+    numbers: &[usize],
     state: &State,
     place: usize,
     step: Step,
@@ -280,10 +203,10 @@ fn put_choice(
     match open_at(program, state, step) {
         None => Ok(()),
         Some(Open::Send { call, buffered }) => put_send(
-            found, alloc, program, text, place, call, buffered,
+            found, alloc, program, numbers, place, call, buffered,
         ),
         Some(Open::Message { send, finder }) => {
-            put_message(found, alloc, program, text, state, place, send, finder)
+            put_message(found, alloc, program, numbers, state, place, send, finder)
         }
     }
 }
@@ -293,14 +216,14 @@ fn put_choices(
     found: &mut Found,
     alloc: Global,
     program: &Program,
-    text: Text<'_>,
+    numbers: &[usize],
     steps: &[Step],
 ) -> Result<(), AllocError>
     requires { IsStuckRun program.now steps.now }
 {
     let mut state = State::start(alloc, program)?;
     for (place, step) in steps.iter().enumerate() {
-        put_choice(found, alloc, program, text, &state, place, *step)?;
+        put_choice(found, alloc, program, numbers, &state, place, *step)?;
         state.apply(program, *step);
     }
     Ok(())
@@ -317,14 +240,10 @@ pub fn choices_of(
 {
     let lines = lines_of(alloc, text)?;
     let numbers = line_numbers(alloc, &lines)?;
-    let known = Text {
-        lines: &lines,
-        numbers: &numbers,
-    };
     let mut found = Found {
         choices: Vec::new(alloc),
         left_out: 0,
     };
-    put_choices(&mut found, alloc, program, known, steps)?;
+    put_choices(&mut found, alloc, program, &numbers, steps)?;
     Ok(found)
 }

@@ -24,10 +24,8 @@ pub struct Choice {
     pub step: usize,
     /// What the run did.
     pub taken: Taken,
-    /// The line, without its LF, with other words, which leave open no more than what the run did.
-    pub pinned: Vec<u8>,
-    /// The same for each other way.
-    pub others: Vec<Vec<u8>>,
+    /// What the call could have done otherwise.
+    pub others: Vec<Taken>,
 }
 
 /// Whether a program hangs only where a choice is made as in a run.
@@ -72,7 +70,7 @@ pub struct Decided {
     pub choices: Vec<Weighed>,
     /// Whether it was asked of each of them whether it suffices without it.
     pub least: bool,
-    /// How many choices were not asked about, since their line stands for several calls.
+    /// How many choices were not asked about, since no words of their line say so: whether sends of `sendrecv` lines are buffered.
     pub left_out: usize,
 }
 

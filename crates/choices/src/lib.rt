@@ -13,8 +13,9 @@ mod rivals;
 mod sufficing;
 mod telling;
 mod weighing;
+mod wording;
 
 pub use items::{Choice, Decided, Extent, Limits, Need, Taken, Weighed};
-pub use pinning::with_line;
+pub use pinning::with_choice;
 pub use telling::told;
 pub use weighing::decide;

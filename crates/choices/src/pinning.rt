@@ -1,14 +1,16 @@
-//! Texts with another line in the place of one.
+//! Texts with one choice pinned.
 
 ghost use Rattle.std.specs.Prelude.{IfOk, IfSome};
 ghost use Rattle.choices.specs.Pins.{AreAround, IsPinned};
 
+use crate::items::Taken;
+use crate::wording::line_with;
 use plaintext::next_line;
 use std::alloc::{AllocError, Global};
 
-/// What stands before the line of this number, from 1, and what stands after its LF.
-fn around(text: &[u8], number: usize) -> Option<(&[u8], &[u8])>
-    ensures { IfSome result (λ found. AreAround text.now number found.0.now found.1.now) }
+/// The line of this number, from 1, without its LF, between what stands before it and what stands after its LF.
+fn around(text: &[u8], number: usize) -> Option<(&[u8], &[u8], &[u8])>
+    ensures { IfSome result (λ found. AreAround text.now number found.0.now found.1.now found.2.now) }
 {
     if number == 0 {
         return None;
@@ -20,27 +22,28 @@ fn around(text: &[u8], number: usize) -> Option<(&[u8], &[u8])>
         };
         rest = next;
     }
-    let Some((_old, after)) = next_line(rest) else {
+    let Some((old, after)) = next_line(rest) else {
         return None;
     };
-    Some((&text[..text.len() - rest.len()], after))
+    Some((&text[..text.len() - rest.len()], old, after))
 }
 
-/// The text with another line, given without its LF, in the place of that of this number, from 1. None where the text has no
-/// such line. The only error is want of memory.
-pub fn with_line(
+/// The text in whose line of this number, from 1, other words leave open no more than what a run did. None where the text has no such
+/// line. The only error is want of memory.
+pub fn with_choice(
     alloc: Global,
     text: &[u8],
     number: usize,
-    line: &[u8],
+    taken: Taken,
 ) -> Result<Option<Vec<u8>>, AllocError>
-    ensures { IfOk result (λ found. IfSome found (λ pinned. IsPinned text.now number line.now pinned.items)) }
+    ensures { IfOk result (λ found. IfSome found (λ pinned. IsPinned text.now number taken pinned.items)) }
 {
-    let Some((before, after)) = around(text, number) else {
+    let Some((before, old, after)) = around(text, number) else {
         return Ok(None);
     };
+    let line = line_with(alloc, old, taken)?;
     let mut out = Vec::from_slice(alloc, before)?;
-    out.extend_from_slice(line)?;
+    out.extend_from_slice(&line)?;
     out.push(b'\n')?;
     out.extend_from_slice(after)?;
     Ok(Some(out))

@@ -15,24 +15,24 @@ pub fn verb_of(words: &[&[u8]]) -> Option<Verb> {
     Verb::find(first)
 }
 
-/// For how many calls a line stands.
-fn count_parts(words: &[&[u8]]) -> usize {
+/// Adds a number for each call of the line of this number, from 1.
+fn put_numbers(numbers: &mut Vec<usize>, words: &[&[u8]], number: usize) -> Result<(), AllocError> {
     match verb_of(words) {
-        Some(Verb::WaitAll) => words.len().saturating_sub(1),
-        Some(Verb::SendReceive) => 4,
-        Some(_) => 1,
-        None => 0,
+        Some(Verb::WaitAll) => put_copies(numbers, 0, words.len().saturating_sub(1)),
+        // The send, the receive and two waits. Other words in the line can say what the receive finds, but not whether the send is buffered.
+        Some(Verb::SendReceive) => numbers.extend_from_slice(&[0, number, 0, 0]),
+        Some(_verb) => put_copies(numbers, number, 1),
+        None => Ok(()),
     }
 }
 
-/// For each call the number of its line, from 1, or 0 where the line stands for several calls.
+/// For each call the number of its line, from 1, or 0 where other words in the line can't say what the call does: that of a `waitall`, and
+/// that of a `sendrecv`, but for its receive.
 pub fn line_numbers(alloc: Global, lines: &[&[u8]]) -> Result<Vec<usize>, AllocError> {
     let mut numbers = Vec::new(alloc);
     for (index, line) in lines.iter().enumerate() {
         let words = words_of(alloc, line)?;
-        let parts = count_parts(&words);
-        let number = if parts == 1 { index + 1 } else { 0 };
-        put_copies(&mut numbers, number, parts)?;
+        put_numbers(&mut numbers, &words, index + 1)?;
     }
     Ok(numbers)
 }

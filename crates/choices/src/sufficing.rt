@@ -2,6 +2,7 @@
 
 use crate::items::{Choice, Extent};
 use crate::places::lines_of;
+use crate::wording::line_with;
 use prover::{Reason, Until, walk_ends};
 use std::alloc::{AllocError, Global};
 
@@ -50,15 +51,31 @@ fn pins(
     Ok(pins)
 }
 
-/// The line that pins a choice, by its place, from 1, or else the line itself.
-fn pinned_or<'a>(choices: &'a [Choice], place: usize, line: &'a [u8]) -> &'a [u8] {
+/// The choice at a place, from 1.
+fn choice_at(choices: &[Choice], place: usize) -> Option<&Choice> {
     if place == 0 {
-        return line;
+        return None;
     }
-    match choices.get(place - 1) {
-        None => line,
-        Some(choice) => &choice.pinned,
+    choices.get(place - 1)
+}
+
+/// Adds a line, which pins the choice at a place, from 1, if there is one.
+fn put_line(
+    out: &mut Vec<u8>,
+    alloc: Global,
+    choices: &[Choice],
+    place: usize,
+    line: &[u8],
+) -> Result<(), AllocError> {
+    match choice_at(choices, place) {
+        None => out.extend_from_slice(line)?,
+        Some(choice) => {
+            let pinned = line_with(alloc, line, choice.taken)?;
+            out.extend_from_slice(&pinned)?;
+        }
     }
+    out.push(b'\n')?;
+    Ok(())
 }
 
 /// The text with these choices pinned as in the run.
@@ -73,8 +90,7 @@ fn text_with(
     let mut out = Vec::with_capacity(alloc, text.len())?;
     for (line, pin) in lines.iter().zip(pins.iter()) {
         if !line.is_empty() {
-            out.extend_from_slice(pinned_or(choices, *pin, line))?;
-            out.push(b'\n')?;
+            put_line(&mut out, alloc, choices, *pin, line)?;
         }
     }
     Ok(out)

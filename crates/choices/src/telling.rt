@@ -79,7 +79,7 @@ pub fn told(alloc: Global, text: &[u8], decided: &Decided) -> Result<String, All
         let count = decided.left_out;
         write!(
             out,
-            "  choices in lines that stand for several calls, which were not asked about: {count}\n"
+            "  sends of sendrecv lines, of which it was not asked whether they are buffered: {count}\n"
         )?;
     }
     Ok(out)

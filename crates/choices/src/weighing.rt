@@ -46,7 +46,7 @@ fn others_of<R: Threads + Wait + Sync>(
 {
     let mut known = true;
     for other in &choice.others {
-        let way = way_with(rt, alloc, text, choice.line, other, search)?;
+        let way = way_with(rt, alloc, text, choice.line, *other, search)?;
         if is_hanging(way) {
             return Ok(Need::No);
         }
@@ -77,10 +77,10 @@ fn hangs_pinned(
     steps: &[Step],
     choice: &Choice,
 ) -> Result<bool, AllocError>
-    ensures { IfOk result (λ is. IsTrue is → HangsWith text.now choice.now.line choice.now.pinned.items) }
+    ensures { IfOk result (λ is. IsTrue is → HangsWith text.now choice.now.line choice.now.taken) }
 {
     let pinned = steps_with(alloc, steps, choice)?;
-    hangs_with(alloc, text, choice.line, &choice.pinned, &pinned)
+    hangs_with(alloc, text, choice.line, choice.taken, &pinned)
 }
 
 /// Whether a choice of a run is needed.
@@ -199,7 +199,7 @@ fn decided_run<R: Threads + Wait + Sync>(
 ///
 /// The choices of a run are the standard sends that it buffered, and those that it did not, where the policy leaves that open, and the messages that
 /// wildcards found where one of another rank fitted too. Each is pinned by other words in its line: a send in buffered or synchronous mode, or
-/// a source and a tag in the place of stars. Lines that stand for several calls are left out. Choices suffice where each walk that was taken of the
+/// a source and a tag in the place of stars, those of the receive of a `sendrecv` too. Whether its send is buffered is left out. Choices suffice where each walk that was taken of the
 /// program with all of them pinned ended stuck; they are found by dropping others, first many at once, then each in turn.
 ///
 /// Each choice that suffices with the others is then asked about alone. It is told only where its line, pinned as in the run, makes a

@@ -11,4 +11,4 @@ slice_bounds-result-count c = rest_within c.args.text.now c.loop-turn._turn c.lo
 pub returns : goal.returns
 returns c =
     let at : c.args.number ≡ c.loop-turn._turn + 1 = omega arith in
-    around_next c.args.text.now c.args.number c.loop-turn._turn c.loop-turn.rest.now c.in-Some-next_line._old.now c.in-Some-next_line.after.now c.loop-turn.invariant c.in-Some-next_line.ensures.some at
+    around_next c.args.text.now c.args.number c.loop-turn._turn c.loop-turn.rest.now c.in-Some-next_line.old.now c.in-Some-next_line.after.now c.loop-turn.invariant c.in-Some-next_line.ensures.some at

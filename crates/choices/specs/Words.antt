@@ -1,0 +1,47 @@
+-- The words of a line that pins a choice.
+use Rattle.std.specs.Prelude.{ℕ, ◌+◌, ◌-◌, ◌==◌, if◌then◌else◌, List, [], ◌∷◌, ◌++◌, Bool, codes, length, get_or, take, drop}
+use Rattle.std.specs.Cmp.Lexicographic.{pointwise}
+use Rattle.std.specs.List.{slice_split, starts_with}
+use Rattle.plaintext.specs.Plain.{numeral}
+use Rattle.choices.specs.declared.items.Taken.{Taken}
+use Rattle.choices.specs.declared.items.Taken.TheVariants as taken
+
+abbrev pub is_same : List ℕ → List ℕ → Bool
+is_same = pointwise (λ x y. x == y)
+
+-- how many letters stand before the `send` of a line
+abbrev pub front_letters : List ℕ → ℕ
+front_letters line = if starts_with (λ x y. x == y) line (codes "i") then 1 else 0
+
+-- the line of a send with a letter before its `send`
+abbrev pub letter_line : ℕ → List ℕ → List ℕ
+letter_line letter line = take (front_letters line) line ++ letter ∷ drop (front_letters line) line
+
+-- the place, from 0, of the word that names the source: the one before the tag, with which the line ends, unless ` comm C` follows
+abbrev pub source_place : List (List ℕ) → ℕ
+source_place words = if is_same (get_or words (length words - 2) []) (codes "comm") then length words - 4 else length words - 2
+
+-- the word at a place, or what stands for it: the source or the tag for a star
+abbrev pub told_word : ℕ → ℕ → ℕ → ℕ → List ℕ → List ℕ
+told_word source tag at place word = if is_same word (codes "*") then numeral (if place == at then source else tag) else word
+
+-- a blank before each word but the first
+abbrev pub blank_before : ℕ → List ℕ
+blank_before place = if place == 0 then [] else codes " "
+
+-- the words from a place on
+abbrev pub told_words : ℕ → ℕ → ℕ → ℕ → List (List ℕ) → List ℕ
+told_words source tag at place [] = []
+told_words source tag at place (word ∷ words) =
+    (blank_before place ++ told_word source tag at place word) ++ told_words source tag at (place + 1) words
+
+-- the line of a call that finds messages, with this source and this tag in the place of stars
+abbrev pub message_line : ℕ → ℕ → List ℕ → List ℕ
+message_line source tag line =
+    told_words source tag (source_place (slice_split (λ b. b == 32) line)) 0 (slice_split (λ b. b == 32) line)
+
+-- the line with words that leave open no more than what a run did: a buffered send is one in buffered mode, another one is synchronous
+abbrev pub line_with : Taken → List ℕ → List ℕ
+line_with taken.Buffered line = letter_line 98 line
+line_with taken.NotBuffered line = letter_line 115 line
+line_with (taken.Message source tag) line = message_line source tag line
