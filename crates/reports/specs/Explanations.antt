@@ -3,8 +3,12 @@ use Rattle.std.specs.Prelude.{◌≡◌, ℕ, List, [], ◌++◌, codes, decimal
 use Rattle.std.specs.List.{filter}
 use Rattle.settings.specs.declared.form.Form.{Form}
 use Rattle.settings.specs.declared.form.Form.TheVariants as forms
+use Rattle.calltext.specs.Grammar.{IsText, ProgramText}
 use Rattle.callorder.specs.Programs.{MpiProgram}
 use Rattle.callorder.specs.Resolving.{IsTextOf}
+use Rattle.semantics.specs.declared.state.Step.{Step}
+use Rattle.charts.specs.Chart.{chart_of}
+use Rattle.charts.specs.Picture.{picture_of}
 use Rattle.refutations.specs.declared.tree.Node.{Node}
 use Rattle.refutations.specs.declared.tree.Node.TheVariants.{Split, Leaf}
 use Rattle.prooflog.specs.Grammar.{IsEvidenceText}
@@ -101,10 +105,20 @@ numbers_text m p claim = m.begin ++ (size_lines m p ++ (choice_lines m p ++ (cla
 abbrev pub counts_text : Form → MpiProgram → ClaimedRefutation → List ℕ
 counts_text form = numbers_text (marks_of form)
 
+-- the text draws the run of these steps, as a chart or as a picture, where the form is one of these
+abbrev pub IsDrawn : Form → List ℕ → MpiProgram → List Step → List ℕ → Type 0
+IsDrawn forms.Chart program p steps text = (source : ProgramText) × IsText program source × (text ≡ chart_of program source p steps)
+IsDrawn forms.Picture program p steps text = (source : ProgramText) × IsText program source × (text ≡ picture_of program source p steps)
+IsDrawn forms.Brief program p steps text = Unit {0}
+IsDrawn forms.Whole program p steps text = Unit {0}
+IsDrawn forms.Graph program p steps text = Unit {0}
+IsDrawn forms.Object program p steps text = Unit {0}
+
 -- A text that tells sizes comes where the evidence refutes the program, and tells those of the program that the one text is of and of the
--- refutation that the other is of; a text on a deadlock where the evidence shows one; and a refusal has a verdict's reason.
+-- refutation that the other is of; a text on a deadlock where the evidence shows one, whose run a chart and a picture draw; and a refusal has a
+-- verdict's reason.
 abbrev pub Explains : Form → List ℕ → List ℕ → Explained → Type 0
 Explains form program evidence (told.NoDeadlock text) =
     Refutes program evidence × ((p : MpiProgram) × (claim : ClaimedRefutation) × IsTextOf program p × IsEvidenceText evidence (Refutation claim) × (text.items ≡ counts_text form p claim))
-Explains form program evidence (told.Deadlock text) = Shows program evidence
+Explains form program evidence (told.Deadlock text) = (shown : Shows program evidence) × IsDrawn form program shown.p shown.steps text.items
 Explains form program evidence (told.Refused reason) = IsReason program evidence reason

@@ -1,9 +1,9 @@
 //! The explanation of an answer.
 
-ghost use Rattle.std.specs.Prelude.{◌<◌, ◌≤◌};
+ghost use Rattle.std.specs.Prelude.{◌<◌, ◌≤◌, IfOk};
 ghost use Rattle.semantics.specs.Machine.{IsStuckRun};
 ghost use Rattle.checker.specs.Verdicts.{AreRefuted, Shows};
-ghost use Rattle.reports.specs.Explanations.{Explains};
+ghost use Rattle.reports.specs.Explanations.{Explains, IsDrawn};
 
 use crate::counts::counts_text;
 use callorder::Program;
@@ -85,6 +85,7 @@ fn deadlock_text<R: Threads + Wait + Sync>(
     form: Form,
 ) -> Result<Vec<u8>, AllocError>
     requires { IsStuckRun program.now steps.now }
+    ensures { IfOk result (λ told. IsDrawn form text.now program.now steps.now told.items) }
 {
     // The program was made of this text, so want of memory alone can be met.
     let Ok(source) = read(alloc, text) else {
@@ -94,7 +95,7 @@ fn deadlock_text<R: Threads + Wait + Sync>(
         Form::Graph => wait_graph(alloc, text, &source, program, steps),
         Form::Chart => chart(alloc, text, &source, program, steps),
         Form::Picture => picture(alloc, text, &source, program, steps),
-        _ => {
+        Form::Brief | Form::Whole | Form::Object => {
             let decided = decided_text(rt, alloc, text, evidence)?;
             told_text(alloc, text, &source, program, steps, &decided, form)
         }
