@@ -4,3 +4,7 @@ pub mod Deadlocks
 pub mod TaskEnds
 pub mod RunLaws
 pub mod PlainAnswers
+pub mod StandIns
+pub mod StrayEvidences
+pub mod WholeTexts
+pub mod WholeAnswers

@@ -300,7 +300,7 @@ encoded = record {
 abbrev SearchEnds : Text → Option Text → ℕ → Bool → Bool → FilesTold → (List ℕ → Option (List ℕ)) → (List ℕ → Option (List ℕ))
     → Option (List ℕ) → Option (List ℕ) → Option (List ℕ) → Option (List ℕ) → ℕ → Type 0
 SearchEnds p out budget progress as_json tells before after old new told_old told_new status =
-    EndsFollowed progress (IsProved tells.writes before after p out budget as_json) (IsProveFile tells.reads p out before after) want.Unknown as_json before after old new told_old told_new status
+    EndsFollowed progress tells.terminal (IsProved tells.writes before after p out budget as_json) (IsProveFile tells.reads p out before after) want.Unknown as_json before after old new told_old told_new status
     ⊎ FailsEarly old new told_old told_new status
 
 search_ends : (words : List Text) (p : Text) (out : Option Text) (budget : ℕ) (progress as_json : Bool) (tells : FilesTold) (before after : List ℕ → Option (List ℕ)) (old new told_old told_new : Option (List ℕ)) (status : ℕ)
@@ -326,7 +326,7 @@ module _ (p : Text) (out : Option Text) (budget : ℕ) (progress as_json : Bool)
 
   search_printed : (own : ℕ) → own < 4 → (line : List ℕ)
       → ((text : List ℕ) → IsProved tells.writes before after p out budget as_json text own → text ≡ line) → SearchEnds p out budget progress as_json tells before after old new told_old told_new status → status ≡ own
-      → (told : Option (List ℕ)) × IsFollowed progress told_old told × PrintsAlone old new told told_new line own status
+      → (told : Option (List ℕ)) × IsFollowed progress tells.terminal told_old told × PrintsAlone old new told told_new line own status
   search_printed own low line known (inl ends) is = (
     ends.0,
     ends.1,
@@ -341,9 +341,9 @@ proved words p out budget progress as_json tells before after program old new to
     prove_shows tells.writes before after p out budget as_json page.0 page.1 program page.2 page.3 held
 
 pub written : WrittenDeadlockIsShown
-written words p file budget progress as_json reads before after program old new told_old told_new status asks held ends says =
-    let page = search_that_told p (Some file) budget progress as_json (record { writes = true; reads = reads }) before after old new told_old told_new status
-    (search_ends words p (Some file) budget progress as_json (record { writes = true; reads = reads }) before after old new told_old told_new status asks ends) says in
+written words p file budget progress as_json reads terminal before after program old new told_old told_new status asks held ends says =
+    let page = search_that_told p (Some file) budget progress as_json (record { writes = true; reads = reads; terminal = terminal }) before after old new told_old told_new status
+    (search_ends words p (Some file) budget progress as_json (record { writes = true; reads = reads; terminal = terminal }) before after old new told_old told_new status asks ends) says in
     file_shows before after p file budget as_json page.0 page.1 program page.2 page.3 held
 
 pub proved_never : ProvedSafetyIsTrue
@@ -352,9 +352,9 @@ proved_never words p out budget progress as_json tells before after program old 
     prove_never tells.writes before after p out budget as_json page.0 page.1 program page.2 page.3 held
 
 pub written_never : WrittenSafetyIsRefuted
-written_never words p file budget progress as_json reads before after program old new told_old told_new status asks held ends says =
-    let page = search_that_reassured p (Some file) budget progress as_json (record { writes = true; reads = reads }) before after old new told_old told_new status
-    (search_ends words p (Some file) budget progress as_json (record { writes = true; reads = reads }) before after old new told_old told_new status asks ends) says in
+written_never words p file budget progress as_json reads terminal before after program old new told_old told_new status asks held ends says =
+    let page = search_that_reassured p (Some file) budget progress as_json (record { writes = true; reads = reads; terminal = terminal }) before after old new told_old told_new status
+    (search_ends words p (Some file) budget progress as_json (record { writes = true; reads = reads; terminal = terminal }) before after old new told_old told_new status asks ends) says in
     file_refutes before after p file budget as_json page.0 page.1 program page.2 page.3 held
 
 safe_search : (tells : Bool) (before after : List ℕ → Option (List ℕ)) (path : List ℕ) (out : Option (List ℕ)) (budget : ℕ) (json : Bool) (text : List ℕ)
@@ -436,9 +436,9 @@ exported_never words p e out tells before after program old new told_old told_ne
     check_never (before p) (before e) false page.0 page.1 program (exported_checked tells.writes before after p e out page.0 page.1 page.2) page.3 held
 
 pub exported_written : ExportedProofIsWritten
-exported_written words p e out reads before after program evidence old new told_old told_new status asks held_p held_e ends says =
+exported_written words p e out reads terminal before after program evidence old new told_old told_new status asks held_p held_e ends says =
     let page = page_that_reassured (IsExported true before after p e out) (IsExportFile reads p e out before after) want.Refused false before after old new told_old told_new status
-    (export_ends words p e out (record { writes = true; reads = reads }) before after old new told_old told_new status asks ends) says in
+    (export_ends words p e out (record { writes = true; reads = reads; terminal = terminal }) before after old new told_old told_new status asks ends) says in
     exported_proof before after p e out page.0 page.1 program evidence page.2 page.3 held_p held_e
 
 -- an export that tells a deadlock changes no file
@@ -494,9 +494,9 @@ trimmed_untold tells before after e out as_json text status (evidence, all, inr 
 
 pub trimmed : TrimmedRefutationIsWritten
 trimmed = record {
-  written = λ words e out as_json reads before after evidence old new told_old told_new status asks held ends zero.
+  written = λ words e out as_json reads terminal before after evidence old new told_old told_new status asks held ends zero.
       let page = page_printed 0 (omega arith) (IsTrimmed true before after e out as_json) (IsTrimFile reads e out before after) want.Refused as_json before after old new told_old told_new status
-      (trim_ends words e out as_json (record { writes = true; reads = reads }) before after old new told_old told_new status asks ends) zero in
+      (trim_ends words e out as_json (record { writes = true; reads = reads; terminal = terminal }) before after old new told_old told_new status asks ends) zero in
       let is = trimmed_page true before after e out as_json page.0 0 page.1 (omega arith) in
       let s = is.2.0 in
       let shortens : Shortens evidence s = subst (λ (bytes : List ℕ). Shortens bytes s) (all_are (before e) is.0 evidence is.1 held) is.2.1 in (

@@ -1,17 +1,22 @@
 -- Where there is no deadlock, the proof is written, or its file failed.
-use Rattle.std.proofs.Common.{◌≡◌, ◌∙◌, IfErr, IfOk, OnOk, Bool, false, ℕ, List, Result, Ok, Err, Some, inr, sym, subst}
+use Rattle.std.proofs.Common.{◌≡◌, ◌≢◌, ◌∙◌, IfErr, IfOk, OnOk, Bool, false, ℕ, List, Result, Ok, Err, Some, inr, refl, sym, subst}
 use Rattle.std.specs.Prelude.{Option}
 use Rattle.std.proofs.lemmas.Option.{same_Some}
 use Rattle.files.specs.Contents.{AreAll}
+use Rattle.checker.specs.declared.reason.Verdict.{Verdict}
 use Rattle.checker.specs.declared.reason.Verdict.TheVariants as verdicts
 use Rattle.checker.proofs.Reasons.{refuted_refute}
 use Rattle.reports.specs.Exports.{Exports}
 use Rattle.session.specs.Lines.{IsLine}
-use Rattle.session.specs.Pages.{IsExported, IsExportFile, IsWritten, StopsBy}
+use Rattle.session.specs.Pages.{IsExported, IsExportedTo, IsExportFile, IsWritten, StopsBy}
+use Rattle.session.specs.Texts.{AreAlikeEvidences, AreAlikePrograms, StandsFor}
 use Rattle.session.specs.declared.commands.Stop.{Stop}
 use Rattle.session.specs.declared.commands.Stop.TheVariants as stop
 use Rattle.session.specs.declared.page.Page.{Page}
+use Rattle.session.specs.declared.told.Told.{Told}
 use Rattle.session.specs.declared.told.Told.TheVariants as told
+use Rattle.session.proofs.WholeAnswers.{whole_proof}
+use Rattle.session.proofs.WholeTexts.{whole_verdict}
 use Rattle.session.proofs.commands.export_page.Goals as goal
 
 -- the page of a proof that was written
@@ -41,21 +46,49 @@ stops_written reads old between new program_path evidence_path file program evid
 stops_written reads old between new program_path evidence_path file program evidence proof (Err (stop.File path)) same all_p all_e exports stops =
     inr (same_Some file path.now stops, (program, evidence, all_p, all_e, refuted_refute program evidence exports.f exports.claim exports.refuted))
 
+-- no proof is written for another verdict
+unexported : (tells : Bool) (old new : List ℕ → Option (List ℕ)) (file program evidence : List ℕ) (v : Verdict) → v ≢ verdicts.NoDeadlock → new ≡ old
+    → IsExportedTo tells old new file program evidence v
+unexported tells old new file program evidence verdicts.NoDeadlock other same = absurd (other refl)
+unexported tells old new file program evidence verdicts.Deadlock other same = same
+unexported tells old new file program evidence (verdicts.Refused reason) other same = same
+
 pub returns-in-Ok-clause-page : goal.returns-in-Ok-clause-page
 returns-in-Ok-clause-page g c =
     let held = g.F.FileSet.held c.args.files.now in
-    let program = subst (AreAll (held c.args.program.now)) (sym c.deref.ensures.value) c.in_ok-program.ensures.program in
-    let evidence = subst (AreAll (held c.args.evidence.now)) (sym c.deref-2.ensures.value) c.in_ok-program.ensures.evidence in
+    let proof = c.deref-in-Ok.result.now in
+    let (program, all_p, alike_p) = subst (StandsFor AreAlikePrograms (held c.args.program.now)) (sym c.deref.ensures.value) c.in_ok-program.ensures.program in
+    let (evidence, all_e, alike_e) = subst (StandsFor AreAlikeEvidences (held c.args.evidence.now)) (sym c.deref-2.ensures.value) c.in_ok-program.ensures.evidence in
     page_written g.F.FileSet.tells_written held (g.F.FileSet.held c.read_both.new.files) (g.F.FileSet.held c.decided_page.new.files)
-    c.args.program.now c.args.evidence.now c.args.out.now c.deref.result.now c.deref-2.result.now c.deref-in-Ok.result.now c.decided_page.result program evidence
-    (subst (Exports c.deref.result.now c.deref-2.result.now) (sym c.deref-in-Ok.ensures.value) c.in-Ok.ensures.proof) c.decided_page.ensures.written c.decided_page.ensures.line
+    c.args.program.now c.args.evidence.now c.args.out.now program evidence proof c.decided_page.result all_p all_e
+    (whole_proof c.deref.result.now program c.deref-2.result.now evidence proof alike_p alike_e
+    (subst (Exports c.deref.result.now c.deref-2.result.now) (sym c.deref-in-Ok.ensures.value) c.in-Ok.ensures.proof)) c.decided_page.ensures.written c.decided_page.ensures.line
 
 pub returns-in-Ok-clause-stop : goal.returns-in-Ok-clause-stop
 returns-in-Ok-clause-stop g c =
     let held = g.F.FileSet.held c.args.files.now in
-    let program = subst (AreAll (held c.args.program.now)) (sym c.deref.ensures.value) c.in_ok-program.ensures.program in
-    let evidence = subst (AreAll (held c.args.evidence.now)) (sym c.deref-2.ensures.value) c.in_ok-program.ensures.evidence in
+    let proof = c.deref-in-Ok.result.now in
+    let (program, all_p, alike_p) = subst (StandsFor AreAlikePrograms (held c.args.program.now)) (sym c.deref.ensures.value) c.in_ok-program.ensures.program in
+    let (evidence, all_e, alike_e) = subst (StandsFor AreAlikeEvidences (held c.args.evidence.now)) (sym c.deref-2.ensures.value) c.in_ok-program.ensures.evidence in
     stops_written (g.F.FileSet.reads c.args.files.now) held (g.F.FileSet.held c.read_both.new.files) (g.F.FileSet.held c.decided_page.new.files)
-    c.args.program.now c.args.evidence.now c.args.out.now c.deref.result.now c.deref-2.result.now c.deref-in-Ok.result.now c.decided_page.result
-    c.in_ok-program.ensures.same program evidence
-    (subst (Exports c.deref.result.now c.deref-2.result.now) (sym c.deref-in-Ok.ensures.value) c.in-Ok.ensures.proof) c.decided_page.ensures.stop
+    c.args.program.now c.args.evidence.now c.args.out.now program evidence proof c.decided_page.result c.in_ok-program.ensures.same all_p all_e
+    (whole_proof c.deref.result.now program c.deref-2.result.now evidence proof alike_p alike_e
+    (subst (Exports c.deref.result.now c.deref-2.result.now) (sym c.deref-in-Ok.ensures.value) c.in-Ok.ensures.proof)) c.decided_page.ensures.stop
+
+pub returns-clause-page : goal.returns-clause-page
+returns-clause-page g c =
+    let held = g.F.FileSet.held c.args.files.now in
+    let page = c.in_ok-page_of-in-Err.field-0 in
+    let v = c.in-Err.verdict in
+    let (program, all_p, alike_p) = subst (StandsFor AreAlikePrograms (held c.args.program.now)) (sym c.deref.ensures.value) c.in_ok-program.ensures.program in
+    let (evidence, all_e, alike_e) = subst (StandsFor AreAlikeEvidences (held c.args.evidence.now)) (sym c.deref-2.ensures.value) c.in_ok-program.ensures.evidence in (
+      program,
+      evidence,
+      v,
+      all_p,
+      all_e,
+      whole_verdict c.deref.result.now program c.deref-2.result.now evidence v alike_p alike_e c.in-Err.ensures.judges,
+      unexported g.F.FileSet.tells_written held (g.F.FileSet.held c.read_both.new.files) c.args.out.now program evidence v c.in-Err.ensures.other
+          c.in_ok-program.ensures.same,
+      subst (λ (t : Told). IsLine t false page.text.items page.status) c.from.ensures c.in_ok-page_of-in-Err.ensures,
+    )

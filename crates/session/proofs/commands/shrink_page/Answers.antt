@@ -1,5 +1,5 @@
 -- Where a program was made smaller, its text is told or written, or its file failed.
-use Rattle.std.proofs.Common.{◌≡◌, ◌∙◌, IfErr, IfOk, OnOk, Bool, ℕ, List, Result, Ok, Err, Some, None, inl, inr, refl, sym, subst, option_map}
+use Rattle.std.proofs.Common.{◌≡◌, ◌∙◌, IfErr, IfOk, OnOk, Bool, ℕ, List, Result, Ok, Err, Some, inl, inr, sym, subst, option_map}
 use Rattle.std.specs.Prelude.{Option}
 use Rattle.files.specs.Contents.{AreAll}
 use Rattle.prover.specs.Answers.{CanHang}
@@ -7,9 +7,11 @@ use Rattle.shrinking.specs.Shrinking.{IsNotShrunk, IsShrunk}
 use Rattle.shrinking.specs.declared.driving.NotShrunk.{NotShrunk}
 use Rattle.shrinking.specs.declared.driving.NotShrunk.TheVariants as unshrunk
 use Rattle.session.specs.Pages.{IsMadeSmaller, IsShrinkFile, IsShrunkTo, IsSmallerPage, IsUnshrunkPage, IsWritten, StopsBy}
+use Rattle.session.specs.Texts.{AreAlikePrograms, StandsFor}
 use Rattle.session.specs.declared.commands.Stop.{Stop}
 use Rattle.session.specs.declared.commands.Stop.TheVariants as stop
 use Rattle.session.specs.declared.page.Page.{Page}
+use Rattle.session.proofs.WholeAnswers.{whole_hangs, whole_shrunk, whole_unshrunk}
 use Rattle.session.proofs.commands.shrink_page.Goals as goal
 
 -- the page of a smaller program
@@ -39,12 +41,13 @@ pub returns-in-Ok-clause-page : goal.returns-in-Ok-clause-page
 returns-in-Ok-clause-page g c =
     let held = g.F.FileSet.held c.args.files.now in
     let out = option_map (λ path. path.now) c.args.out in
-    let all = subst (AreAll (held c.args.program.now)) (sym c.deref.ensures.value) c.in_ok-text.ensures.bytes in
-    let between = g.F.FileSet.held c.read.new.files in
+    let (whole, all, alike) = subst (StandsFor AreAlikePrograms (held c.args.program.now)) (sym c.deref.ensures.value) c.in_ok-text.ensures.bytes in
+    let hangs = whole_hangs c.deref.result.now whole alike c.in-Ok.ensures.given in
+    let between = g.F.FileSet.held c.read_program.new.files in
     let new = g.F.FileSet.held c.smaller_page.new.files in
     let smaller = c.in-Ok.shrunk.text.items in
-    page_written g.F.FileSet.tells_written held between new c.args.program.now out c.deref.result.now smaller c.smaller_page.result
-    c.in_ok-text.ensures.same all c.in-Ok.ensures.given c.in-Ok.ensures.shrunk
+    page_written g.F.FileSet.tells_written held between new c.args.program.now out whole smaller c.smaller_page.result
+    c.in_ok-text.ensures.same all hangs (whole_shrunk c.deref.result.now whole smaller alike c.in-Ok.ensures.given c.in-Ok.ensures.shrunk)
     (subst (λ (s : List ℕ). OnOk c.smaller_page.result (IsWritten g.F.FileSet.tells_written between new out s)) c.deref-in-Ok.ensures.value c.smaller_page.ensures.written)
     (subst (λ (s : List ℕ). IfOk c.smaller_page.result (λ (p : Page). IsSmallerPage out s p.text.items)) c.deref-in-Ok.ensures.value c.smaller_page.ensures.page)
     c.smaller_page.ensures.status
@@ -53,16 +56,19 @@ pub returns-in-Ok-clause-stop : goal.returns-in-Ok-clause-stop
 returns-in-Ok-clause-stop g c =
     let held = g.F.FileSet.held c.args.files.now in
     let out = option_map (λ path. path.now) c.args.out in
-    let all = subst (AreAll (held c.args.program.now)) (sym c.deref.ensures.value) c.in_ok-text.ensures.bytes in
-    stops_written (g.F.FileSet.reads c.args.files.now) held (g.F.FileSet.held c.read.new.files) (g.F.FileSet.held c.smaller_page.new.files)
-    c.args.program.now out c.deref.result.now c.smaller_page.result c.in_ok-text.ensures.same all c.in-Ok.ensures.given c.smaller_page.ensures.stop
+    let (whole, all, alike) = subst (StandsFor AreAlikePrograms (held c.args.program.now)) (sym c.deref.ensures.value) c.in_ok-text.ensures.bytes in
+    let hangs = whole_hangs c.deref.result.now whole alike c.in-Ok.ensures.given in
+    stops_written (g.F.FileSet.reads c.args.files.now) held (g.F.FileSet.held c.read_program.new.files) (g.F.FileSet.held c.smaller_page.new.files)
+    c.args.program.now out whole c.smaller_page.result c.in_ok-text.ensures.same all hangs c.smaller_page.ensures.stop
 
 pub returns-clause-page : goal.returns-clause-page
 returns-clause-page g c =
     let held = g.F.FileSet.held c.args.files.now in
-    let page = c.in_ok-unshrunk_page-in-Err.field-0 in (
-      c.deref.result.now,
-      subst (AreAll (held c.args.program.now)) (sym c.deref.ensures.value) c.in_ok-text.ensures.bytes,
-      untold g.F.FileSet.tells_written held (g.F.FileSet.held c.read.new.files) (option_map (λ path. path.now) c.args.out) c.deref.result.now c.in-Err.why
-          page.text.items page.status c.in_ok-text.ensures.same c.in-Err.ensures.why c.in_ok-unshrunk_page-in-Err.ensures,
+    let page = c.in_ok-unshrunk_page-in-Err.field-0 in
+    let (whole, all, alike) = subst (StandsFor AreAlikePrograms (held c.args.program.now)) (sym c.deref.ensures.value) c.in_ok-text.ensures.bytes in (
+      whole,
+      all,
+      untold g.F.FileSet.tells_written held (g.F.FileSet.held c.read_program.new.files) (option_map (λ path. path.now) c.args.out) whole c.in-Err.why
+          page.text.items page.status c.in_ok-text.ensures.same (whole_unshrunk c.deref.result.now whole c.in-Err.why alike c.in-Err.ensures.why)
+          c.in_ok-unshrunk_page-in-Err.ensures,
     )

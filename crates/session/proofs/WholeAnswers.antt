@@ -1,0 +1,178 @@
+-- Answers, replays, formulas, explanations, proofs and smaller programs of texts as far as they were read are those of the whole texts.
+use Rattle.std.proofs.Common.{ℕ, Bool, true, false, List, inl, inr}
+use Rattle.settings.specs.declared.form.Form.{Form}
+use Rattle.checker.specs.declared.reason.Reason.{Reason}
+use Rattle.prover.specs.Answers.{Answers, CanFinish, CanHang, FinishesIfUnknown, HasNoFormulaText, Replays}
+use Rattle.prover.specs.declared.answer.Answer.{Answer}
+use Rattle.prover.specs.declared.answer.Answer.TheVariants as answers
+use Rattle.prover.specs.declared.steps.Replayed.{Replayed}
+use Rattle.prover.specs.declared.steps.Replayed.TheVariants as replays
+use Rattle.prooflog.specs.declared.evidence.Evidence.TheVariants.{Schedule, Refutation}
+use Rattle.reports.specs.Explanations.{Explains}
+use Rattle.reports.specs.Exports.{Exports}
+use Rattle.reports.specs.Trimming.{IsWhyUntrimmed, Shortens}
+use Rattle.reports.specs.declared.explained.Explained.{Explained}
+use Rattle.reports.specs.declared.explained.Explained.TheVariants as explanations
+use Rattle.reports.specs.declared.trimmed.Shortened.{Shortened}
+use Rattle.reports.specs.declared.trimmed.Untrimmed.{Untrimmed}
+use Rattle.reports.specs.declared.trimmed.Untrimmed.TheVariants as untrimmed
+use Rattle.shrinking.specs.Shrinking.{IsNotShrunk, IsShrunk}
+use Rattle.shrinking.specs.declared.driving.NotShrunk.{NotShrunk}
+use Rattle.shrinking.specs.declared.driving.NotShrunk.TheVariants as unshrunk
+use Rattle.session.specs.Pages.{HasTextOfFormula, IsAnswerPage, IsFound}
+use Rattle.session.specs.Texts.{AreAlikeEvidences, AreAlikePrograms, IsStray, IsTooLarge}
+use Rattle.session.proofs.StrayEvidences.{fault_of_stray, no_evidence}
+use Rattle.session.proofs.WholeTexts.{large_program_reason, large_reason, no_program, none_refuted, none_refutes, none_shown, none_shows, of_both, of_evidence, of_program, stray_reason}
+
+-- ---- answers
+
+none_hangs : (program : List ℕ) → IsTooLarge program → CanHang program → ⊥
+none_hangs program large hangs = no_program program hangs.p large hangs.text
+
+none_finishes : (program : List ℕ) → IsTooLarge program → CanFinish program → ⊥
+none_finishes program large finishes = no_program program finishes.p large finishes.text
+
+large_no_formula : (read whole : List ℕ) (reason : Reason) → IsTooLarge read → IsTooLarge whole → HasNoFormulaText read reason → HasNoFormulaText whole reason
+large_no_formula read whole reason large all (inl is) = inl (large_program_reason read whole reason large all is)
+large_no_formula read whole reason large all (inr none) = absurd (no_program read none.0 large none.1)
+
+large_answer : (read whole : List ℕ) (a : Answer) → IsTooLarge read → IsTooLarge whole → Answers read a → Answers whole a
+large_answer read whole (answers.NoDeadlock evidence) large all is = absurd (none_refuted read evidence.items large is.1)
+large_answer read whole (answers.Deadlock evidence) large all is = absurd (none_shown read evidence.items large is)
+large_answer read whole (answers.Unknown why) large all (inl memory) = inl memory
+large_answer read whole (answers.Unknown why) large all (inr within) = absurd (no_program read within.0 large within.1)
+large_answer read whole (answers.Refused reason) large all is = (large_no_formula read whole reason large all is.0, is.1)
+
+pub whole_answer : (read whole : List ℕ) (a : Answer) → AreAlikePrograms read whole → Answers read a → Answers whole a
+whole_answer read whole a = of_program (λ (text : List ℕ). Answers text a) read whole (large_answer read whole a)
+
+large_finish : (budget : ℕ) (read whole : List ℕ) (a : Answer) → IsTooLarge read → IsTooLarge whole → FinishesIfUnknown budget read a → FinishesIfUnknown budget whole a
+large_finish budget read whole (answers.NoDeadlock evidence) large all finishes = tt
+large_finish budget read whole (answers.Deadlock evidence) large all finishes = tt
+large_finish budget read whole (answers.Unknown why) large all (inl memory) = inl memory
+large_finish budget read whole (answers.Unknown why) large all (inr finishes) = inr (λ some. absurd (none_finishes read large (finishes some)))
+large_finish budget read whole (answers.Refused reason) large all finishes = tt
+
+pub whole_finish : (budget : ℕ) (read whole : List ℕ) (a : Answer) → AreAlikePrograms read whole → FinishesIfUnknown budget read a → FinishesIfUnknown budget whole a
+whole_finish budget read whole a = of_program (λ (text : List ℕ). FinishesIfUnknown budget text a) read whole (large_finish budget read whole a)
+
+-- ---- formulas
+
+large_formula : (dimacs : Bool) (read whole text : List ℕ) → IsTooLarge read → IsTooLarge whole → HasTextOfFormula dimacs read text → HasTextOfFormula dimacs whole text
+large_formula false read whole text large all has = absurd (no_program read has.p large has.is_text)
+large_formula true read whole text large all has = absurd (no_program read has.p large has.is_text)
+
+pub whole_formula : (dimacs : Bool) (read whole text : List ℕ) → AreAlikePrograms read whole → HasTextOfFormula dimacs read text → HasTextOfFormula dimacs whole text
+whole_formula dimacs read whole text = of_program (λ (program : List ℕ). HasTextOfFormula dimacs program text) read whole (large_formula dimacs read whole text)
+
+pub whole_no_formula : (read whole : List ℕ) (reason : Reason) → AreAlikePrograms read whole → HasNoFormulaText read reason → HasNoFormulaText whole reason
+whole_no_formula read whole reason = of_program (λ (text : List ℕ). HasNoFormulaText text reason) read whole (large_no_formula read whole reason)
+
+-- ---- replays
+
+large_replay : (lines : Bool) (read whole evidence : List ℕ) (r : Replayed) → IsTooLarge read → IsTooLarge whole → Replays lines read evidence r
+    → Replays lines whole evidence r
+large_replay lines read whole evidence (replays.Stuck text) large all is = absurd (none_shown read evidence large is.0)
+large_replay lines read whole evidence (replays.Refused reason) large all is = (large_reason read whole evidence reason large all is.0, is.1)
+large_replay lines read whole evidence replays.NotASchedule large all is = absurd (no_program read is.p large is.text)
+
+stray_replay : (lines : Bool) (program read whole : List ℕ) (r : Replayed) → IsStray read → IsStray whole → Replays lines program read r → Replays lines program whole r
+stray_replay lines program read whole (replays.Stuck text) stray all is = absurd (none_shows program read stray is.0)
+stray_replay lines program read whole (replays.Refused reason) stray all is = (stray_reason program read whole reason stray all is.0, is.1)
+stray_replay lines program read whole replays.NotASchedule stray all is = absurd (no_evidence read (Refutation is.claim) stray is.refutation)
+
+pub whole_replay : (lines : Bool) (program whole_program evidence whole_evidence : List ℕ) (r : Replayed) → AreAlikePrograms program whole_program
+    → AreAlikeEvidences evidence whole_evidence → Replays lines program evidence r → Replays lines whole_program whole_evidence r
+whole_replay lines program whole_program evidence whole_evidence r =
+    of_both (λ (p e : List ℕ). Replays lines p e r) program whole_program evidence whole_evidence
+    (large_replay lines program whole_program evidence r) (stray_replay lines whole_program evidence whole_evidence r)
+
+-- ---- explanations
+
+large_explanation : (form : Form) (read whole evidence : List ℕ) (x : Explained) → IsTooLarge read → IsTooLarge whole → Explains form read evidence x
+    → Explains form whole evidence x
+large_explanation form read whole evidence (explanations.NoDeadlock text) large all is = absurd (none_refuted read evidence large is.0)
+large_explanation form read whole evidence (explanations.Deadlock text) large all is = absurd (none_shown read evidence large is.0)
+large_explanation form read whole evidence (explanations.Refused reason) large all is = large_reason read whole evidence reason large all is
+
+stray_explanation : (form : Form) (program read whole : List ℕ) (x : Explained) → IsStray read → IsStray whole → Explains form program read x
+    → Explains form program whole x
+stray_explanation form program read whole (explanations.NoDeadlock text) stray all is = absurd (none_refutes program read stray is.0)
+stray_explanation form program read whole (explanations.Deadlock text) stray all is = absurd (none_shows program read stray is.0)
+stray_explanation form program read whole (explanations.Refused reason) stray all is = stray_reason program read whole reason stray all is
+
+pub whole_explanation : (form : Form) (program whole_program evidence whole_evidence : List ℕ) (x : Explained) → AreAlikePrograms program whole_program
+    → AreAlikeEvidences evidence whole_evidence → Explains form program evidence x → Explains form whole_program whole_evidence x
+whole_explanation form program whole_program evidence whole_evidence x =
+    of_both (λ (p e : List ℕ). Explains form p e x) program whole_program evidence whole_evidence
+    (large_explanation form program whole_program evidence x) (stray_explanation form whole_program evidence whole_evidence x)
+
+none_found : (form : Form) (program evidence text : List ℕ) (status : ℕ) → IsTooLarge program → IsFound form program evidence text status → ⊥
+none_found form program evidence text status large (inl safe) = none_refuted program evidence large safe.1.0
+none_found form program evidence text status large (inr hangs) = none_shown program evidence large hangs.1.0
+
+large_page : (form : Form) (read whole : List ℕ) (a : Answer) (text : List ℕ) (status : ℕ) → IsTooLarge read → IsTooLarge whole → IsAnswerPage form read a text status
+    → IsAnswerPage form whole a text status
+large_page form read whole (answers.NoDeadlock evidence) text status large all is = absurd (none_found form read evidence.items text status large is)
+large_page form read whole (answers.Deadlock evidence) text status large all is = absurd (none_found form read evidence.items text status large is)
+large_page form read whole (answers.Unknown why) text status large all is = is
+large_page form read whole (answers.Refused reason) text status large all is = is
+
+pub whole_page : (form : Form) (read whole : List ℕ) (a : Answer) (text : List ℕ) (status : ℕ) → AreAlikePrograms read whole → IsAnswerPage form read a text status
+    → IsAnswerPage form whole a text status
+whole_page form read whole a text status =
+    of_program (λ (program : List ℕ). IsAnswerPage form program a text status) read whole (large_page form read whole a text status)
+
+-- ---- proofs
+
+large_proof : (read whole evidence text : List ℕ) → IsTooLarge read → IsTooLarge whole → Exports read evidence text → Exports whole evidence text
+large_proof read whole evidence text large all exports = absurd (no_program read exports.refuted.p large exports.refuted.text)
+
+stray_proof : (program read whole text : List ℕ) → IsStray read → IsStray whole → Exports program read text → Exports program whole text
+stray_proof program read whole text stray all exports = absurd (no_evidence read (Refutation exports.claim) stray exports.refuted.refutation)
+
+pub whole_proof : (program whole_program evidence whole_evidence text : List ℕ) → AreAlikePrograms program whole_program
+    → AreAlikeEvidences evidence whole_evidence → Exports program evidence text → Exports whole_program whole_evidence text
+whole_proof program whole_program evidence whole_evidence text =
+    of_both (λ (p e : List ℕ). Exports p e text) program whole_program evidence whole_evidence
+    (large_proof program whole_program evidence text) (stray_proof whole_program evidence whole_evidence text)
+
+stray_shorter : (read whole : List ℕ) (s : Shortened) → IsStray read → IsStray whole → Shortens read s → Shortens whole s
+stray_shorter read whole s stray all shortens = absurd (no_evidence read (Refutation shortens.claim) stray shortens.refutation)
+
+pub whole_shorter : (read whole : List ℕ) (s : Shortened) → AreAlikeEvidences read whole → Shortens read s → Shortens whole s
+whole_shorter read whole s = of_evidence (λ (text : List ℕ). Shortens text s) read whole (stray_shorter read whole s)
+
+stray_untrimmed : (read whole : List ℕ) (why : Untrimmed) → IsStray read → IsStray whole → IsWhyUntrimmed read why → IsWhyUntrimmed whole why
+stray_untrimmed read whole untrimmed.Memory stray all is = is
+stray_untrimmed read whole (untrimmed.Evidence fault) stray all is = (fault_of_stray read whole fault stray all is.0 is.1, is.1)
+stray_untrimmed read whole untrimmed.Number stray all is = absurd (no_evidence read (Refutation is.0) stray is.1)
+stray_untrimmed read whole untrimmed.NotRefutation stray all is = absurd (no_evidence read (Schedule is.0) stray is.1)
+
+pub whole_untrimmed : (read whole : List ℕ) (why : Untrimmed) → AreAlikeEvidences read whole → IsWhyUntrimmed read why → IsWhyUntrimmed whole why
+whole_untrimmed read whole why = of_evidence (λ (text : List ℕ). IsWhyUntrimmed text why) read whole (stray_untrimmed read whole why)
+
+-- ---- smaller programs
+
+large_hangs : (read whole : List ℕ) → IsTooLarge read → IsTooLarge whole → CanHang read → CanHang whole
+large_hangs read whole large all hangs = absurd (none_hangs read large hangs)
+
+pub whole_hangs : (read whole : List ℕ) → AreAlikePrograms read whole → CanHang read → CanHang whole
+whole_hangs read whole = of_program CanHang read whole (large_hangs read whole)
+
+-- a program that hangs is made smaller
+abbrev IsMade : List ℕ → List ℕ → Type 0
+IsMade smaller text = CanHang text × IsShrunk text smaller
+
+large_made : (read whole smaller : List ℕ) → IsTooLarge read → IsTooLarge whole → IsMade smaller read → IsMade smaller whole
+large_made read whole smaller large all made = absurd (none_hangs read large made.0)
+
+pub whole_shrunk : (read whole smaller : List ℕ) → AreAlikePrograms read whole → CanHang read → IsShrunk read smaller → IsShrunk whole smaller
+whole_shrunk read whole smaller alike hangs shrunk = (of_program (IsMade smaller) read whole (large_made read whole smaller) alike (hangs, shrunk)).1
+
+large_unshrunk : (read whole : List ℕ) (why : NotShrunk) → IsTooLarge read → IsTooLarge whole → IsNotShrunk read why → IsNotShrunk whole why
+large_unshrunk read whole unshrunk.NothingHangs large all is = absurd (none_finishes read large is)
+large_unshrunk read whole (unshrunk.Refused reason) large all is = large_program_reason read whole reason large all is
+
+pub whole_unshrunk : (read whole : List ℕ) (why : NotShrunk) → AreAlikePrograms read whole → IsNotShrunk read why → IsNotShrunk whole why
+whole_unshrunk read whole why = of_program (λ (text : List ℕ). IsNotShrunk text why) read whole (large_unshrunk read whole why)

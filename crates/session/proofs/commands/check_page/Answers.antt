@@ -1,0 +1,22 @@
+-- The verdict is that on the whole texts.
+use Rattle.std.proofs.Common.{subst, sym}
+use Rattle.session.specs.Lines.{IsLine}
+use Rattle.session.specs.Texts.{AreAlikeEvidences, AreAlikePrograms, StandsFor}
+use Rattle.session.specs.declared.told.Told.{Told}
+use Rattle.session.proofs.WholeTexts.{whole_verdict}
+use Rattle.session.proofs.commands.check_page.Goals as goal
+
+pub returns-clause-page : goal.returns-clause-page
+returns-clause-page g c =
+    let held = g.F.FileSet.held c.args.files.now in
+    let page = c.in_ok-page_of.field-0 in
+    let (program, all_p, alike_p) = subst (StandsFor AreAlikePrograms (held c.args.program.now)) (sym c.deref.ensures.value) c.in_ok-program.ensures.program in
+    let (evidence, all_e, alike_e) = subst (StandsFor AreAlikeEvidences (held c.args.evidence.now)) (sym c.deref-2.ensures.value) c.in_ok-program.ensures.evidence in (
+      program,
+      evidence,
+      c.verdict_in.result,
+      all_p,
+      all_e,
+      whole_verdict c.deref.result.now program c.deref-2.result.now evidence c.verdict_in.result alike_p alike_e c.verdict_in.ensures.judges,
+      subst (λ (t : Told). IsLine t c.args.json page.text.items page.status) c.from-told.ensures c.in_ok-page_of.ensures,
+    )
