@@ -1,7 +1,7 @@
 """Refuses to calls of the library the memory that they ask for, one allocation after another, and looks at what they then answer.
 
-Run by ./refusals library [CALL..]: a word is the name of a call (read, publish, closed, ..; crates/test_refused/args has all). The program
-of crates/test_refused makes each call, compares what it was lent where the call is refused, and makes it once more.
+Run by ./refusals library [CALL..]: a word is the name of a call (read, publish, closed, ..; crates/test_scripts/args has all). The program
+of crates/test_scripts makes each call, compares what it was lent where the call is refused, and makes it once more.
 """
 import os
 import shutil
@@ -13,12 +13,15 @@ from program import ROOT, built_shim, content, run
 
 SECONDS = 10
 SHOWN = 3
-CRATE = os.path.join(ROOT, 'crates', 'test_refused')
+CRATE = os.path.join(ROOT, 'crates', 'test_scripts')
 
 OWN = 'as it should be'
 BEFORE = 'memory before the call'
 THEN_OWN = 'memory, and then as it should be'
 AGAIN = 'memory, and memory again'
+
+# Memory ran out outside of the call, which only standard error says.
+UNTOLD = "b'error: "
 
 # Where one allocation is refused, the second call has all that it needs. A solver that is spent says so without memory.
 RIGHT = {'alone': {OWN, BEFORE, THEN_OWN}, 'on': {OWN, BEFORE, THEN_OWN, AGAIN}}
@@ -29,7 +32,7 @@ NEVER_REFUSED = {'leave'}
 
 def built_library():
     """The program that LIBRARY names, else the crate's own, which is proved and built where it is missing."""
-    path = os.path.abspath(os.environ.get('LIBRARY') or os.path.join(CRATE, 'out', 'test_refused'))
+    path = os.path.abspath(os.environ.get('LIBRARY') or os.path.join(CRATE, 'out', 'test_scripts'))
     if 'LIBRARY' not in os.environ and not os.access(path, os.X_OK):
         print(f'{path}: no program stands there; proving and building it by rt run, which takes long', file=sys.stderr)
         subprocess.run(['rt', 'run', '--', 'read'], cwd=CRATE, stdout=sys.stderr, check=True)
@@ -77,7 +80,7 @@ class Library:
                 settings = {'REFUSE': f'memory:{place}:{how}:0'}
                 status, said, was_refused = self.told(name, settings)
                 right = said in RIGHT[how] if was_refused else said == OWN
-                untold = was_refused and (status, said) == (4, '')
+                untold = was_refused and status == 1 and said.startswith(UNTOLD)
                 if not untold and (status != 0 or not right):
                     self.tell_wrong(name, status, said, settings)
                     if status == 'hang':
@@ -90,7 +93,8 @@ class Library:
 
 def main():
     """Tries the calls that were asked for; status 1 where a run went wrong."""
-    names = (content(CRATE, 'args') or b'').decode().split()
+    words = (content(CRATE, 'args') or b'').decode().split()
+    names = [word for word in words if not word.endswith('.calls')]
     for word in sys.argv[1:]:
         if word not in names:
             sys.exit(f'no call: {word}')

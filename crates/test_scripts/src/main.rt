@@ -1,5 +1,6 @@
-//! Judges scripts of calls: each line of the files that the words name is a call with its reply beside it. Prints each row that
-//! doesn't hold, and at the end how many hold.
+//! Judges scripts of calls: each line of a file is a call with its reply beside it. Each row that doesn't hold is printed, and
+//! at the end how many hold. A word that names no file of calls names one call of the library, which is made once, and once more where memory
+//! is refused to it: `./refusals library` does that. Where there is enough, it is answered as it should be.
 #![tactic(auto)]
 
 mod checks;
@@ -10,12 +11,14 @@ mod given;
 mod logs;
 mod programs;
 mod reading;
+mod refused;
 mod report;
 mod scripts;
 mod searches;
 mod shares;
 mod splits;
 
+use refused::told_of;
 use report::Report;
 use scripts::judge_file;
 use std::process::ExitCode;
@@ -35,14 +38,54 @@ fn main(rt: HostRuntime) -> ExitCode {
     }
 }
 
-/// Judges each file that the words name, and prints how many rows hold, and how many don't. Answers whether all hold.
+/// Judges each file that the words name, prints how many rows hold, and how many don't, and makes the calls that they name. Answers whether all
+/// rows hold.
 fn judge(rt: &HostRuntime, threads: &(impl Threads + Wait + Sync)) -> io::Result<bool> {
-    let paths: Vec<String> = env::args(rt)?.collect(rt.alloc())?;
+    let words: Vec<String> = env::args(rt)?.collect(rt.alloc())?;
+    let all_hold = judge_files(rt, threads, words.as_slice())?;
+    make_calls(rt, threads, words.as_slice())?;
+    Ok(all_hold)
+}
+
+/// Whether the word names a file of calls.
+fn is_file(word: &str) -> bool {
+    word.ends_with(".calls")
+}
+
+fn judge_files(
+    rt: &HostRuntime,
+    threads: &(impl Threads + Wait + Sync),
+    words: &[String],
+) -> io::Result<bool> {
     let mut report = Report::new(rt.alloc());
-    for path in paths.iter().skip(1) {
-        judge_path(rt, threads, path, &mut report)?;
+    for path in words.iter().skip(1) {
+        if is_file(path) {
+            judge_path(rt, threads, path, &mut report)?;
+        }
     }
     tell(rt, &report)
+}
+
+/// Prints a line for each call that a word names.
+fn make_calls(
+    rt: &HostRuntime,
+    threads: &(impl Threads + Wait + Sync),
+    words: &[String],
+) -> io::Result<()> {
+    for name in words.iter().skip(1) {
+        if !is_file(name) {
+            make_call(rt, threads, name)?;
+        }
+    }
+    Ok(())
+}
+
+fn make_call(
+    rt: &HostRuntime,
+    threads: &(impl Threads + Wait + Sync),
+    name: &str,
+) -> io::Result<()> {
+    println!(rt; "{name}: {}", told_of(threads, rt.alloc(), name))
 }
 
 fn judge_path(
@@ -64,6 +107,8 @@ fn tell(rt: &HostRuntime, report: &Report) -> io::Result<bool> {
         println!(rt; "{} rows don't hold", report.missed)?;
         return Ok(false);
     }
-    println!(rt; "{} rows hold", report.held)?;
+    if report.held > 0 {
+        println!(rt; "{} rows hold", report.held)?;
+    }
     Ok(true)
 }

@@ -102,6 +102,7 @@ fn judge_kind<R: Threads + Wait + Sync>(
         "program" => programs::judge(rt, section, given, report),
         "encoding" => encodings::judge(rt, section, given, report),
         "solver" => searches::judge(section, given, report),
+        "states" => searches::judge_states(rt, section, given, report),
         "pool" => shares::judge_pool(rt, section, given, report),
         "run" => shares::judge_run(rt, section, given, report),
         "seats" => shares::judge_seats(rt, section, given, report),

@@ -1,18 +1,58 @@
 //! Searches. Each line that a search learns is checked, and none is taken in where one isn't derived.
+use crate::encodings::encoded;
 use crate::given::{Given, add, put_all, tell};
 use crate::reading::{Part, all, cut_number, formula};
 use crate::report::Report;
 use crate::scripts::{Section, Subject, judge_calls};
 use batches::{Batch, BatchLine, Hint};
-use cdcl::{Found, Solver};
+use cdcl::{Found, SolveFault, Solver};
 use clauses::{Assignment, Clause, Formula, Lit};
+use encode::Encoded;
 use refutations::{Line, check_line, clause_at};
+use statesearch::StateSearch;
+use std::alloc::Global;
+use std::thread::Threads;
 
-/// A solver, and the lines that were taken in.
+/// What searches, and takes in the lines that it learnt.
+#[derive(Drop)]
+enum Searcher<'f> {
+    /// Below cubes.
+    Cubes(Solver<'f>),
+    /// Over sets of matched calls.
+    Sets(StateSearch<'f>),
+}
+
+impl Searcher<'_> {
+    /// Searches with this budget, below a cube where it can.
+    fn search(&mut self, alloc: Global, cube: &[Lit], budget: u64) -> Result<Found, SolveFault> {
+        match self {
+            Searcher::Cubes(solver) => solver.search(alloc, cube, budget),
+            Searcher::Sets(states) => states.search(alloc, budget),
+        }
+    }
+
+    /// Takes in a clause under its number.
+    fn import(&mut self, alloc: Global, number: u32, clause: &Clause) -> Result<(), SolveFault> {
+        match self {
+            Searcher::Cubes(solver) => solver.import(alloc, number, clause),
+            Searcher::Sets(states) => states.import(alloc, number, clause),
+        }
+    }
+
+    /// How many conflicts, or lines, the last search counted.
+    fn counted(&self) -> u64 {
+        match self {
+            Searcher::Cubes(solver) => solver.conflicts(),
+            Searcher::Sets(states) => states.conflicts(),
+        }
+    }
+}
+
+/// What searches, and the lines that were taken in.
 #[derive(Drop)]
 struct Searches<'f> {
     formula: &'f Formula,
-    solver: Solver<'f>,
+    search: Searcher<'f>,
     lines: Vec<Line>,
 }
 
@@ -36,40 +76,75 @@ fn judge_over(
     report: &mut Report,
 ) {
     match Solver::new(given.alloc, formula, probed) {
-        Ok(solver) => {
-            let mut searches = Searches {
-                formula,
-                solver,
-                lines: Vec::new(given.alloc),
-            };
-            judge_calls(&mut searches, section.calls, given, report);
-        }
+        Ok(solver) => judge_by(formula, Searcher::Cubes(solver), section, given, report),
         Err(_error) => given.refuse("memory"),
     }
+}
+
+/// Judges a section whose heading is a program's text.
+pub fn judge_states<R: Threads + Sync>(
+    rt: &R,
+    section: Section<'_>,
+    given: &mut Given,
+    report: &mut Report,
+) {
+    if let Some(encoded) = encoded(rt, section.heading, given) {
+        judge_sets(&encoded, section, given, report);
+    }
+}
+
+fn judge_sets(encoded: &Encoded, section: Section<'_>, given: &mut Given, report: &mut Report) {
+    match StateSearch::new(given.alloc, encoded) {
+        Ok(states) => {
+            judge_by(
+                encoded.formula(),
+                Searcher::Sets(states),
+                section,
+                given,
+                report,
+            );
+        },
+        Err(_error) => given.refuse("memory"),
+    }
+}
+
+fn judge_by<'f>(
+    formula: &'f Formula,
+    search: Searcher<'f>,
+    section: Section<'_>,
+    given: &mut Given,
+    report: &mut Report,
+) {
+    let mut searches = Searches {
+        formula,
+        search,
+        lines: Vec::new(given.alloc),
+    };
+    judge_calls(&mut searches, section.calls, given, report);
 }
 
 impl Subject for Searches<'_> {
     fn answer(&mut self, name: &str, words: &str, given: &mut Given) {
         let Searches {
             formula,
-            solver,
+            search: searcher,
             lines,
         } = self;
         match name {
-            "conflicts" => given.show(solver.conflicts()),
+            "conflicts" => given.show(searcher.counted()),
             "lines" => given.number(lines.len()),
-            "import" => import(solver, words, given),
+            "import" => import(searcher, words, given),
             "take_in" => take_in(lines, words, given),
-            _ => called(formula, solver, lines, name, words, given),
+            _ => called(formula, searcher, lines, name, words, given),
         }
     }
 }
 
 /// Imports a clause under a number, such as `5 1 -2`.
-fn import(solver: &mut Solver<'_>, words: &str, given: &mut Given) {
+fn import(searcher: &mut Searcher<'_>, words: &str, given: &mut Given) {
     let (number, words) = cut_number(words, given);
     if let Some(clause) = Clause::read(words, given) {
-        tell(&solver.import(given.alloc, number, &clause), given);
+        tell(&searcher.import(given.alloc, number, &clause), given);
     }
 }
 
@@ -84,7 +159,7 @@ fn take_in(lines: &mut Vec<Line>, words: &str, given: &mut Given) {
 /// A search with so many conflicts below a cube, such as `100 -1 2`.
 fn called(
     formula: &Formula,
-    solver: &mut Solver<'_>,
+    searcher: &mut Searcher<'_>,
     lines: &mut Vec<Line>,
     name: &str,
     words: &str,
@@ -95,9 +170,9 @@ fn called(
     let cube = all::<Lit>(words, ' ', given);
     let cube = cube.as_slice();
     match name {
-        "search" => search_on(formula, solver, lines, cube, budget, 1, given),
-        "search_on" => search_on(formula, solver, lines, cube, budget, 1_000, given),
-        "lose" => lose(formula, solver, lines, cube, budget, given),
+        "search" => search_on(formula, searcher, lines, cube, budget, 1, given),
+        "search_on" => search_on(formula, searcher, lines, cube, budget, 1_000, given),
+        "lose" => lose(formula, searcher, lines, cube, budget, given),
         _ => given.refuse("not made: no such call"),
     }
 }
@@ -105,7 +180,7 @@ fn called(
 /// Searches with so many conflicts each time, and hands the lines back, until one tells the end, or so often.
 fn search_on(
     formula: &Formula,
-    solver: &mut Solver<'_>,
+    searcher: &mut Searcher<'_>,
     lines: &mut Vec<Line>,
     cube: &[Lit],
     budget: u64,
@@ -114,7 +189,7 @@ fn search_on(
 ) {
     for _ in 0..times {
         given.rewrite();
-        if search(formula, solver, lines, cube, budget, given) {
+        if search(formula, searcher, lines, cube, budget, given) {
             return;
         }
     }
@@ -126,14 +201,14 @@ fn search_on(
 /// Searches once, hands the lines back, and answers whether that was the end.
 fn search(
     formula: &Formula,
-    solver: &mut Solver<'_>,
+    searcher: &mut Searcher<'_>,
     lines: &mut Vec<Line>,
     cube: &[Lit],
     budget: u64,
     given: &mut Given,
 ) -> bool {
-    match solver.search(given.alloc, cube, budget) {
-        Ok(found) => take(formula, solver, lines, &found, cube, given),
+    match searcher.search(given.alloc, cube, budget) {
+        Ok(found) => take(formula, searcher, lines, &found, cube, given),
         Err(fault) => {
             given.show(fault);
             true
@@ -144,7 +219,7 @@ fn search(
 /// Takes in what was found, and answers whether it is an end.
 fn take(
     formula: &Formula,
-    solver: &mut Solver<'_>,
+    searcher: &mut Searcher<'_>,
     lines: &mut Vec<Line>,
     found: &Found,
     cube: &[Lit],
@@ -157,12 +232,12 @@ fn take(
         }
         Found::Closed(batch, last) => {
             let number = number_of(next_number(formula, lines.as_slice()), last);
-            take_batch(formula, solver, lines, batch, given);
+            take_batch(formula, searcher, lines, batch, given);
             put_closing(formula, lines.as_slice(), number, given);
             true
         }
         Found::Budget(batch) => {
-            take_batch(formula, solver, lines, batch, given);
+            take_batch(formula, searcher, lines, batch, given);
             given.put(if batch.lines.is_empty() {
                 "budget without lines"
             } else {
@@ -176,13 +251,13 @@ fn take(
 /// Searches once, has the lines checked, and forgets them.
 fn lose(
     formula: &Formula,
-    solver: &mut Solver<'_>,
+    searcher: &mut Searcher<'_>,
     lines: &mut Vec<Line>,
     cube: &[Lit],
     budget: u64,
     given: &mut Given,
 ) {
-    match solver.search(given.alloc, cube, budget) {
+    match searcher.search(given.alloc, cube, budget) {
         Ok(Found::Budget(batch)) => {
             let count = lines.len();
             accept(formula, lines, &batch, given);
@@ -234,10 +309,10 @@ fn accept_line(formula: &Formula, lines: &mut Vec<Line>, line: Line, given: &mut
     add(lines, line, given);
 }
 
-/// Has the batch's lines checked, and hands them back to the solver.
+/// Has the batch's lines checked, and hands them back.
 fn take_batch(
     formula: &Formula,
-    solver: &mut Solver<'_>,
+    searcher: &mut Searcher<'_>,
     lines: &mut Vec<Line>,
     batch: &Batch,
     given: &mut Given,
@@ -245,7 +320,7 @@ fn take_batch(
     let mut number = next_number(formula, lines.as_slice());
     accept(formula, lines, batch, given);
     for found in &batch.lines {
-        if solver.import(given.alloc, number, &found.clause).is_err() {
+        if searcher.import(given.alloc, number, &found.clause).is_err() {
             given.refuse("a line that doesn't come back");
         }
         number = number.saturating_add(1);

@@ -1,0 +1,166 @@
+//! The solver's calls. After want of memory it has to say that it is spent.
+use crate::refused::texts::{Asked, GATHER, HANGS, encoded, tried};
+use crate::refused::trial::{Answer, Outcome, own_where};
+use cdcl::{Found, SolveFault, Solver};
+use clauses::Formula;
+use cubes::branching_variables;
+use encode::Encoded;
+use std::alloc::{AllocError, Global};
+use std::thread::Threads;
+
+/// More conflicts than any search here needs.
+const ENOUGH: u64 = 1_000_000;
+
+/// Fewer than the search through [`GATHER`] needs.
+const FEW: u64 = 1;
+
+/// The calls of a solver.
+#[derive(Clone, Copy)]
+enum Search {
+    Import,
+    Closed,
+    Model,
+    Budget,
+}
+
+pub fn make_solver<R: Threads + Sync>(rt: &R, alloc: Global) -> Result<Outcome, AllocError> {
+    let encoded = encoded(rt, alloc, GATHER)?;
+    make_solver_of(alloc, &encoded)
+}
+
+fn make_solver_of(alloc: Global, encoded: &Encoded) -> Result<Outcome, AllocError> {
+    let variables = branching_variables(alloc, encoded)?;
+    Ok(made_twice(alloc, encoded.formula(), variables.as_slice()))
+}
+
+fn made_twice(alloc: Global, formula: &Formula, probed: &[u32]) -> Outcome {
+    let first = made(alloc, formula, probed);
+    if first == Answer::Memory {
+        return Outcome::of(first, true, made(alloc, formula, probed));
+    }
+    Outcome::of(first, true, first)
+}
+
+fn made(alloc: Global, formula: &Formula, probed: &[u32]) -> Answer {
+    match Solver::new(alloc, formula, probed) {
+        Ok(_solver) => Answer::Own,
+        Err(AllocError) => Answer::Memory,
+    }
+}
+
+pub fn import_clause<R: Threads + Sync>(rt: &R, alloc: Global) -> Result<Outcome, AllocError> {
+    searched(rt, alloc, GATHER, Search::Import)
+}
+
+pub fn close_cube<R: Threads + Sync>(rt: &R, alloc: Global) -> Result<Outcome, AllocError> {
+    searched(rt, alloc, GATHER, Search::Closed)
+}
+
+pub fn find_model<R: Threads + Sync>(rt: &R, alloc: Global) -> Result<Outcome, AllocError> {
+    searched(rt, alloc, HANGS, Search::Model)
+}
+
+pub fn use_up_budget<R: Threads + Sync>(rt: &R, alloc: Global) -> Result<Outcome, AllocError> {
+    searched(rt, alloc, GATHER, Search::Budget)
+}
+
+fn searched<R: Threads + Sync>(
+    rt: &R,
+    alloc: Global,
+    text: &str,
+    call: Search,
+) -> Result<Outcome, AllocError> {
+    let encoded = encoded(rt, alloc, text)?;
+    searched_in(alloc, &encoded, call)
+}
+
+fn searched_in(alloc: Global, encoded: &Encoded, call: Search) -> Result<Outcome, AllocError> {
+    let variables = branching_variables(alloc, encoded)?;
+    match Solver::new(alloc, encoded.formula(), variables.as_slice()) {
+        Ok(mut solver) => Ok(called(alloc, encoded.formula(), &mut solver, call)),
+        Err(error) => Err(error),
+    }
+}
+
+/// What comes of a call after which a solver that met want of memory has to be spent.
+fn called(alloc: Global, formula: &Formula, solver: &mut Solver<'_>, call: Search) -> Outcome {
+    let first = answer(alloc, formula, solver, call);
+    if first == Answer::Memory {
+        return Outcome::of(first, true, own_where(is_spent(alloc, formula, solver)));
+    }
+    Outcome::of(first, true, first)
+}
+
+fn answer(alloc: Global, formula: &Formula, solver: &mut Solver<'_>, call: Search) -> Answer {
+    match call {
+        Search::Import => imported(import(alloc, formula, solver)),
+        Search::Budget => found(&solver.search(alloc, &[], FEW), call),
+        _ => found(&solver.search(alloc, &[], ENOUGH), call),
+    }
+}
+
+/// Imports a copy of the formula's last clause, under the next number.
+fn import(alloc: Global, formula: &Formula, solver: &mut Solver<'_>) -> Result<(), SolveFault> {
+    let count = formula.len();
+    let next = u32::try_from(count.saturating_add(1)).unwrap_or(u32::MAX);
+    match formula.clause(count) {
+        Some(clause) => solver.import(alloc, next, clause),
+        None => Err(SolveFault::Foreign),
+    }
+}
+
+fn imported(reply: Result<(), SolveFault>) -> Answer {
+    match reply {
+        Ok(()) => Answer::Own,
+        Err(SolveFault::Memory) => Answer::Memory,
+        Err(_fault) => Answer::Other,
+    }
+}
+
+fn found(reply: &Result<Found, SolveFault>, call: Search) -> Answer {
+    match reply {
+        Ok(found) => own_where(is_of(found, call)),
+        Err(SolveFault::Memory) => Answer::Memory,
+        Err(_fault) => Answer::Other,
+    }
+}
+
+fn is_of(found: &Found, call: Search) -> bool {
+    match found {
+        Found::Closed(_batch, _last) => matches!(call, Search::Closed),
+        Found::Model(_assignment) => matches!(call, Search::Model),
+        Found::Budget(_batch) => matches!(call, Search::Budget),
+    }
+}
+
+/// Whether the solver answers a search, an import and once more a search by telling that it is spent.
+fn is_spent(alloc: Global, formula: &Formula, solver: &mut Solver<'_>) -> bool {
+    let is_first = tells_spent(&solver.search(alloc, &[], ENOUGH));
+    let is_second = import(alloc, formula, solver) == Err(SolveFault::Spent);
+    is_first && is_second && tells_spent(&solver.search(alloc, &[], 0))
+}
+
+fn tells_spent(reply: &Result<Found, SolveFault>) -> bool {
+    matches!(reply, Err(SolveFault::Spent))
+}
+
+pub fn tell_schedule<R: Threads + Sync>(rt: &R, alloc: Global) -> Result<Outcome, AllocError> {
+    let encoded = encoded(rt, alloc, HANGS)?;
+    tell_schedule_of(alloc, &encoded)
+}
+
+fn tell_schedule_of(alloc: Global, encoded: &Encoded) -> Result<Outcome, AllocError> {
+    match model_of(alloc, encoded) {
+        Ok(Found::Model(assignment)) => Ok(tried(alloc, &Asked::Schedule(encoded, &assignment))),
+        _ => Err(AllocError),
+    }
+}
+
+/// What a search through the program's formula finds.
+fn model_of(alloc: Global, encoded: &Encoded) -> Result<Found, AllocError> {
+    let mut solver = Solver::new(alloc, encoded.formula(), &[])?;
+    match solver.search(alloc, &[], ENOUGH) {
+        Ok(found) => Ok(found),
+        Err(_fault) => Err(AllocError),
+    }
+}
