@@ -1,6 +1,6 @@
 """Refuses to the built program what it asks the system for, one call after another, and looks at what it then answers.
 
-Run by ./refusals [WORD..]. A word is a kind (memory, threads, pieces, files, scattered, limits) or a command (prove, check, ..); without
+Run by ./refusals [WORD..]. A word is a kind (memory, threads, pieces, files, limits, scattered, budgets) or a command (prove, check, ..); without
 words all are tried. Each row below is a command on a small program that was worked by hand, with the status that it ends with.
 """
 import errno
@@ -19,6 +19,7 @@ from program import EXAMPLES, built_program, built_shim, content, has_trim, put,
 
 SECONDS = 10
 SHOWN = 3
+DECIDED = 3
 BEFORE = b'what stood here before\n'
 SEEDS = 300
 
@@ -45,6 +46,25 @@ TEXTS = {
     'gather.mpi': 'ranks 3\npolicy any\nrank 0\nrecv * 1\nrecv * 1\nrank 1\nsend 0 1\nrank 2\nsend 0 1\n',
     'order.mpi': 'ranks 3\npolicy none\nrank 0\nsend 1 1\nsend 2 1\nrank 1\nsend 2 1\nrecv 0 1\nrank 2\nrecv * 1\nrecv 0 1\n',
     'barrier.mpi': 'ranks 1\npolicy any\nrank 0\nbarrier\n',
+}
+
+
+def hub(takers, senders, hubs=1):
+    """A program in which ranks send to the first ones, which do as the takers say."""
+    first = [calls for calls in takers for _ in range(hubs // len(takers))]
+    others = [[f'send {rank} 1' for rank in range(hubs)]] * senders
+    lists = [f'rank {rank}\n' + ''.join(call + '\n' for call in calls) for rank, calls in enumerate(first + others)]
+    return f'ranks {len(lists)}\npolicy any\n' + ''.join(lists)
+
+
+ANY = ['recv * 1']
+BUDGETED = {
+    'star.mpi': (0, hub([ANY * 5], 5)),
+    'named.mpi': (1, hub([ANY + ['recv 3 1'] + ANY * 3], 5)),
+    'probed.mpi': (0, hub([['probe * 1', *ANY] * 5], 5)),
+    'unseen.mpi': (1, hub([ANY + ['probe 3 1'] + ANY * 4], 5)),
+    'stars.mpi': (0, hub([ANY * 5], 5, 2)),
+    'unequal.mpi': (1, hub([ANY + ['recv 4 1'] + ANY * 3, ANY * 5], 5, 2)),
 }
 COPIED = ['buffering-lets-it-hang.mpi', 'buffering-lets-it-hang.evidence']
 HANGS = ['buffering-lets-it-hang.mpi', 'buffering-lets-it-hang.evidence']
@@ -124,6 +144,8 @@ class Trial:
         shutil.rmtree(self.room, ignore_errors=True)
         os.mkdir(self.room)
         for name, text in TEXTS.items():
+            put(self.room, name, text)
+        for name, (_, text) in BUDGETED.items():
             put(self.room, name, text)
         for name in COPIED:
             shutil.copy(os.path.join(EXAMPLES, name), self.room)
@@ -321,6 +343,22 @@ def try_scattered(trial, _):
         trial.note('scattered', words, got, settings, solved or spent or lacking)
 
 
+def try_budgets(trial, _):
+    """Each budget from 0 on, until several together are enough: the answer is that it is used up, or the right one with its evidence."""
+    for source, (status, _text) in BUDGETED.items():
+        line = b'no deadlock\n' if status == 0 else b'deadlock\n'
+        for workers in ('1', '4'):
+            decided, budget = 0, 0
+            while decided < DECIDED:
+                words = ['prove', source, '--out', 'out', '--workers', workers, '--budget', str(budget)]
+                got = trial.outcome(words, None)
+                spent = (got.status, got.printed, got.out) == (2, b'unknown budget\n', BEFORE)
+                solved = (got.status, got.printed) == (status, line) and trial.is_evidence(source, got.out, status)
+                trial.note('budgets', words, got, {}, spent or solved)
+                decided = decided + 1 if got.status == status else 0
+                budget += 1
+
+
 def limited(kind, most):
     """What sets a limit of the system before the program starts."""
     def set_limit():
@@ -363,8 +401,8 @@ def try_limits(trial, row):
 
 
 KINDS = {'memory': try_memory, 'threads': try_threads, 'pieces': try_pieces, 'files': try_files, 'limits': try_limits,
-         'scattered': try_scattered}
-ONCE = {'scattered': 'prove', 'pieces': 'check'}
+         'scattered': try_scattered, 'budgets': try_budgets}
+ONCE = {'scattered': 'prove', 'pieces': 'check', 'budgets': 'prove'}
 
 
 def chosen(words, all_rows):

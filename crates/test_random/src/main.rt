@@ -1,8 +1,10 @@
 //! Draws programs by a fixed generator, and compares the answers for each: the prover's by each of its searches, whose evidence the
 //! checker has to accept, and that of a plain exploration of all runs. Prints each program on which they differ, and at the end how many agree: first of programs
-//! without probes, then of programs with probes, then of programs in which all ranks send to one.
+//! without probes, then of programs with probes, then of programs in which all ranks send to one. At last searches of some programs are
+//! cut off by budgets: how many answers are right, those that the budget is used up among them.
 #![tactic(auto)]
 
+mod budgets;
 mod chance;
 mod drawing;
 mod exploring;
@@ -11,6 +13,7 @@ mod position;
 mod rules;
 mod tally;
 
+use budgets::judge_all;
 use checker::program_of;
 use drawing::{Family, draw};
 use exploring::{Fate, explore};
@@ -57,7 +60,17 @@ fn compare_all(rt: &HostRuntime, threads: &(impl Threads + Wait + Sync)) -> io::
     let probing_agree = compare_drawn(rt, threads, PROBING_PROGRAMS, Family::Probing)?;
     println!(rt; "with a hub:")?;
     let hub_agree = compare_drawn(rt, threads, HUB_PROGRAMS, Family::Hub)?;
-    Ok(plain_agree && probing_agree && hub_agree)
+    let budgets_agree = compare_budgets(rt, threads)?;
+    Ok(plain_agree && probing_agree && hub_agree && budgets_agree)
+}
+
+/// Judges answers of searches that budgets cut off, and prints what was counted. Answers whether all are right.
+fn compare_budgets(rt: &HostRuntime, threads: &(impl Threads + Wait + Sync)) -> io::Result<bool> {
+    let judged = judge_all(threads, rt.alloc())?;
+    let (right, wrong) = (judged.right, judged.wrong);
+    println!(rt; "with budgets:")?;
+    println!(rt; "{right} answers are right, {wrong} aren't")?;
+    Ok(wrong == 0)
 }
 
 /// Compares the answers for each of so many programs, and prints what was counted. Answers whether none differ.
@@ -131,12 +144,23 @@ fn proved(
     searches: Searches,
 ) -> Option<Fate> {
     let options = Options::default().with_searches(searches);
-    let (evidence, fate, wanted) = match prove(rt, alloc, text, options, &Open) {
+    let answer = prove(rt, alloc, text, options, &Open);
+    shown_by(rt, alloc, text, &answer)
+}
+
+/// What an answer says of a program's text, or none where it says nothing or the checker says something else.
+fn shown_by(
+    rt: &(impl Threads + Wait + Sync),
+    alloc: Global,
+    text: &[u8],
+    answer: &Answer,
+) -> Option<Fate> {
+    let (evidence, fate, wanted) = match answer {
         Answer::Deadlock(evidence) => (evidence, Fate::Stuck, Verdict::Deadlock),
         Answer::NoDeadlock(evidence) => (evidence, Fate::NeverStuck, Verdict::NoDeadlock),
         _ => return None,
     };
-    if verdict(rt, alloc, text, &evidence) == wanted {
+    if verdict(rt, alloc, text, evidence) == wanted {
         return Some(fate);
     }
     None
