@@ -10,7 +10,7 @@ use test_runs::{Ended, Scene, run};
 #[derive(Clone, Copy)]
 pub struct Row<'a> {
     /// The words of each run, with ` ; ` between those of two. `FIRST then SECOND` are two runs, and the second gets what the first
-    /// writes as its evidence.
+    /// writes as its evidence. Where `terminal: ` stands before the words, standard error is a terminal.
     commands: &'a str,
     /// The file `program`.
     program: &'a str,
@@ -78,7 +78,12 @@ impl<'a> Row<'a> {
         program: &str,
         evidence: &str,
     ) -> Result<Option<(&'a str, Ended)>, AllocError> {
-        let ended = run(rt, alloc, words, Scene::of(program, evidence))?;
+        let at_terminal = words.strip_prefix("terminal: ");
+        let scene = Scene {
+            is_terminal: at_terminal.is_some(),
+            ..Scene::of(program, evidence)
+        };
+        let ended = run(rt, alloc, at_terminal.unwrap_or(words), scene)?;
         let is_met = self.is_met(alloc, &ended)? && self.has_written(alloc, &ended)?;
         if is_met {
             return Ok(None);

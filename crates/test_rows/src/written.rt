@@ -27,6 +27,7 @@ fn run_on_files(
         &mut HostFiles::new(rt),
         &mut rt.stdout(),
         &mut rt.stderr(),
+        false,
     );
     println!(rt; "{words} gives {status}")
 }

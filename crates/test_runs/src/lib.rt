@@ -37,16 +37,19 @@ pub struct Scene<'a> {
     pub trouble_at: u64,
     /// The trouble.
     pub trouble: Trouble,
+    /// Whether standard error is a terminal.
+    pub is_terminal: bool,
 }
 
 impl<'a> Scene<'a> {
-    /// The files `program` and `evidence` with these texts, and no trouble.
+    /// The files `program` and `evidence` with these texts, no trouble, and no terminal.
     pub fn of(program: &'a str, evidence: &'a str) -> Scene<'a> {
         Scene {
             program: program.as_bytes(),
             evidence: evidence.as_bytes(),
             trouble_at: 0,
             trouble: Trouble::Device,
+            is_terminal: false,
         }
     }
 }
@@ -84,6 +87,7 @@ pub fn run(
         &mut DiskFiles { disk: &disk },
         &mut out,
         &mut err,
+        scene.is_terminal,
     );
     let Stream { text: out, disk: _ } = out;
     let writers = disk.writers.get();
