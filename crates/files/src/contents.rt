@@ -8,7 +8,7 @@ use std::alloc::Global;
 use std::io::{ErrorKind, Read, Write};
 
 /// The most bytes that one read moves.
-const PIECE: usize = 65_536;
+const PIECE: usize = 4_096;
 
 /// Reads what a reader has left, as far as this extent says: all of it, or a beginning that is enough.
 ///
