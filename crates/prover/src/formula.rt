@@ -9,6 +9,7 @@ use encode::Encoded;
 use exports::dimacs_text;
 use prooflog::write_formula;
 use std::alloc::Global;
+use std::mem;
 use std::thread::Threads;
 
 /// The program of a text, with its formula, or the first reason why there is none.
@@ -45,7 +46,9 @@ pub fn formula_text(
         Ok(encoded) => encoded,
         Err(reason) => return Err(reason),
     };
-    match write_formula(alloc, encoded.formula()) {
+    let text = write_formula(alloc, encoded.formula());
+    mem::drop(encoded);
+    match text {
         Ok(text) => Ok(text),
         Err(_) => Err(Reason::Memory),
     }
@@ -65,7 +68,9 @@ pub fn dimacs_formula(
         Ok(encoded) => encoded,
         Err(reason) => return Err(reason),
     };
-    match dimacs_text(alloc, &encoded) {
+    let text = dimacs_text(alloc, &encoded);
+    mem::drop(encoded);
+    match text {
         Ok(text) => Ok(text),
         Err(_) => Err(Reason::Memory),
     }

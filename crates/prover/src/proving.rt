@@ -20,6 +20,7 @@ use pool::{AssembleFault, Pool, Why, schedule_of_run};
 use prooflog::{Evidence, TrimFault, trim, write_evidence};
 use settings::Options;
 use std::alloc::{AllocError, Global};
+use std::mem;
 use std::sync::Wait;
 use std::thread::Threads;
 use workers::Gate;
@@ -117,7 +118,11 @@ fn answer_over<G: Gate + Sync, R: Threads + Wait + Sync>(
     ensures { (text : List ℕ) → IsTextOf text encoded.program → Answers text result }
 {
     match pool_of(rt, alloc, encoded, lent, options, gate) {
-        Ok((pool, was_short)) => answer_of(alloc, &pool, was_short),
+        Ok((pool, was_short)) => {
+            let answer = answer_of(alloc, &pool, was_short);
+            mem::drop(pool);
+            answer
+        },
         Err(why) => Answer::Unknown(why),
     }
 }
@@ -136,8 +141,15 @@ fn searched_over<G: Gate + Sync, R: Threads + Wait + Sync>(
     ensures reason { IfErr result (HasNoFormulaText text.now) }
 {
     match encoded_of(rt, alloc, text) {
-        Ok(lent) => Ok(answer_over(rt, alloc, encoded, &lent, options, gate)),
-        Err(reason) => Err(reason),
+        Ok(lent) => {
+            let answer = answer_over(rt, alloc, encoded, &lent, options, gate);
+            mem::drop(lent);
+            Ok(answer)
+        },
+        Err(reason) => {
+            mem::drop(encoded);
+            Err(reason)
+        },
     }
 }
 
@@ -198,7 +210,7 @@ fn answered<G: Gate + Sync, R: Threads + Wait + Sync>(
 /// as it can. Where none ends stuck, the whole formula is searched for at most 4,000 conflicts, which count for worker 0. Then as many workers as the
 /// options say search the cubes of the tree that `split` gives at the depth of the options, each with the budget of the options and in a
 /// thread of its own where one can be started. Cube k of the first tree, from 0 in the order of its nodes, goes to worker k modulo their number; a
-/// worker without cubes takes another's. Worker 0 searches over sets of matched calls: for good beside others, and alone in turn with cubes. Who
+/// worker without cubes takes another's. Each searches over sets of matched calls, too, in turn with cubes; these sets are shared. Who
 /// refutes the formula first closes all cubes. The options may ask for some of these searches alone. `gate.before` is called before each cube,
 /// and `gate.after` after each search.
 pub fn prove<G: Gate + Sync, R: Threads + Wait + Sync>(

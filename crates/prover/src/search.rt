@@ -6,6 +6,7 @@ ghost use Rattle.crossbeam_utils.specs.Seq.{cell_view};
 ghost use Rattle.sharedpool.specs.Views.{knower};
 ghost use Rattle.prover.specs.Searches.{smallest_with};
 
+use callorder::Program;
 use cubes::{CubeFault, split};
 use encode::Encoded;
 use pool::{Pool, Share, Why, smaller};
@@ -15,11 +16,13 @@ use std::alloc::{AllocError, Global};
 use std::marker::Brand;
 use std::sync::Wait;
 use std::sync::atomic::{AtomicBool, Ordering};
-use std::thread;
 use std::thread::Threads;
+use std::{mem, thread};
 use steal::{Supply, deal, settle_all};
 use trees::Tree;
-use workers::{Begun, Common, EventCount, Exploring, Gate, KeptLines, open, work};
+use workers::{
+    Begun, ClosedStates, Common, EventCount, Exploring, Gate, KeptLines, has_late_sends, open, work,
+};
 
 /// What a worker's thread is handed.
 #[derive(Drop)]
@@ -189,12 +192,13 @@ fn ended<B: Room, R: Wait>(
     }
 }
 
-/// When worker 0 searches over sets of matched calls: in turn with cubes, where nobody else searches below them.
-fn exploring(options: Options) -> Exploring {
+/// When workers search over sets of matched calls.
+fn exploring(options: Options, program: &Program) -> Exploring {
     match options.searches() {
+        Searches::All if options.workers() > 1 && has_late_sends(program) => Exploring::First,
+        Searches::All => Exploring::InTurn,
         Searches::Cubes => Exploring::Never,
-        Searches::All if options.workers() == 1 => Exploring::InTurn,
-        Searches::All | Searches::Sets => Exploring::Always,
+        Searches::Sets => Exploring::Always,
     }
 }
 
@@ -240,15 +244,17 @@ fn search_in<B: Room + Send + Sync, G: Gate + Sync, R: Threads + Wait + Sync>(
     };
     let events = EventCount::new();
     let kept = KeptLines::new();
+    let closed = ClosedStates::new(alloc);
     let first = Common {
         encoded,
         shared: &shared,
         gate,
         events: &events,
         budget: options.budget(),
-        exploring: exploring(options),
+        exploring: exploring(options, encoded.program()),
         begun: Begun::nothing(),
         kept: &kept,
+        closed: &closed,
     };
     let begun = begun(rt, alloc, &first, seats.as_mut_slice(), cubes, options);
     let common = Common { begun, ..first };
@@ -303,9 +309,10 @@ pub fn pool_of<G: Gate + Sync, R: Threads + Wait + Sync>(
     ensures program { IfOk result (λ made. made.0.held.program ≡ encoded.program) }
     ensures formula { IfOk result (λ made. made.0.held.formula ≡ encoded.formula) }
 {
-    let (pool, cubes) = opened(alloc, encoded, options.depth())?;
     let Ok((cell, keeper)) = open_room(alloc) else {
+        mem::drop(encoded);
         return Err(Why::Memory);
     };
+    let (pool, cubes) = opened(alloc, encoded, options.depth())?;
     search_in::<Brand, G, R>(rt, alloc, cell, keeper, pool, lent, &cubes, options, gate)
 }

@@ -45,3 +45,16 @@ Imported old new clause (Ok done) = Taken old new clause × (new.spent ≡ false
 Imported old new clause (Err Memory) = Taken old new clause × (new.spent ≡ true)
 Imported old new clause (Err Spent) = (old.spent ≡ true) × (new ≡ old)
 Imported old new clause (Err Foreign) = (old.spent ≡ false) × (is_within old.formula.variables clause ≡ false) × (new ≡ old)
+
+-- what others closed was taken in
+pub record Told (old new : SearchState) : Type 0 where
+  pub not_spent : old.spent ≡ false
+  pub same : new.formula ≡ old.formula
+  pub same_conflicts : new.conflicts ≡ old.conflicts
+
+-- taking in what others closed answers so
+abbrev pub Informed : SearchState → SearchState → Result Unit SolveFault → Type 0
+Informed old new (Ok done) = Told old new × (new.spent ≡ false)
+Informed old new (Err Memory) = Told old new × (new.spent ≡ true)
+Informed old new (Err Spent) = (old.spent ≡ true) × (new ≡ old)
+Informed old new (Err Foreign) = ⊥

@@ -1,13 +1,17 @@
 //! What the search knows of states.
 
+ghost use Rattle.std.specs.Prelude.{◌≤◌, vec_len};
+
 use crate::cutting::cut_cycle;
 use crate::engine::{Engine, fill};
 use crate::lemmas::Lemmas;
+use crate::others::{Closing, Others, hash_of};
 use crate::tasks::{Branch, Branching, Purpose, Task};
 use batches::Batch;
 use cdcl::Solver;
 use clauses::Clause;
 use encode::Encoded;
+use pages::Lines;
 use propagation::OWN;
 use states::{Shape, State, choose, find_cycle, matched_part, read_off};
 use std::alloc::{AllocError, Global};
@@ -18,6 +22,9 @@ const MOST_IMPORTED: usize = 30;
 
 /// How many of the clauses that closed states with the same matched calls are tried.
 const MOST_NEAR: usize = 16;
+
+/// An odd number whose products are spread well.
+const MIXER: u64 = 0x9E37_79B9_7F4A_7C15;
 
 /// All that the search knows.
 #[derive(Drop)]
@@ -40,6 +47,26 @@ pub(crate) struct Explorer<'e> {
     returned: usize,
     /// Whether a cycle could not be cut, so that none is looked for any more.
     leaves_cycles: bool,
+    /// What others closed.
+    others: Others,
+    /// The states that were closed in this batch, each with the place of the clause.
+    closed: Vec<(u64, u32)>,
+    /// Tells which state below another one is visited first.
+    turn: u32,
+}
+
+/// The place, of so many, at which a search of this turn begins below the state that these numbers tell: the first one at turn 0.
+fn first_of(turn: u32, key: &[u32], length: usize) -> usize
+    ensures { result ≤ length }
+{
+    if turn == 0 {
+        return 0;
+    }
+    let mixed = (hash_of(key) ^ u64::from(turn)).wrapping_mul(MIXER) >> 33;
+    (mixed as usize)
+        .checked_rem(length)
+        .unwrap_or(0)
+        .min(length)
 }
 
 /// What is below a literal.
@@ -96,7 +123,15 @@ impl<'e> Explorer<'e> {
             learnt_to: 0,
             returned: 0,
             leaves_cycles: false,
+            others: Others::new(alloc, encoded.formula().len()),
+            closed: Vec::new(alloc),
+            turn: 0,
         })
+    }
+
+    /// Has the search of this number begin elsewhere than others.
+    pub(crate) fn turn(&mut self, number: u32) {
+        self.turn = number;
     }
 
     /// Forgets all.
@@ -118,10 +153,89 @@ impl<'e> Explorer<'e> {
             self.restart(alloc, encoded)?;
         }
         self.engine.lines.clear();
+        self.closed.clear();
         self.returned = 0;
         self.learnt_from = 0;
         self.learnt_to = 0;
-        Ok(())
+        self.drop_closed(alloc)
+    }
+
+    /// Takes in what others closed, by clauses of the formula and then of these lines.
+    pub(crate) fn take_in(&mut self, lines: Lines, closings: &[Closing]) -> Result<(), AllocError> {
+        self.others.take_in(lines, closings)
+    }
+
+    /// The states that were closed in the last batch, whose first line has this number.
+    pub(crate) fn closings(&self, alloc: Global, base: u32) -> Result<Vec<Closing>, AllocError> {
+        let mut closings = Vec::with_capacity(alloc, self.closed.len())?;
+        for (state, clause) in &self.closed {
+            let tag = self.engine.store.tag(*clause);
+            let number = match tag.checked_sub(OWN) {
+                Some(place) => base.saturating_add(place),
+                None => tag,
+            };
+            closings.push(Closing {
+                state: *state,
+                number,
+            })?;
+        }
+        Ok(closings)
+    }
+
+    /// Whether others closed the state that the task is to close.
+    fn is_closed(&self, task: &Task) -> bool {
+        match task.state() {
+            Some(key) => self.others.closing(key).is_some(),
+            None => false,
+        }
+    }
+
+    /// The place of the first task for a state that others have closed.
+    fn first_closed(&self) -> Option<usize> {
+        for (place, task) in self.tasks.iter().enumerate() {
+            if self.is_closed(task) {
+                return Some(place);
+            }
+        }
+        None
+    }
+
+    /// Drops the first task for a state that others have closed, and all that was to be done for it before.
+    fn drop_closed(&mut self, alloc: Global) -> Result<(), AllocError> {
+        let Some(place) = self.first_closed() else {
+            return Ok(());
+        };
+        self.tasks.truncate(place.saturating_add(1));
+        match self.tasks.pop() {
+            Some(task) => self.take_over_task(alloc, task),
+            None => Ok(()),
+        }
+    }
+
+    /// Does the task by the clause of others that closes its state.
+    fn take_over_task(&mut self, alloc: Global, task: Task) -> Result<(), AllocError> {
+        match task.into_state() {
+            Some(key) => {
+                self.take_over(alloc, key)?;
+                Ok(())
+            }
+            None => Ok(()),
+        }
+    }
+
+    /// Closes the state that these numbers tell by the clause of others that closes it, and answers whether there is one.
+    fn take_over(&mut self, alloc: Global, key: Vec<u32>) -> Result<bool, AllocError> {
+        let mut codes = Vec::new(alloc);
+        let Some((number, clause)) = self.others.closing(&key) else {
+            return Ok(false);
+        };
+        fill(&mut codes, clause.literals())?;
+        let Some(place) = self.engine.store.add(&codes, number, 0)? else {
+            return Ok(false);
+        };
+        self.put_near(alloc, &key, place)?;
+        self.table.insert(key, place)?;
+        Ok(true)
     }
 
     /// The next line of the last batch, where it has these literals.
@@ -198,7 +312,16 @@ impl<'e> Explorer<'e> {
 
     /// The state that these numbers tell is closed by this clause, which closed another one.
     fn close_too(&mut self, key: Vec<u32>, clause: u32) -> Result<(), AllocError> {
+        self.closed.push((hash_of(&key), clause))?;
         self.table.insert(key, clause)?;
+        Ok(())
+    }
+
+    /// This clause closes the state that these numbers tell, and maybe others with the same matched calls.
+    fn put_near(&mut self, alloc: Global, key: &[u32], clause: u32) -> Result<(), AllocError> {
+        let part = matched_part(alloc, &self.shape, key)?;
+        let clauses = self.near.entry(part)?.or_insert(Vec::new(alloc));
+        clauses.push(clause)?;
         Ok(())
     }
 
@@ -209,9 +332,7 @@ impl<'e> Explorer<'e> {
         key: Vec<u32>,
         clause: u32,
     ) -> Result<(), AllocError> {
-        let part = matched_part(alloc, &self.shape, &key)?;
-        let clauses = self.near.entry(part)?.or_insert(Vec::new(alloc));
-        clauses.push(clause)?;
+        self.put_near(alloc, &key, clause)?;
         self.close_too(key, clause)
     }
 
@@ -304,6 +425,21 @@ impl<'e> Explorer<'e> {
         if self.clause_of(&key).is_some() {
             return Ok(());
         }
+        if self.others.closing(&key).is_some() {
+            self.take_over(alloc, key)?;
+            return Ok(());
+        }
+        self.visit_unknown(alloc, state, key, batch)
+    }
+
+    /// Branches a state with this key, which nobody has closed, unless it meets a conflict at once.
+    fn visit_unknown(
+        &mut self,
+        alloc: Global,
+        state: State,
+        key: Vec<u32>,
+        batch: &mut Batch,
+    ) -> Result<(), AllocError> {
         let assumptions = state.assumptions(alloc, &self.shape)?;
         if !self.stand_on(alloc, &assumptions)? {
             return Ok(());
@@ -381,16 +517,23 @@ impl<'e> Explorer<'e> {
         if are_made {
             return self.push(Task::Visit(state));
         }
+        let first = first_of(self.turn, &key, states.len());
         self.push(Task::Finish(Branching {
             key,
             assumptions,
             branches,
         }))?;
-        self.visit_all(states)
+        self.visit_all(states, first)
     }
 
-    /// Has these states closed, the last one first.
-    fn visit_all(&mut self, states: Vec<State>) -> Result<(), AllocError> {
+    /// Has these states closed: from one on that the turn tells, in the order of a round, where there are many. Of two the first one often closes the
+    /// second, too, but not the other way round.
+    fn visit_all(&mut self, mut states: Vec<State>, first: usize) -> Result<(), AllocError>
+        requires { first ≤ vec_len states }
+    {
+        if states.len() > 2 {
+            states.rotate_right(first);
+        }
         for state in states {
             self.push(Task::Visit(state))?;
         }

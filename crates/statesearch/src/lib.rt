@@ -12,9 +12,11 @@ mod explorer;
 mod finishing;
 mod lemmas;
 mod models;
+mod others;
 mod search;
 mod searcher;
 mod tasks;
 mod units;
 
+pub use others::Closing;
 pub use searcher::StateSearch;

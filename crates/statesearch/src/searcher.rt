@@ -2,13 +2,15 @@
 
 ghost use Rattle.std.specs.Prelude.{◌≡◌, IfOk};
 ghost use Rattle.clauses.specs.Clauses.{is_within};
-ghost use Rattle.statesearch.specs.Answers.{Searched, Imported, Started};
+ghost use Rattle.statesearch.specs.Answers.{Searched, Imported, Started, Informed};
 
 use crate::explorer::Explorer;
+use crate::others::Closing;
 use crate::search::{Counted, Ending};
 use cdcl::{Found, SolveFault};
 use clauses::Clause;
 use encode::Encoded;
+use pages::Lines;
 use propagation::no_lines;
 use std::alloc::{AllocError, Global};
 use std::marker::Model;
@@ -66,6 +68,37 @@ impl<'e> StateSearch<'e> {
                 Err(SolveFault::Memory)
             }
         }
+    }
+
+    /// Has searches of different numbers over the same program begin elsewhere, so that each closes states that the others need.
+    pub fn turn(&mut self, number: u32)
+        ensures { self.new ≡ self.old }
+    {
+        self.explorer.turn(number);
+    }
+
+    /// Takes in which states other searches over the same program closed, by clauses of the formula and then of these lines. They aren't closed once
+    /// more, and what was to be done for them is dropped.
+    ///
+    /// Refused with [`SolveFault::Spent`] exactly where memory ran out before; never with [`SolveFault::Foreign`].
+    pub fn take_in(&mut self, lines: Lines, closings: &[Closing]) -> Result<(), SolveFault>
+        ensures { Informed self.old self.new result }
+    {
+        if self.is_spent {
+            return Err(SolveFault::Spent);
+        }
+        match self.explorer.take_in(lines, closings) {
+            Ok(()) => Ok(()),
+            Err(_) => {
+                self.is_spent = true;
+                Err(SolveFault::Memory)
+            }
+        }
+    }
+
+    /// The states that the last search closed, where the first line of its batch has this number, from 1.
+    pub fn closings(&self, alloc: Global, base: u32) -> Result<Vec<Closing>, AllocError> {
+        self.explorer.closings(alloc, base)
     }
 
     /// Searches on until the formula is refuted, an assignment is found that satisfies it, or as many lines and conflicts as the budget were counted:

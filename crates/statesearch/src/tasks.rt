@@ -31,6 +31,16 @@ pub(crate) enum Purpose {
     Formula,
 }
 
+impl Purpose {
+    /// The numbers that tell the state that is closed.
+    fn into_state(self) -> Option<Vec<u32>> {
+        match self {
+            Purpose::State(key) => Some(key),
+            _ => None,
+        }
+    }
+}
+
 /// Something to do.
 #[derive(Drop)]
 pub(crate) enum Task {
@@ -46,4 +56,26 @@ pub(crate) enum Task {
     Learn(Vec<u32>, Purpose),
     /// To close the search, now that this first state is closed.
     End(State),
+}
+
+impl Task {
+    /// The numbers that tell the state that it closes, where they are known.
+    pub(crate) fn state(&self) -> Option<&[u32]> {
+        match self {
+            Task::Alias(key, _) => Some(key.as_slice()),
+            Task::Finish(branching) => Some(branching.key.as_slice()),
+            Task::Learn(_, Purpose::State(key)) => Some(key.as_slice()),
+            _ => None,
+        }
+    }
+
+    /// The same numbers, taken out of it.
+    pub(crate) fn into_state(self) -> Option<Vec<u32>> {
+        match self {
+            Task::Alias(key, _other) => Some(key),
+            Task::Finish(branching) => Some(branching.key),
+            Task::Learn(_codes, purpose) => purpose.into_state(),
+            _ => None,
+        }
+    }
 }

@@ -22,7 +22,7 @@ use std::thread::Threads;
 use steal::{Supply, deal};
 use trail::{Noted, Trail};
 use trees::Tree;
-use workers::{Begun, Common, Cubes, EventCount, Exploring, KeptLines, work};
+use workers::{Begun, ClosedStates, Common, Cubes, EventCount, Exploring, KeptLines, work};
 
 /// More conflicts than any search here needs.
 const ENOUGH: u32 = 1_000_000;
@@ -147,6 +147,7 @@ fn worked_on<R: Threads + Wait + Sync, C: Cubes>(
 ) -> Result<(), Fail> {
     let events = EventCount::new();
     let kept = KeptLines::new();
+    let closed = ClosedStates::new(alloc);
     let common = Common {
         encoded,
         shared: share,
@@ -156,6 +157,7 @@ fn worked_on<R: Threads + Wait + Sync, C: Cubes>(
         exploring: Exploring::Never,
         begun: Begun::nothing(),
         kept: &kept,
+        closed: &closed,
     };
     let mut seat = WORKER;
     work(rt, alloc, &common, &mut seat, cubes, WORKER)?;

@@ -1,19 +1,51 @@
 //! What the workers of a search have in common.
 
+use crate::closed::ClosedStates;
 use crate::events::EventCount;
 use crate::kept::KeptLines;
+use callorder::{Kind, Program};
 use encode::Encoded;
 use pool::Why;
 
-/// When worker 0 searches over sets of matched calls, and not below cubes.
+/// When workers search over sets of matched calls, and not below cubes.
 #[derive(Clone, Copy, PartialEq, Eq)]
 pub enum Exploring {
     /// Never.
     Never,
-    /// In turn with cubes. Each turn takes twice as many conflicts and lines as the last one of its kind.
+    /// All of them in turn with cubes. Each turn takes twice as many conflicts and lines as the last one of its kind.
     InTurn,
-    /// As long as that search goes on.
+    /// All of them as long as that search goes on.
     Always,
+    /// Worker 0 alone, as long as that search goes on.
+    First,
+}
+
+/// Whether the call after that at this place waits for it.
+fn is_waited_for_next(program: &Program, place: usize) -> bool {
+    match program.call(place.saturating_add(1)) {
+        Some(next) => match next.kind {
+            Kind::Wait { operation } => operation == place,
+            _ => false,
+        },
+        None => false,
+    }
+}
+
+/// Whether some send of the program is waited for later than by the next call. What is known of the rank then depends on the order in which sends are
+/// taken: in the order of their calls each state closes many, and in any other one few, so that several searches in different orders take longer
+/// than one.
+pub fn has_late_sends(program: &Program) -> bool {
+    for (place, call) in program.calls().iter().enumerate() {
+        if let Kind::Send {
+            blocking: false,
+            ..
+        } = call.kind
+            && !is_waited_for_next(program, place)
+        {
+            return true;
+        }
+    }
+    false
 }
 
 /// What was done before the workers began.
@@ -51,12 +83,14 @@ pub struct Common<'s, S, G> {
     pub events: &'s EventCount,
     /// How many conflicts each worker may count.
     pub budget: u32,
-    /// When worker 0 searches over sets of matched calls.
+    /// When workers search over sets of matched calls.
     pub exploring: Exploring,
     /// What was done before.
     pub begun: Begun,
     /// What is kept of the log.
     pub kept: &'s KeptLines,
+    /// The states that are closed.
+    pub closed: &'s ClosedStates,
 }
 
 impl<S, G> Common<'_, S, G> {

@@ -2,6 +2,7 @@
 
 use crate::common::{Common, Exploring};
 use crate::gate::{Gate, Searched};
+use crate::imports::SHORT;
 use crate::kept::KeptLines;
 use crate::numbers::{line_place, number_of};
 use crate::stop::Stop;
@@ -10,17 +11,22 @@ use batches::Batch;
 use cdcl::Found;
 use clauses::Clause;
 use encode::Encoded;
+use pages::Lines;
 use pool::{MOST_LINES, Share, Why};
 use statesearch::StateSearch;
 use std::alloc::{AllocError, Global};
+use std::mem;
 use std::ops::Range;
 use std::sync::Wait;
 
-/// How many lines one search writes at most.
-const LINES_AT_A_TIME: u64 = 2_000;
+/// How many lines one search writes at least, and at most, where the budget lets it. What several workers do at the same time is lost, so at first they
+/// tell each other soon what they closed.
+const FEWEST_LINES: u64 = 64;
 
-/// How many lines all of them write at most: the log has room for more, but not for twice as many, as one send more to a wildcard would take.
-const MOST_IN_ALL: u64 = 600_000;
+const MOST_LINES_AT_A_TIME: u64 = 1_000;
+
+/// One search writes a line for so many states that are closed by then.
+const STATES_FOR_A_LINE: usize = 16;
 
 /// How many lines of the log others leave free beside those that are kept for the search over sets of matched calls, since all that search below cubes
 /// may publish once more before they see that the log has room for no more.
@@ -73,8 +79,8 @@ pub(crate) struct Exploration<'e> {
     turns: Turns,
     /// The places in the log of the lines that it wrote last.
     own: Range<usize>,
-    /// How many lines it may still write.
-    left: u64,
+    /// How many of the states that were closed were looked at.
+    seen: usize,
 }
 
 impl<'e> Exploration<'e> {
@@ -83,15 +89,18 @@ impl<'e> Exploration<'e> {
         alloc: Global,
         encoded: &'e Encoded,
         exploring: Exploring,
+        worker: u32,
     ) -> Result<Option<Exploration<'e>>, AllocError> {
-        if exploring == Exploring::Never {
+        if exploring == Exploring::Never || exploring == Exploring::First && worker > 0 {
             return Ok(None);
         }
+        let mut search = StateSearch::new(alloc, encoded)?;
+        search.turn(worker);
         Ok(Some(Exploration {
-            search: StateSearch::new(alloc, encoded)?,
-            turns: Turns::new(exploring == Exploring::Always),
+            search,
+            turns: Turns::new(exploring != Exploring::InTurn),
             own: 0..0,
-            left: MOST_IN_ALL,
+            seen: 0,
         }))
     }
 
@@ -116,79 +125,90 @@ impl<'e> Exploration<'e> {
 
     /// Searches on, until so many lines and conflicts were counted at most.
     fn search(&mut self, alloc: Global, most: u64) -> Result<Found, Stop> {
-        let budget = most.min(self.left).min(LINES_AT_A_TIME);
+        let lines = (self.seen / STATES_FOR_A_LINE) as u64;
+        let budget = most.min(lines.clamp(FEWEST_LINES, MOST_LINES_AT_A_TIME));
         let found = self.search.search(alloc, budget)?;
-        let counted = self.search.conflicts();
-        self.left = self.left.saturating_sub(counted);
-        self.turns.count(counted);
+        self.turns.count(self.search.conflicts());
         Ok(found)
+    }
+
+    /// Takes in which states other workers closed, by lines of the log, which are these.
+    fn take_in<S, G, R: Wait>(
+        &mut self,
+        rt: &R,
+        alloc: Global,
+        common: &Common<S, G>,
+        worker: u32,
+        lines: Lines,
+    ) -> Result<(), Stop> {
+        let (closings, seen) = common.closed.others(rt, alloc, worker, self.seen)?;
+        self.search.take_in(lines, &closings)?;
+        self.seen = seen;
+        Ok(())
     }
 }
 
 impl Worker<'_> {
-    /// Whether this worker goes on over sets of matched calls next.
-    pub(crate) fn explores(&self) -> bool {
+    /// Whether this worker goes on over sets of matched calls next: where it is its turn, or where the log has room for nothing else.
+    pub(crate) fn explores(&self, kept: &KeptLines) -> bool {
         if self.refuted.is_some() {
             return false;
         }
         match &self.exploration {
-            Some(exploration) => exploration.turns.explores,
-            None => false,
-        }
-    }
-
-    /// Whether this worker searches below no cube as long as it explores.
-    pub(crate) fn only_explores(&self) -> bool {
-        match &self.exploration {
-            Some(exploration) => exploration.turns.is_alone,
+            Some(exploration) => exploration.turns.explores || self.is_kept(kept),
             None => false,
         }
     }
 
     /// Searches over sets of matched calls, and counts what that took, which it answers, too.
-    fn search_states(&mut self) -> Result<Option<(Found, u64)>, Stop> {
+    fn search_states(&mut self, kept: &KeptLines) -> Result<Option<(Found, u64)>, Stop> {
         let Some(exploration) = &mut self.exploration else {
             return Ok(None);
         };
-        let found = exploration.search(self.alloc, self.left)?;
+        let found = exploration.search(self.alloc, self.left.min(kept.count()))?;
         let counted = exploration.search.conflicts();
+        kept.use_up(counted);
         self.left = self.left.saturating_sub(counted);
         Ok(Some((found, counted)))
     }
 
-    /// Publishes these lines, which the exploration wrote. Answers the number of the first.
-    fn publish_states<S: Share, R: Wait>(
+    /// Publishes these lines, which the exploration wrote, and tells others which states they close. Answers the number of the first.
+    fn publish_states<S: Share, G, R: Wait>(
         &mut self,
         rt: &R,
-        shared: &S,
+        common: &Common<S, G>,
         seat: &mut S::Seat,
+        worker: u32,
         batch: &Batch,
     ) -> Result<u32, Stop> {
-        let base = shared.publish(rt, self.alloc, seat, batch)?;
+        let base = common.shared.publish(rt, self.alloc, seat, batch)?;
         let place = line_place(self.clauses(), base);
         if let Some(exploration) = &mut self.exploration {
             exploration.own = place..place.saturating_add(batch.lines.len());
+            let closings = exploration.search.closings(self.alloc, base)?;
+            common.closed.add(rt, worker, &closings)?;
         }
         Ok(base)
     }
 
     /// Hands on what a search over sets of matched calls found.
-    fn hand_on_states<S: Share, R: Wait>(
+    fn hand_on_states<S: Share, G, R: Wait>(
         &mut self,
         rt: &R,
-        shared: &S,
+        common: &Common<S, G>,
         seat: &mut S::Seat,
+        worker: u32,
         found: &Found,
     ) -> Result<(), Stop> {
         match found {
             Found::Closed(batch, last) => {
-                let base = self.publish_states(rt, shared, seat, batch)?;
+                let base = self.publish_states(rt, common, seat, worker, batch)?;
                 self.refuted = Some(number_of(base, *last));
                 Ok(())
             }
-            Found::Model(assignment) => self.tell(rt, shared, seat, assignment),
+            Found::Model(assignment) => self.tell(rt, common.shared, seat, assignment),
             Found::Budget(batch) => {
-                self.publish_states(rt, shared, seat, batch)?;
+                self.publish_states(rt, common, seat, worker, batch)?;
                 if self.left == 0 {
                     return Err(Stop { why: Why::Budget });
                 }
@@ -197,35 +217,23 @@ impl Worker<'_> {
         }
     }
 
-    /// How many lines of the log are kept for the exploration, which needs none once it has refuted the formula.
-    fn kept(&self) -> u64 {
-        if self.refuted.is_some() {
-            return 0;
-        }
-        match &self.exploration {
-            Some(exploration) => exploration.left,
-            None => 0,
-        }
+    /// Whether the log has room for no more lines than are kept for searches over sets of matched calls.
+    fn is_kept(&self, kept: &KeptLines) -> bool {
+        let left = kept.count();
+        let taken = (self.seen() as u64).saturating_add(left);
+        left > 0 && taken.saturating_add(MARGIN) >= MOST_LINES as u64
     }
 
-    /// Whether the log has room for no more lines than are kept for the exploration of another worker.
-    pub(crate) fn leaves_room(&self, kept: &KeptLines) -> bool {
-        let kept = kept.count();
-        if kept == 0 || self.exploration.is_some() || self.refuted.is_some() {
-            return false;
-        }
-        let taken = (self.seen() as u64).saturating_add(kept);
-        taken.saturating_add(MARGIN) >= MOST_LINES as u64
+    /// Whether this worker rests, since the log has room for no more lines than are kept for worker 0, which alone searches over sets of matched calls.
+    pub(crate) fn leaves_room<S, G>(&self, common: &Common<S, G>) -> bool {
+        let is_other = common.exploring == Exploring::First && self.exploration.is_none();
+        is_other && self.refuted.is_none() && self.is_kept(common.kept)
     }
 
     /// Drops the exploration where it may write no more lines.
-    fn drop_used_up(&mut self) {
-        let is_used_up = match &self.exploration {
-            Some(exploration) => exploration.left == 0,
-            None => false,
-        };
-        if is_used_up {
-            self.exploration = None;
+    fn drop_used_up(&mut self, kept: &KeptLines) {
+        if kept.count() == 0 {
+            mem::drop(self.exploration.take());
         }
     }
 
@@ -239,13 +247,29 @@ impl Worker<'_> {
         found: &Found,
         counted: u64,
     ) -> Result<(), Stop> {
-        let next = self.hand_on_states(rt, common.shared, seat, found);
+        let next = self.hand_on_states(rt, common, seat, worker, found);
         let open = common.shared.status(rt).open_leaves;
         let used = common.used(self.left);
         common
             .gate
             .after(worker, Searched::of(found, 0, open, counted, used, true));
         next
+    }
+
+    /// Takes in the lines that the log has by now, and which states other workers closed.
+    fn learn_of_others<S: Share, G, R: Wait>(
+        &mut self,
+        rt: &R,
+        common: &Common<S, G>,
+        seat: &mut S::Seat,
+        worker: u32,
+    ) -> Result<(), Stop> {
+        let lines = common.shared.fetch(rt, self.alloc, seat, 0)?;
+        self.import(&lines, 0, SHORT)?;
+        match &mut self.exploration {
+            Some(exploration) => exploration.take_in(rt, self.alloc, common, worker, lines),
+            None => Ok(()),
+        }
     }
 
     /// One search over sets of matched calls, with all lines that the log has by now, after which the gate is called.
@@ -256,13 +280,12 @@ impl Worker<'_> {
         seat: &mut S::Seat,
         worker: u32,
     ) -> Result<(), Stop> {
-        self.catch_up(rt, common.shared, seat)?;
-        let Some((found, counted)) = self.search_states()? else {
+        self.learn_of_others(rt, common, seat, worker)?;
+        let Some((found, counted)) = self.search_states(common.kept)? else {
             return Ok(());
         };
         let next = self.tell_states(rt, common, seat, worker, &found, counted);
-        self.drop_used_up();
-        common.kept.keep(self.kept());
+        self.drop_used_up(common.kept);
         next
     }
 }

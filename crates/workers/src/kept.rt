@@ -1,30 +1,38 @@
-//! How many lines of the log are kept for the search over sets of matched calls.
+//! How many lines of the log are kept for searches over sets of matched calls.
 
 use std::sync::atomic::{AtomicU64, Ordering};
 
-/// How many lines of the log are kept for the search over sets of matched calls. Where the log has room for no more than these, workers that
-/// search below cubes wait until that search has ended.
+/// How many lines they write at most: the log has room for more, but not for twice as many, as one send more to a wildcard would take.
+const MOST_IN_ALL: u64 = 600_000;
+
+/// How many lines of the log are kept for searches over sets of matched calls. Where the log has room for no more than these, workers no longer search
+/// below cubes until they are used up or given up.
 #[derive(Drop)]
 pub struct KeptLines {
-    word: AtomicU64,
+    used: AtomicU64,
 }
 
 impl KeptLines {
-    /// None are kept.
+    /// None are used.
     pub fn new() -> KeptLines {
         KeptLines {
-            word: AtomicU64::new(0),
+            used: AtomicU64::new(0),
         }
     }
 
-    /// Keeps so many from now on.
-    pub(crate) fn keep(&self, lines: u64) {
-        self.word.store(lines, Ordering::SeqCst);
+    /// So many more are used.
+    pub(crate) fn use_up(&self, lines: u64) {
+        self.used.fetch_add(lines, Ordering::SeqCst);
     }
 
-    /// How many are kept.
+    /// None are left any more.
+    pub(crate) fn give_up(&self) {
+        self.used.store(MOST_IN_ALL, Ordering::SeqCst);
+    }
+
+    /// How many are left.
     pub(crate) fn count(&self) -> u64 {
-        self.word.load(Ordering::SeqCst)
+        MOST_IN_ALL.saturating_sub(self.used.load(Ordering::SeqCst))
     }
 }
 

@@ -5,6 +5,7 @@
 #![tactic(auto)]
 
 mod branching;
+mod closed;
 mod common;
 mod events;
 mod exploring;
@@ -17,7 +18,8 @@ mod source;
 mod stop;
 mod worker;
 
-pub use common::{Begun, Common, Exploring};
+pub use closed::ClosedStates;
+pub use common::{Begun, Common, Exploring, has_late_sends};
 pub use events::EventCount;
 pub use gate::{Gate, Searched};
 pub use kept::KeptLines;

@@ -8,6 +8,7 @@ use crate::worker::Worker;
 use cdcl::Found;
 use pool::Share;
 use std::alloc::Global;
+use std::mem;
 use std::sync::Wait;
 
 /// How many conflicts the first search counts at most.
@@ -92,7 +93,9 @@ fn search_all<S: Share, G: Gate, R: Wait>(
     cubes: &[u32],
 ) -> Result<u64, Stop> {
     let mut worker = Worker::new(alloc, common, 0)?;
-    search(rt, &mut worker, common, seat, cubes)
+    let end = search(rt, &mut worker, common, seat, cubes);
+    mem::drop(worker);
+    end
 }
 
 /// Searches the whole formula, with no cube, before the workers begin: match variables are probed, and at most 4,000 conflicts are

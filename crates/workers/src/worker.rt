@@ -3,11 +3,11 @@
 ghost use Rattle.std.specs.Prelude.{◌≡◌};
 
 use crate::branching::{branching_variable, most_active};
-use crate::common::Common;
+use crate::common::{Common, Exploring};
 use crate::events::EventCount;
 use crate::exploring::Exploration;
 use crate::gate::{Gate, Searched};
-use crate::imports::{SHORT, longest};
+use crate::imports::longest;
 use crate::numbers::{line_number, line_place, number_of};
 use crate::source::Cubes;
 use crate::stop::Stop;
@@ -21,6 +21,7 @@ use extract::schedule_of;
 use pages::Lines;
 use pool::{Share, SplitFault, Status, Why};
 use std::alloc::{AllocError, Global};
+use std::mem;
 use std::ops::Range;
 use std::sync::Wait;
 
@@ -114,15 +115,13 @@ impl<'e> Worker<'e> {
         })
     }
 
-    /// Makes worker 0 search over sets of matched calls too, where that is wanted.
+    /// Makes the worker of this number search over sets of matched calls too, where that is wanted.
     fn explore_too<S, G>(
         &mut self,
         common: &Common<'e, S, G>,
         worker: u32,
     ) -> Result<(), AllocError> {
-        if worker == 0 {
-            self.exploration = Exploration::make(self.alloc, common.encoded, common.exploring)?;
-        }
+        self.exploration = Exploration::make(self.alloc, common.encoded, common.exploring, worker)?;
         Ok(())
     }
 
@@ -133,7 +132,10 @@ impl<'e> Worker<'e> {
         worker: u32,
     ) -> Result<Worker<'e>, AllocError> {
         let mut made = Worker::new(alloc, common, worker)?;
-        made.explore_too(common, worker)?;
+        if made.explore_too(common, worker).is_err() {
+            mem::drop(made);
+            return Err(AllocError);
+        }
         Ok(made)
     }
 
@@ -145,14 +147,6 @@ impl<'e> Worker<'e> {
     /// How many clauses the formula has.
     pub(crate) fn clauses(&self) -> usize {
         self.encoded.formula().len()
-    }
-
-    /// How many literals a line of others has at most that the solver takes in: short ones alone as long as it isn't asked.
-    fn longest_of(&self, lines: &Lines) -> usize {
-        if self.only_explores() {
-            return SHORT;
-        }
-        longest(lines)
     }
 
     /// Takes in the line at this place of the log, from 0, where it is one of the solver's own or has at most so many literals.
@@ -171,16 +165,21 @@ impl<'e> Worker<'e> {
         Ok(())
     }
 
-    /// Takes in of these lines, which stand in the log after those that were seen, the solver's own and the shortest of others.
-    fn import(&mut self, lines: &Lines) -> Result<(), Stop> {
-        let longest = self.longest_of(lines);
-        for place in 0..lines.len() {
+    /// Takes in of these lines, the first of which stands at this place of the log, those that weren't seen: the solver's own, and of others those with
+    /// so many literals at most.
+    pub(crate) fn import(
+        &mut self,
+        lines: &Lines,
+        first: usize,
+        longest: usize,
+    ) -> Result<(), Stop> {
+        for place in self.seen.saturating_sub(first)..lines.len() {
             let Some(line) = lines.get(place) else {
                 unreachable!()
             };
-            self.import_line(self.seen.saturating_add(place), line.clause(), longest)?;
+            self.import_line(first.saturating_add(place), line.clause(), longest)?;
         }
-        self.seen = self.seen.saturating_add(lines.len());
+        self.seen = self.seen.max(first.saturating_add(lines.len()));
         Ok(())
     }
 
@@ -274,15 +273,15 @@ impl<'e> Worker<'e> {
         }
     }
 
-    /// Imports the lines that the log has by now and this worker hasn't seen.
-    pub(crate) fn catch_up<S: Share, R: Wait>(
+    /// Imports the solver's own and the shortest of the lines that the log has by now and this worker hasn't seen.
+    fn catch_up<S: Share, R: Wait>(
         &mut self,
         rt: &R,
         shared: &S,
         seat: &mut S::Seat,
     ) -> Result<(), Stop> {
         let lines = shared.fetch(rt, self.alloc, seat, self.seen)?;
-        self.import(&lines)
+        self.import(&lines, self.seen, longest(&lines))
     }
 
     /// Hands on what a search below a cube with this path found.
@@ -402,12 +401,12 @@ impl<'e> Worker<'e> {
             if is_over(&status) {
                 return Ok(());
             }
-            if self.explores() {
+            if self.explores(common.kept) {
                 self.explore(rt, common, seat, worker)?;
                 common.events.advance();
                 continue;
             }
-            if self.leaves_room(common.kept) {
+            if self.leaves_room(common) {
                 rest(rt, common.events, seen, &pause);
                 continue;
             }
@@ -466,7 +465,9 @@ fn reason<S: Share, C: Cubes, G: Gate, R: Wait>(
     let Ok(mut search) = Worker::explorer(alloc, common, worker) else {
         return Some(Why::Memory);
     };
-    reason_of(search.run(rt, common, seat, cubes, worker))
+    let end = search.run(rt, common, seat, cubes, worker);
+    mem::drop(search);
+    reason_of(end)
 }
 
 /// Searches below one cube after another, and tells the share what it found: lines, a clause for each cube that is refuted,
@@ -477,10 +478,11 @@ fn reason<S: Share, C: Cubes, G: Gate, R: Wait>(
 /// split or, where the tree has no room, searched on. A cube is split on the match variable that took part in most conflicts of those that
 /// have no value below its path; where there is none, on the first variable that isn't on it, match variables first, in the branching order.
 ///
-/// Worker 0 searches over sets of matched calls, where that is wanted, at most 2,000 lines at a time and 600,000 in all; each counts as a
-/// conflict of its budget. Meanwhile the log has room for what it may still write: where others have come close to that, they wait until it has
-/// ended. Where the log has an empty clause, each cube is closed by it. Of the lines of others a worker takes in the shortest, up
-/// to 6,000 after each search, and all with at most two literals; these alone as long as it searches below no cube.
+/// Where that is wanted it also searches over sets of matched calls, at most 250 lines at a time, each of which counts as a conflict of its budget: in
+/// turn with cubes, or as long as that search goes on. It tells the other workers which states it closed, and takes from them those that they did, so
+/// that all of them together search over the sets once. They write 600,000 lines at most; where the log has room for no more than what is left of
+/// these, it searches below no cube, and rests where worker 0 alone searches over sets. Where the log has an empty clause, each cube is closed by it. Of the lines of others a worker takes in the
+/// shortest, up to 6,000 after each search, and all with at most two literals; these alone as long as it searches below no cube.
 ///
 /// The worker leaves with no reason once a schedule was found or no leaf is open, or, without a cube, once another worker left for a
 /// reason; else it pauses without a cube, and rests until the events are advanced. It advances them after each search and when it leaves. It
@@ -499,8 +501,8 @@ pub fn work<S: Share, C: Cubes, G: Gate, R: Wait>(
     ensures { C.deques cubes.new ≡ C.deques cubes.old }
 {
     let why = reason(rt, alloc, common, seat, cubes, worker);
-    if worker == 0 {
-        common.kept.keep(0);
+    if worker == 0 && common.exploring == Exploring::First {
+        common.kept.give_up();
     }
     let left = common.shared.leave(rt, seat, why);
     common.events.advance();

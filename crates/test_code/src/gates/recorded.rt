@@ -19,6 +19,10 @@ const GATHER: &str =
 const MANY: &str =
     "ranks 11/policy none/rank 0/recv * 1/recv * 1/recv * 1/recv * 1/recv * 1/recv * 1/recv * 1/recv * 1/recv * 1/recv * 1/rank 1/send 0 1/rank 2/send 0 1/rank 3/send 0 1/rank 4/send 0 1/rank 5/send 0 1/rank 6/send 0 1/rank 7/send 0 1/rank 8/send 0 1/rank 9/send 0 1/rank 10/send 0 1/";
 
+/// Twelve such ranks: more than some ten thousand lines over sets of matched calls are needed, too.
+const MORE: &str =
+    "ranks 13/policy none/rank 0/recv * 1/recv * 1/recv * 1/recv * 1/recv * 1/recv * 1/recv * 1/recv * 1/recv * 1/recv * 1/recv * 1/recv * 1/rank 1/send 0 1/rank 2/send 0 1/rank 3/send 0 1/rank 4/send 0 1/rank 5/send 0 1/rank 6/send 0 1/rank 7/send 0 1/rank 8/send 0 1/rank 9/send 0 1/rank 10/send 0 1/rank 11/send 0 1/rank 12/send 0 1/";
+
 /// What one worker was asked for, and told.
 #[derive(Drop)]
 struct Record {
@@ -252,13 +256,14 @@ fn the_whole_formula_first(rt: HostRuntime) -> Result<(), Fail> {
     Ok(())
 }
 
-/// Asserts that no worker counts more than its budget, the first search and lines over sets of matched calls counted for worker 0.
+/// Asserts that no worker counts more than its budget, the first search counted for worker 0, and lines over sets of matched calls for the one that
+/// writes them.
 fn assert_all_counted<R: Abort + Threads + Wait + Sync>(
     rt: &R,
     alloc: Global,
     workers: u32,
 ) -> Result<(), Fail> {
-    let seen = observed(rt, alloc, MANY, options(workers, 0, 4_500)?, 0, 0)?;
+    let seen = observed(rt, alloc, MORE, options(workers, 0, 4_500)?, 0, 0)?;
     assert_eq!(rt; seen.answer, "unknown budget");
     assert_eq!(rt; seen.most, 4_500, "{workers} workers");
     Ok(())
@@ -270,15 +275,30 @@ fn the_first_search_counts_for_worker_zero(rt: HostRuntime) -> Result<(), Fail> 
     assert_all_counted(&rt, rt.alloc(), 4)
 }
 
-/// Within 6,000 lines one worker refutes the formula over sets of matched calls, but not below cubes.
+/// What so many workers come to by these searches, each with so small a budget.
+fn come_to<R: Abort + Threads + Wait + Sync>(
+    rt: &R,
+    alloc: Global,
+    workers: u32,
+    budget: u32,
+    searches: Searches,
+) -> Result<&'static str, Fail> {
+    let options = options(workers, 0, budget)?.with_searches(searches);
+    Ok(observed(rt, alloc, MANY, options, 0, 0)?.answer)
+}
+
+/// Within 6,000 lines one worker refutes the formula over sets of matched calls, but not below cubes. Four workers do so within half of that for each,
+/// since none of them searches over sets that another one has closed.
 #[test]
 fn sets_are_fewer_than_orders(rt: HostRuntime) -> Result<(), Fail> {
-    let few = options(1, 0, 6_000)?;
-    let over_sets = few.with_searches(Searches::Sets);
-    let below_cubes = few.with_searches(Searches::Cubes);
-    let refuted = observed(&rt, rt.alloc(), MANY, over_sets, 0, 0)?;
-    assert_eq!(rt; refuted.answer, "no deadlock");
-    let unknown = observed(&rt, rt.alloc(), MANY, below_cubes, 0, 0)?;
-    assert_eq!(rt; unknown.answer, "unknown budget");
+    let alloc = rt.alloc();
+    for (workers, budget, searches, answer) in [
+        (1, 6_000, Searches::Sets, "no deadlock"),
+        (1, 6_000, Searches::Cubes, "unknown budget"),
+        (1, 3_000, Searches::Sets, "unknown budget"),
+        (4, 3_000, Searches::Sets, "no deadlock"),
+    ] {
+        assert_eq!(rt; come_to(&rt, alloc, workers, budget, searches)?, answer);
+    }
     Ok(())
 }

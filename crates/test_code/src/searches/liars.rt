@@ -20,7 +20,7 @@ use std::test::Fail;
 use std::thread;
 use std::thread::Threads;
 use steal::{Supply, deal};
-use workers::{Begun, Common, EventCount, Exploring, Gate, KeptLines, work};
+use workers::{Begun, ClosedStates, Common, EventCount, Exploring, Gate, KeptLines, work};
 
 /// How often each liar makes each of its three calls.
 const ROUNDS: u32 = 1_000;
@@ -161,6 +161,7 @@ fn all_act<B: Room + Send + Sync, R: Threads + Wait + Sync>(
     };
     let events = EventCount::new();
     let kept = KeptLines::new();
+    let closed = ClosedStates::new(alloc);
     let common = Common {
         encoded,
         shared,
@@ -170,6 +171,7 @@ fn all_act<B: Room + Send + Sync, R: Threads + Wait + Sync>(
         exploring: Exploring::Never,
         begun: Begun::nothing(),
         kept: &kept,
+        closed: &closed,
     };
     let threads = stations.len().max(1);
     thread::for_each_mut(

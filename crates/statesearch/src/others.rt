@@ -1,0 +1,67 @@
+//! States that other searches over the same program closed.
+
+use clauses::Clause;
+use pages::Lines;
+use std::alloc::{AllocError, Global};
+use std::collections::HashMap;
+use std::hash::{DefaultHasher, Hash, Hasher};
+
+/// A state that a search closed, and the clause by which it did.
+#[derive(Clone, Copy, PartialEq, Eq)]
+pub struct Closing {
+    /// What tells the state from nearly all others of the same program.
+    pub state: u64,
+    /// The clause's number, from 1.
+    pub number: u32,
+}
+
+/// What tells a state with this key from nearly all others.
+pub(crate) fn hash_of(key: &[u32]) -> u64 {
+    let mut hasher = DefaultHasher::new();
+    key.hash(&mut hasher);
+    hasher.finish()
+}
+
+/// What others closed, and the lines by which they did. Nothing of it is trusted: a clause that isn't the state's is of no use, and no harm.
+#[derive(Drop)]
+pub(crate) struct Others {
+    clauses: usize,
+    numbers: HashMap<u64, u32>,
+    lines: Option<Lines>,
+}
+
+impl Others {
+    /// Nothing, of a formula of so many clauses.
+    pub(crate) fn new(alloc: Global, clauses: usize) -> Others {
+        Others {
+            clauses,
+            numbers: HashMap::new(alloc),
+            lines: None,
+        }
+    }
+
+    /// Puts these states in, which are closed by clauses of the formula and then of the lines.
+    pub(crate) fn take_in(&mut self, lines: Lines, closings: &[Closing]) -> Result<(), AllocError> {
+        for closing in closings {
+            self.numbers.insert(closing.state, closing.number)?;
+        }
+        self.lines = Some(lines);
+        Ok(())
+    }
+
+    /// The line of this number.
+    fn line(&self, number: u32) -> Option<&Clause> {
+        let place = (number as usize).checked_sub(self.clauses)?.checked_sub(1)?;
+        let line = self.lines.as_ref()?.get(place)?;
+        Some(line.clause())
+    }
+
+    /// The line by which the state that these numbers tell is closed, and its number.
+    pub(crate) fn closing(&self, key: &[u32]) -> Option<(u32, &Clause)> {
+        if self.numbers.is_empty() {
+            return None;
+        }
+        let number = *self.numbers.get(&hash_of(key))?;
+        Some((number, self.line(number)?))
+    }
+}
