@@ -13,6 +13,7 @@ use extract::schedule_of;
 use formulas::{Event, Fact, Meaning};
 use nonovertake::earlier;
 use std::alloc::Global;
+use std::mem;
 use std::thread::Threads;
 use tables::Variables;
 
@@ -24,6 +25,7 @@ pub fn judge<R: Threads + Sync>(
 ) {
     if let Some(mut encoded) = encoded(rt, section.heading, given) {
         judge_calls(&mut encoded, section.calls, given, report);
+        mem::drop(encoded);
     }
 }
 
@@ -143,14 +145,18 @@ fn event(line: &str, given: &mut Given) -> Event {
 fn order(variables: &Variables<'_>, lines: &str, given: &mut Given) -> Vec<usize> {
     let mut places = Vec::new(given.alloc);
     for line in lines.split_terminator('/') {
-        if line == "others" {
-            push_others(&mut places, variables.event_count(), given);
-        } else {
-            let event = event(line, given);
-            add(&mut places, variables.event_place(&event), given);
-        }
+        push_event(&mut places, variables, line, given);
     }
     places
+}
+
+fn push_event(places: &mut Vec<usize>, variables: &Variables<'_>, line: &str, given: &mut Given) {
+    if line == "others" {
+        push_others(places, variables.event_count(), given);
+    } else {
+        let event = event(line, given);
+        add(places, variables.event_place(&event), given);
+    }
 }
 
 /// Adds the places below this one that aren't there.
@@ -215,18 +221,42 @@ fn assignment(
 /// The assignment under which these facts are so and these events come in this order, such as `issued 1/unfinished 0 | issue 1/issue 2/match 2`;
 /// and `none` is the one under which all is false.
 fn told(encoded: &Encoded, words: &str, given: &mut Given) -> Assignment {
-    let Some((lines, events)) = words.split_once("|") else {
-        return Assignment::make(Vec::new(given.alloc));
-    };
+    match words.split_once("|") {
+        Some((lines, events)) => told_by(encoded, lines, events.trim(), given),
+        None => Assignment::make(Vec::new(given.alloc)),
+    }
+}
+
+fn told_by(encoded: &Encoded, lines: &str, events: &str, given: &mut Given) -> Assignment {
     let facts = all::<Fact>(lines, '/', given);
+    let values = told_with(encoded, facts.as_slice(), events, given);
+    mem::drop(facts);
+    values
+}
+
+fn told_with(encoded: &Encoded, facts: &[Fact], events: &str, given: &mut Given) -> Assignment {
     match encoded.variables(given.alloc) {
         Ok(variables) => {
-            let order = order(&variables, events.trim(), given);
-            let size = variables.clock_size();
-            assignment(encoded, facts.as_slice(), order.as_slice(), size, given)
+            let values = told_over(encoded, &variables, facts, events, given);
+            mem::drop(variables);
+            values
         }
         Err(_error) => Assignment::make(Vec::new(given.alloc)),
     }
+}
+
+fn told_over(
+    encoded: &Encoded,
+    variables: &Variables<'_>,
+    facts: &[Fact],
+    events: &str,
+    given: &mut Given,
+) -> Assignment {
+    let order = order(variables, events, given);
+    let size = variables.clock_size();
+    let values = assignment(encoded, facts, order.as_slice(), size, given);
+    mem::drop(order);
+    values
 }
 
 /// Answers a call about an assignment: whether the formula is satisfied, or the schedule.

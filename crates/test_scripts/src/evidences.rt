@@ -10,8 +10,8 @@ use prooflog::{
     Evidence, EvidenceFault, TrimFault, read_evidence, read_evidence_in, trim, write_evidence,
 };
 use refutations::{LineFault, MakeLineFault, TreeFault};
-use std::str;
 use std::thread::Threads;
+use std::{mem, str};
 use trees::SplitFault;
 
 pub fn judge<R: Threads + Sync>(
@@ -40,18 +40,32 @@ fn answer<R: Threads + Sync>(rt: &R, name: &str, words: &str, given: &mut Given)
 
 /// Answers a call about a text: `read_in`, such as `4 evidence 1/..`, reads it in so many parts.
 fn read<R: Threads + Sync>(rt: &R, name: &str, text: &str, given: &mut Given) {
-    let alloc = given.alloc;
     match name {
-        "read" => put_read(text, &read_evidence(alloc, text.as_bytes()), given),
-        "trim" => put_trimmed(&read_evidence(alloc, text.as_bytes()), given),
-        "read_in" => {
-            let (parts, text) = text.split_once(' ').unwrap_or(("", text));
-            let parts = number(parts, given) as usize;
-            let read = read_evidence_in(rt, alloc, text.as_bytes(), parts);
-            put_read(text, &read, given);
-        }
+        "read" => read_whole(text, given),
+        "trim" => trim_whole(text, given),
+        "read_in" => read_in(rt, text, given),
         _ => given.refuse("not made: no such call"),
     }
+}
+
+fn read_whole(text: &str, given: &mut Given) {
+    let read = read_evidence(given.alloc, text.as_bytes());
+    put_read(text, &read, given);
+    mem::drop(read);
+}
+
+fn trim_whole(text: &str, given: &mut Given) {
+    let read = read_evidence(given.alloc, text.as_bytes());
+    put_trimmed(&read, given);
+    mem::drop(read);
+}
+
+fn read_in<R: Threads + Sync>(rt: &R, words: &str, given: &mut Given) {
+    let (parts, text) = words.split_once(' ').unwrap_or(("", words));
+    let parts = number(parts, given) as usize;
+    let read = read_evidence_in(rt, given.alloc, text.as_bytes(), parts);
+    put_read(text, &read, given);
+    mem::drop(read);
 }
 
 /// The text of a fault that only want of memory brings about, and the size of a literal.

@@ -5,6 +5,7 @@ use crate::report::Report;
 use crate::scripts::{Section, Subject, judge_calls};
 use pages::{Extended, Lines, Log};
 use refutations::{Line, LineList};
+use std::mem;
 
 /// A log, and a list that was taken from it.
 #[derive(Drop)]
@@ -23,19 +24,35 @@ impl Subject for Pages {
     fn answer(&mut self, name: &str, words: &str, given: &mut Given) {
         match name {
             "append" => append(&mut self.log, words, given),
-            "hold" => {
-                self.held = after(&self.log, words, given);
-                put_taken(&self.held, given);
-            }
+            "hold" => hold(&self.log, &mut self.held, words, given),
             "held" => put_taken(&self.held, given),
-            "after" => put_taken(&after(&self.log, words, given), given),
+            "after" => put_after(&self.log, words, given),
             "lines" => put_told(&self.log, given),
             "get" => put_place(&self.log, words, given),
             "extended" => put_extended(&self.log, words, given),
-            "from_vec" => put_taken(&from_vec(words, given), given),
+            "from_vec" => put_from_vec(words, given),
             _ => given.refuse("not made: no such call"),
         }
     }
+}
+
+/// Takes a list in place of the one that is held.
+fn hold(log: &Log, held: &mut Option<Lines>, words: &str, given: &mut Given) {
+    let before = mem::replace(held, after(log, words, given));
+    mem::drop(before);
+    put_taken(held, given);
+}
+
+fn put_after(log: &Log, words: &str, given: &mut Given) {
+    let lines = after(log, words, given);
+    put_taken(&lines, given);
+    mem::drop(lines);
+}
+
+fn put_from_vec(word: &str, given: &mut Given) {
+    let lines = from_vec(word, given);
+    put_taken(&lines, given);
+    mem::drop(lines);
 }
 
 /// Lines without literals, each with one hint: the numbers from `first` on.

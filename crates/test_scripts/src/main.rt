@@ -3,6 +3,7 @@
 //! is refused to it: `./refusals library` does that. Where there is enough, it is answered as it should be.
 #![tactic(auto)]
 
+mod beside;
 mod checks;
 mod deques;
 mod encodings;

@@ -11,6 +11,7 @@ use calltext::{Source, read};
 use candidates::{PairFault, Pairs, pairs};
 use nonovertake::{Earlier, earlier};
 use std::alloc::Global;
+use std::mem;
 use std::thread::Threads;
 
 /// A program's pairs, and the calls that each waits for.
@@ -48,8 +49,12 @@ fn judge_pairs<R: Threads + Sync>(
         Ok(earlier) => {
             let mut fitting = Fitting { pairs, earlier };
             judge_calls(&mut fitting, section.calls, given, report);
+            mem::drop(fitting);
         }
-        Err(_error) => given.refuse("memory"),
+        Err(_error) => {
+            mem::drop(pairs);
+            given.refuse("memory");
+        }
     }
 }
 

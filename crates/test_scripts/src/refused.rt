@@ -35,9 +35,29 @@ fn outcome_of<R: Threads + Wait + Sync>(
         "encode" => texts::make_formula(rt, alloc),
         "split" => texts::split_cubes(rt, alloc),
         "schedule_of" => searches::tell_schedule(rt, alloc),
+        _ => outcome_of_evidence(rt, alloc, name),
+    }
+}
+
+fn outcome_of_evidence<R: Threads + Wait + Sync>(
+    rt: &R,
+    alloc: Global,
+    name: &str,
+) -> Result<Outcome, AllocError> {
+    match name {
         "read_evidence" => Ok(tried(alloc, &Asked::ReadEvidence(REFUTATION))),
         "write_evidence" => texts::write_proof(alloc),
         "replay" => texts::replay_steps(alloc),
+        _ => outcome_of_search(rt, alloc, name),
+    }
+}
+
+fn outcome_of_search<R: Threads + Wait + Sync>(
+    rt: &R,
+    alloc: Global,
+    name: &str,
+) -> Result<Outcome, AllocError> {
+    match name {
         "new" => searches::make_solver(rt, alloc),
         "import" => searches::import_clause(rt, alloc),
         "closed" => searches::close_cube(rt, alloc),

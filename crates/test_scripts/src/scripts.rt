@@ -103,6 +103,19 @@ fn judge_kind<R: Threads + Wait + Sync>(
         "encoding" => encodings::judge(rt, section, given, report),
         "solver" => searches::judge(section, given, report),
         "states" => searches::judge_states(rt, section, given, report),
+        _ => judge_shared_kind(rt, kind, section, given, report),
+    }
+}
+
+/// The same for the kinds of what workers share.
+fn judge_shared_kind<R: Threads + Wait + Sync>(
+    rt: &R,
+    kind: &str,
+    section: Section<'_>,
+    given: &mut Given,
+    report: &mut Report,
+) {
+    match kind {
         "pool" => shares::judge_pool(rt, section, given, report),
         "run" => shares::judge_run(rt, section, given, report),
         "seats" => shares::judge_seats(rt, section, given, report),
@@ -136,8 +149,22 @@ fn push_calls<'a>(
     for time in 0..times {
         let is_last = time.saturating_add(1) == times;
         let number = first.saturating_add(time);
-        calls.push(call_of(alloc, place, call, wanted.trim(), number, is_last)?)?;
+        push_call(alloc, calls, place, call, wanted.trim(), number, is_last)?;
     }
+    Ok(())
+}
+
+fn push_call<'a>(
+    alloc: Global,
+    calls: &mut Vec<Call<'a>>,
+    place: Place<'a>,
+    call: &str,
+    wanted: &str,
+    number: u32,
+    is_last: bool,
+) -> Result<(), AllocError> {
+    let call = call_of(alloc, place, call, wanted, number, is_last)?;
+    calls.push(call)?;
     Ok(())
 }
 

@@ -1,4 +1,5 @@
 //! Searches. Each line that a search learns is checked, and none is taken in where one isn't derived.
+use crate::beside::beside;
 use crate::encodings::encoded;
 use crate::given::{Given, add, put_all, tell};
 use crate::reading::{Part, all, cut_number, formula};
@@ -11,6 +12,7 @@ use encode::Encoded;
 use refutations::{Line, check_line, clause_at};
 use statesearch::StateSearch;
 use std::alloc::Global;
+use std::mem;
 use std::thread::Threads;
 
 /// What searches, and takes in the lines that it learnt.
@@ -52,6 +54,8 @@ impl Searcher<'_> {
 #[derive(Drop)]
 struct Searches<'f> {
     formula: &'f Formula,
+    /// The program of the formula, where it has one.
+    encoded: Option<&'f Encoded>,
     search: Searcher<'f>,
     lines: Vec<Line>,
 }
@@ -65,7 +69,9 @@ pub fn judge(section: Section<'_>, given: &mut Given, report: &mut Report) {
     let probed = all::<u32>(probed, ' ', given);
     if let Some(formula) = formula(text, given) {
         judge_over(&formula, probed.as_slice(), section, given, report);
+        mem::drop(formula);
     }
+    mem::drop(probed);
 }
 
 fn judge_over(
@@ -76,7 +82,10 @@ fn judge_over(
     report: &mut Report,
 ) {
     match Solver::new(given.alloc, formula, probed) {
-        Ok(solver) => judge_by(formula, Searcher::Cubes(solver), section, given, report),
+        Ok(solver) => {
+            let search = Searcher::Cubes(solver);
+            judge_by(formula, None, search, section, given, report);
+        },
         Err(_error) => given.refuse("memory"),
     }
 }
@@ -90,15 +99,18 @@ pub fn judge_states<R: Threads + Sync>(
 ) {
     if let Some(encoded) = encoded(rt, section.heading, given) {
         judge_sets(&encoded, section, given, report);
+        mem::drop(encoded);
     }
 }
 
 fn judge_sets(encoded: &Encoded, section: Section<'_>, given: &mut Given, report: &mut Report) {
     match StateSearch::new(given.alloc, encoded) {
         Ok(states) => {
+            let search = Searcher::Sets(states);
             judge_by(
                 encoded.formula(),
-                Searcher::Sets(states),
+                Some(encoded),
+                search,
                 section,
                 given,
                 report,
@@ -110,6 +122,7 @@ fn judge_sets(encoded: &Encoded, section: Section<'_>, given: &mut Given, report
 
 fn judge_by<'f>(
     formula: &'f Formula,
+    encoded: Option<&'f Encoded>,
     search: Searcher<'f>,
     section: Section<'_>,
     given: &mut Given,
@@ -117,26 +130,34 @@ fn judge_by<'f>(
 ) {
     let mut searches = Searches {
         formula,
+        encoded,
         search,
         lines: Vec::new(given.alloc),
     };
     judge_calls(&mut searches, section.calls, given, report);
+    mem::drop(searches);
 }
 
 impl Subject for Searches<'_> {
     fn answer(&mut self, name: &str, words: &str, given: &mut Given) {
-        let Searches {
-            formula,
-            search: searcher,
-            lines,
-        } = self;
         match name {
-            "conflicts" => given.show(searcher.counted()),
-            "lines" => given.number(lines.len()),
-            "import" => import(searcher, words, given),
-            "take_in" => take_in(lines, words, given),
-            _ => called(formula, searcher, lines, name, words, given),
+            "beside" => search_beside(self.encoded, words, given),
+            "conflicts" => given.show(self.search.counted()),
+            "lines" => given.number(self.lines.len()),
+            "import" => import(&mut self.search, words, given),
+            "take_in" => take_in(&mut self.lines, words, given),
+            _ => {
+                let lines = &mut self.lines;
+                called(self.formula, &mut self.search, lines, name, words, given);
+            }
         }
+    }
+}
+
+fn search_beside(encoded: Option<&Encoded>, words: &str, given: &mut Given) {
+    match encoded {
+        Some(encoded) => beside(encoded, words, given),
+        None => given.refuse("not made: no program"),
     }
 }
 
@@ -270,7 +291,7 @@ fn lose(
 }
 
 /// The number that the next line gets.
-fn next_number(formula: &Formula, lines: &[Line]) -> u32 {
+pub fn next_number(formula: &Formula, lines: &[Line]) -> u32 {
     let lines = formula.len().saturating_add(lines.len());
     u32::try_from(lines.saturating_add(1)).unwrap_or(u32::MAX)
 }
@@ -292,7 +313,7 @@ fn line_of(base: u32, found: &BatchLine, given: &mut Given) -> Option<Line> {
 }
 
 /// Has each line of the batch checked, and takes it in.
-fn accept(formula: &Formula, lines: &mut Vec<Line>, batch: &Batch, given: &mut Given) {
+pub fn accept(formula: &Formula, lines: &mut Vec<Line>, batch: &Batch, given: &mut Given) {
     let base = next_number(formula, lines.as_slice());
     for found in &batch.lines {
         match line_of(base, found, given) {

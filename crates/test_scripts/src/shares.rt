@@ -41,6 +41,7 @@ fn judge_handed(
         kept: Reply::Leave,
     };
     judge_calls(&mut handed, calls, given, report);
+    mem::drop(handed);
 }
 
 /// Judges calls of a new pool.
@@ -70,7 +71,10 @@ fn fresh_of(alloc: Global, encoded: Encoded) -> Option<Pool>
 {
     match one_leaf(alloc, &encoded) {
         Some(tree) => Pool::new(alloc, encoded, tree).ok(),
-        None => None,
+        None => {
+            mem::drop(encoded);
+            None
+        }
     }
 }
 
@@ -89,19 +93,35 @@ impl Subject for Handed {
         match name {
             "then" => put_all(self.counts.as_slice(), given),
             "kept" => self.kept.put(given),
-            "status" => self.pool.status().put(given),
-            "history" => given.number(self.pool.history().len()),
-            "path" => put_path(&self.pool, words, given),
-            "evidence" => tell(&self.pool.assemble(given.alloc), given),
-            "keep_places" => keep_places(&mut self.pool, words, given),
-            "leave_kept" => leave_kept(&mut self.pool, words, given),
-            _ => {
-                if let Some(event) = event(name, words, given) {
-                    let reply = made(given.alloc, &mut self.pool, event);
-                    put_and_keep(&mut self.kept, reply, given);
-                }
-            }
+            _ => called(&mut self.pool, &mut self.kept, name, words, given),
         }
+    }
+}
+
+/// Makes a call of the pool.
+fn called(pool: &mut Pool, kept: &mut Reply, name: &str, words: &str, given: &mut Given) {
+    match name {
+        "status" => pool.status().put(given),
+        "history" => given.number(pool.history().len()),
+        "path" => put_path(pool, words, given),
+        "evidence" => put_evidence(pool, given),
+        "keep_places" => keep_places(pool, words, given),
+        "leave_kept" => leave_kept(pool, words, given),
+        _ => make(pool, kept, name, words, given),
+    }
+}
+
+fn put_evidence(pool: &Pool, given: &mut Given) {
+    let reply = pool.assemble(given.alloc);
+    tell(&reply, given);
+    mem::drop(reply);
+}
+
+/// Makes a worker's call.
+fn make(pool: &mut Pool, kept: &mut Reply, name: &str, words: &str, given: &mut Given) {
+    if let Some(event) = event(name, words, given) {
+        let reply = made(given.alloc, pool, event);
+        put_and_keep(kept, reply, given);
     }
 }
 
@@ -197,6 +217,7 @@ pub fn judge_run<R: Threads + Sync>(
     if let Some(encoded) = encoded(rt, section.heading, given) {
         judge_run_of(encoded, events.as_slice(), section, given, report);
     }
+    mem::drop(events);
 }
 
 fn judge_run_of(
@@ -209,6 +230,7 @@ fn judge_run_of(
     match pool_after(given.alloc, encoded, events) {
         Some((pool, replies)) => {
             judge_replies(replies.as_slice(), section.calls, given, report);
+            mem::drop(replies);
             judge_handed(pool, Vec::new(given.alloc), section.later, given, report);
         }
         None => given.refuse("not run"),
@@ -218,7 +240,10 @@ fn judge_run_of(
 fn pool_after(alloc: Global, encoded: Encoded, events: &[Event]) -> Option<(Pool, Vec<Reply>)> {
     match one_leaf(alloc, &encoded) {
         Some(tree) => run(alloc, encoded, tree, events).ok(),
-        None => None,
+        None => {
+            mem::drop(encoded);
+            None
+        }
     }
 }
 
@@ -236,10 +261,19 @@ fn events_of(calls: &[Call<'_>], given: &mut Given) -> Vec<Event> {
 /// Judges calls by these replies.
 fn judge_replies(replies: &[Reply], calls: &[Call<'_>], given: &mut Given, report: &mut Report) {
     for (call, reply) in calls.iter().zip(replies) {
-        reply.put(given);
-        report.note(call, given.reply());
-        given.clear();
+        judge_reply(reply, call, given, report);
     }
+}
+
+fn judge_reply(reply: &Reply, call: &Call<'_>, given: &mut Given, report: &mut Report) {
+    reply.put(given);
+    note(call, given, report);
+}
+
+/// Notes the reply that a call was given, and forgets it.
+fn note(call: &Call<'_>, given: &mut Given, report: &mut Report) {
+    report.note(call, given.reply());
+    given.clear();
 }
 
 /// Judges the calls before `then` with the seats of two workers, and the others on the pool that is handed out.
@@ -280,7 +314,10 @@ fn finished_in<R: Wait>(
 {
     match open_room(given.alloc) {
         Ok((cell, keeper)) => finished::<Brand, R>(rt, cell, keeper, pool, calls, given, report),
-        Err(_error) => None,
+        Err(_error) => {
+            mem::drop(pool);
+            None
+        }
     }
 }
 
@@ -318,9 +355,9 @@ fn judge_shared<S: Share, R: Wait>(
     let mut kept = Reply::Leave;
     for call in calls {
         answer(rt, shared, seats, &call.text, &mut kept, given);
-        report.note(call, given.reply());
-        given.clear();
+        note(call, given, report);
     }
+    mem::drop(kept);
 }
 
 /// Makes a call that takes no seat, or one that a worker makes with its own.
@@ -337,14 +374,31 @@ fn answer<S: Share, R: Wait>(
         "kept" => kept.put(given),
         "status" => shared.status(rt).put(given),
         "path" => put_shared_path(rt, shared, words, given),
-        "evidence" => tell(&shared.assemble(rt, given.alloc), given),
+        "evidence" => put_shared_evidence(rt, shared, given),
         _ => {
             if let Some(event) = event(name, words, given) {
-                let reply = asked(rt, given.alloc, shared, seats, event);
-                put_and_keep(kept, reply, given);
+                ask(rt, shared, seats, event, kept, given);
             }
         }
     }
+}
+
+fn put_shared_evidence<S: Share, R: Wait>(rt: &R, shared: &S, given: &mut Given) {
+    let reply = shared.assemble(rt, given.alloc);
+    tell(&reply, given);
+    mem::drop(reply);
+}
+
+fn ask<S: Share, R: Wait>(
+    rt: &R,
+    shared: &S,
+    seats: &mut [S::Seat],
+    event: Event,
+    kept: &mut Reply,
+    given: &mut Given,
+) {
+    let reply = asked(rt, given.alloc, shared, seats, event);
+    put_and_keep(kept, reply, given);
 }
 
 fn put_shared_path<S: Share, R: Wait>(rt: &R, shared: &S, leaf: &str, given: &mut Given) {
@@ -360,12 +414,27 @@ fn asked<S: Share, R: Wait>(
     seats: &mut [S::Seat],
     event: Event,
 ) -> Result<Reply, AllocError> {
-    let Some(seat) = seats.get_mut(worker_of(&event) as usize) else {
-        return Err(AllocError);
-    };
+    match seats.get_mut(worker_of(&event) as usize) {
+        Some(seat) => asked_at(rt, alloc, shared, seat, event),
+        None => {
+            mem::drop(event);
+            Err(AllocError)
+        }
+    }
+}
+
+fn asked_at<S: Share, R: Wait>(
+    rt: &R,
+    alloc: Global,
+    shared: &S,
+    seat: &mut S::Seat,
+    event: Event,
+) -> Result<Reply, AllocError> {
     match event {
         Event::Publish { batch, .. } => {
-            Ok(Reply::Publish(shared.publish(rt, alloc, seat, &batch)))
+            let number = shared.publish(rt, alloc, seat, &batch);
+            mem::drop(batch);
+            Ok(Reply::Publish(number))
         }
         Event::Fetch { from, .. } => Ok(Reply::Fetch(shared.fetch(rt, alloc, seat, from))),
         Event::Close { leaf, number, .. } => Ok(Reply::Close(shared.close(rt, seat, leaf, number))),

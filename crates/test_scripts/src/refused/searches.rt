@@ -6,6 +6,7 @@ use clauses::Formula;
 use cubes::branching_variables;
 use encode::Encoded;
 use std::alloc::{AllocError, Global};
+use std::mem;
 use std::thread::Threads;
 
 /// More conflicts than any search here needs.
@@ -25,7 +26,9 @@ enum Search {
 
 pub fn make_solver<R: Threads + Sync>(rt: &R, alloc: Global) -> Result<Outcome, AllocError> {
     let encoded = encoded(rt, alloc, GATHER)?;
-    make_solver_of(alloc, &encoded)
+    let outcome = make_solver_of(alloc, &encoded);
+    mem::drop(encoded);
+    outcome
 }
 
 fn make_solver_of(alloc: Global, encoded: &Encoded) -> Result<Outcome, AllocError> {
@@ -43,7 +46,10 @@ fn made_twice(alloc: Global, formula: &Formula, probed: &[u32]) -> Outcome {
 
 fn made(alloc: Global, formula: &Formula, probed: &[u32]) -> Answer {
     match Solver::new(alloc, formula, probed) {
-        Ok(_solver) => Answer::Own,
+        Ok(solver) => {
+            mem::drop(solver);
+            Answer::Own
+        }
         Err(AllocError) => Answer::Memory,
     }
 }
@@ -71,15 +77,28 @@ fn searched<R: Threads + Sync>(
     call: Search,
 ) -> Result<Outcome, AllocError> {
     let encoded = encoded(rt, alloc, text)?;
-    searched_in(alloc, &encoded, call)
+    let outcome = searched_in(alloc, &encoded, call);
+    mem::drop(encoded);
+    outcome
 }
 
 fn searched_in(alloc: Global, encoded: &Encoded, call: Search) -> Result<Outcome, AllocError> {
     let variables = branching_variables(alloc, encoded)?;
-    match Solver::new(alloc, encoded.formula(), variables.as_slice()) {
-        Ok(mut solver) => Ok(called(alloc, encoded.formula(), &mut solver, call)),
-        Err(error) => Err(error),
-    }
+    let outcome = searched_with(alloc, encoded.formula(), variables.as_slice(), call);
+    mem::drop(variables);
+    outcome
+}
+
+fn searched_with(
+    alloc: Global,
+    formula: &Formula,
+    probed: &[u32],
+    call: Search,
+) -> Result<Outcome, AllocError> {
+    let mut solver = Solver::new(alloc, formula, probed)?;
+    let outcome = called(alloc, formula, &mut solver, call);
+    mem::drop(solver);
+    Ok(outcome)
 }
 
 /// What comes of a call after which a solver that met want of memory has to be spent.
@@ -94,9 +113,16 @@ fn called(alloc: Global, formula: &Formula, solver: &mut Solver<'_>, call: Searc
 fn answer(alloc: Global, formula: &Formula, solver: &mut Solver<'_>, call: Search) -> Answer {
     match call {
         Search::Import => imported(import(alloc, formula, solver)),
-        Search::Budget => found(&solver.search(alloc, &[], FEW), call),
-        _ => found(&solver.search(alloc, &[], ENOUGH), call),
+        Search::Budget => searched_for(alloc, solver, FEW, call),
+        _ => searched_for(alloc, solver, ENOUGH, call),
     }
+}
+
+fn searched_for(alloc: Global, solver: &mut Solver<'_>, budget: u64, call: Search) -> Answer {
+    let reply = solver.search(alloc, &[], budget);
+    let answer = found(&reply, call);
+    mem::drop(reply);
+    answer
 }
 
 /// Imports a copy of the formula's last clause, under the next number.
@@ -135,23 +161,35 @@ fn is_of(found: &Found, call: Search) -> bool {
 
 /// Whether the solver answers a search, an import and once more a search by telling that it is spent.
 fn is_spent(alloc: Global, formula: &Formula, solver: &mut Solver<'_>) -> bool {
-    let is_first = tells_spent(&solver.search(alloc, &[], ENOUGH));
+    let is_first = tells_spent(alloc, solver, ENOUGH);
     let is_second = import(alloc, formula, solver) == Err(SolveFault::Spent);
-    is_first && is_second && tells_spent(&solver.search(alloc, &[], 0))
+    is_first && is_second && tells_spent(alloc, solver, 0)
 }
 
-fn tells_spent(reply: &Result<Found, SolveFault>) -> bool {
-    matches!(reply, Err(SolveFault::Spent))
+fn tells_spent(alloc: Global, solver: &mut Solver<'_>, budget: u64) -> bool {
+    let reply = solver.search(alloc, &[], budget);
+    let is_spent = matches!(reply, Err(SolveFault::Spent));
+    mem::drop(reply);
+    is_spent
 }
 
 pub fn tell_schedule<R: Threads + Sync>(rt: &R, alloc: Global) -> Result<Outcome, AllocError> {
     let encoded = encoded(rt, alloc, HANGS)?;
-    tell_schedule_of(alloc, &encoded)
+    let outcome = tell_schedule_of(alloc, &encoded);
+    mem::drop(encoded);
+    outcome
 }
 
 fn tell_schedule_of(alloc: Global, encoded: &Encoded) -> Result<Outcome, AllocError> {
-    match model_of(alloc, encoded) {
-        Ok(Found::Model(assignment)) => Ok(tried(alloc, &Asked::Schedule(encoded, &assignment))),
+    let found = model_of(alloc, encoded)?;
+    let outcome = schedule_told(alloc, encoded, &found);
+    mem::drop(found);
+    outcome
+}
+
+fn schedule_told(alloc: Global, encoded: &Encoded, found: &Found) -> Result<Outcome, AllocError> {
+    match found {
+        Found::Model(assignment) => Ok(tried(alloc, &Asked::Schedule(encoded, assignment))),
         _ => Err(AllocError),
     }
 }
@@ -159,7 +197,9 @@ fn tell_schedule_of(alloc: Global, encoded: &Encoded) -> Result<Outcome, AllocEr
 /// What a search through the program's formula finds.
 fn model_of(alloc: Global, encoded: &Encoded) -> Result<Found, AllocError> {
     let mut solver = Solver::new(alloc, encoded.formula(), &[])?;
-    match solver.search(alloc, &[], ENOUGH) {
+    let found = solver.search(alloc, &[], ENOUGH);
+    mem::drop(solver);
+    match found {
         Ok(found) => Ok(found),
         Err(_fault) => Err(AllocError),
     }

@@ -18,6 +18,7 @@ use semantics::Step as Taken;
 use sharedpool::{Cell, FinishFault, Room, Seat, SharedPool, Token, open_room};
 use std::alloc::{AllocError, Global};
 use std::marker::Brand;
+use std::mem;
 use std::sync::Wait;
 use std::thread::Threads;
 use trees::Tree;
@@ -95,7 +96,10 @@ fn pool_over(alloc: Global, encoded: Encoded) -> Result<Pool, AllocError>
 {
     match one_leaf(alloc, &encoded) {
         Ok(tree) => Pool::new(alloc, encoded, tree),
-        Err(error) => Err(error),
+        Err(error) => {
+            mem::drop(encoded);
+            Err(error)
+        }
     }
 }
 
@@ -106,7 +110,9 @@ pub fn call_with_seats<R: Threads + Wait + Sync>(
     step: Step,
 ) -> Result<Outcome, AllocError> {
     let lent = make_lent(alloc)?;
-    call_with(rt, alloc, &lent, step)
+    let outcome = call_with(rt, alloc, &lent, step);
+    mem::drop(lent);
+    outcome
 }
 
 fn call_with<R: Threads + Wait + Sync>(
@@ -198,23 +204,43 @@ fn prepare<S: Share, R: Wait>(
     lent: &Lent,
     step: Step,
 ) -> Result<(), AllocError> {
-    let mut done: usize = 0;
-    if step != Step::Found {
-        must(shared.publish(rt, alloc, seat, &lent.batch).is_ok())?;
-        done = 1;
+    let done = if step == Step::Found {
+        0
+    } else {
+        publish_first(rt, alloc, shared, seat, lent, step)?
+    };
+    for _ in done..BEFORE {
+        must(is_fetched(rt, alloc, shared, seat))?;
     }
+    Ok(())
+}
+
+/// Publishes, makes the call that a path or an evidence rests on, and answers how many calls these were.
+fn publish_first<S: Share, R: Wait>(
+    rt: &R,
+    alloc: Global,
+    shared: &S,
+    seat: &mut S::Seat,
+    lent: &Lent,
+    step: Step,
+) -> Result<usize, AllocError> {
+    must(shared.publish(rt, alloc, seat, &lent.batch).is_ok())?;
     if step == Step::Path {
         must(shared.split_leaf(rt, alloc, seat, 0, 1).is_ok())?;
-        done = 2;
+        return Ok(2);
     }
     if step == Step::Assemble {
         must(shared.close(rt, seat, 0, 4).is_ok())?;
-        done = 2;
+        return Ok(2);
     }
-    for _ in done..BEFORE {
-        must(shared.fetch(rt, alloc, seat, 0).is_ok())?;
-    }
-    Ok(())
+    Ok(1)
+}
+
+fn is_fetched<S: Share, R: Wait>(rt: &R, alloc: Global, shared: &S, seat: &mut S::Seat) -> bool {
+    let reply = shared.fetch(rt, alloc, seat, 0);
+    let is_answered = reply.is_ok();
+    mem::drop(reply);
+    is_answered
 }
 
 /// An error where a call before the one that is tried was refused.
@@ -251,15 +277,29 @@ fn answer<S: Share, R: Wait>(
 ) -> Answer {
     match step {
         Step::Publish => published(shared.publish(rt, alloc, seat, &lent.batch)),
-        Step::Fetch => fetched(&shared.fetch(rt, alloc, seat, 0)),
+        Step::Fetch => asked_lines(rt, alloc, shared, seat),
         Step::Close => closed(shared.close(rt, seat, 0, 4)),
         Step::Split => split(shared.split_leaf(rt, alloc, seat, 0, 1)),
         Step::Found => found(rt, alloc, shared, seat, &lent.steps),
         Step::Leave => left(shared.leave(rt, seat, None)),
         Step::Path => told_path(rt, alloc, shared),
-        Step::Assemble => assembled(&shared.assemble(rt, alloc)),
+        Step::Assemble => asked_evidence(rt, alloc, shared),
         Step::Finish => Answer::Own,
     }
+}
+
+fn asked_lines<S: Share, R: Wait>(rt: &R, alloc: Global, shared: &S, seat: &mut S::Seat) -> Answer {
+    let reply = shared.fetch(rt, alloc, seat, 0);
+    let answer = fetched(&reply);
+    mem::drop(reply);
+    answer
+}
+
+fn asked_evidence<S: Share, R: Wait>(rt: &R, alloc: Global, shared: &S) -> Answer {
+    let reply = shared.assemble(rt, alloc);
+    let answer = assembled(&reply);
+    mem::drop(reply);
+    answer
 }
 
 /// A refused batch that was kept would move the number of the next one.
@@ -344,8 +384,12 @@ fn finished<B: Room, R: Wait>(
     entries: usize,
 ) -> Outcome {
     match shared.finish(rt, alloc, seats) {
-        Ok((pool, counts)) => Outcome::of(counted(&pool, &counts, entries), true, Answer::Own),
-        Err((FinishFault::Missing, _shared, _seats)) => Outcome::Other,
+        Ok(ended) => Outcome::of(counted_in(ended, entries), true, Answer::Own),
+        Err((FinishFault::Missing, shared, seats)) => {
+            mem::drop(shared);
+            mem::drop(seats);
+            Outcome::Other
+        }
         Err((FinishFault::Memory, shared, seats)) => {
             finished_again(rt, alloc, shared, seats, entries)
         }
@@ -360,12 +404,27 @@ fn finished_again<B: Room, R: Wait>(
     entries: usize,
 ) -> Outcome {
     match shared.finish(rt, alloc, seats) {
-        Ok((pool, counts)) => {
-            Outcome::of(Answer::Memory, true, counted(&pool, &counts, entries))
+        Ok(ended) => Outcome::of(Answer::Memory, true, counted_in(ended, entries)),
+        Err((fault, shared, seats)) => {
+            mem::drop(shared);
+            mem::drop(seats);
+            refused_again(fault)
         }
-        Err((FinishFault::Missing, _shared, _seats)) => Outcome::Changed,
-        Err((FinishFault::Memory, _shared, _seats)) => Outcome::Twice,
     }
+}
+
+/// What comes of asking for the pool, where that is refused once more.
+fn refused_again(fault: FinishFault) -> Outcome {
+    match fault {
+        FinishFault::Missing => Outcome::Changed,
+        FinishFault::Memory => Outcome::Twice,
+    }
+}
+
+fn counted_in(ended: (Pool, Vec<usize>), wanted: usize) -> Answer {
+    let answer = counted(&ended.0, &ended.1, wanted);
+    mem::drop(ended);
+    answer
 }
 
 /// Whether the history has the first worker's calls, and the second one's where it was answered at last.
@@ -398,7 +457,9 @@ pub fn run_calls<R: Threads + Sync>(rt: &R, alloc: Global) -> Result<Outcome, Al
 
 fn run_once<R: Threads + Sync>(rt: &R, alloc: Global) -> Result<Answer, AllocError> {
     let events = events(alloc)?;
-    run_events(rt, alloc, events.as_slice())
+    let answer = run_events(rt, alloc, events.as_slice());
+    mem::drop(events);
+    answer
 }
 
 fn run_events<R: Threads + Sync>(
@@ -415,7 +476,10 @@ fn run_events<R: Threads + Sync>(
 fn run_over(alloc: Global, encoded: Encoded, events: &[Event]) -> Result<Answer, AllocError> {
     match one_leaf(alloc, &encoded) {
         Ok(tree) => Ok(run_answer(alloc, encoded, tree, events)),
-        Err(error) => Err(error),
+        Err(error) => {
+            mem::drop(encoded);
+            Err(error)
+        }
     }
 }
 
@@ -440,9 +504,20 @@ fn run_answer(alloc: Global, encoded: Encoded, tree: Tree, events: &[Event]) -> 
     requires { tree.variables ≡ encoded.formula.variables }
 {
     match run(alloc, encoded, tree, events) {
-        Ok((pool, replies)) => own_where(pool.status().open_leaves == 0 && are_own(&replies)),
+        Ok(left) => left_by_run(left),
         Err(AllocError) => Answer::Memory,
     }
+}
+
+/// What comes of the pool and the replies that a run left.
+fn left_by_run(left: (Pool, Vec<Reply>)) -> Answer {
+    let is_own = is_run(&left.0, &left.1);
+    mem::drop(left);
+    own_where(is_own)
+}
+
+fn is_run(pool: &Pool, replies: &[Reply]) -> bool {
+    pool.status().open_leaves == 0 && are_own(replies)
 }
 
 fn are_own(replies: &[Reply]) -> bool {

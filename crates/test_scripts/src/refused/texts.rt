@@ -15,6 +15,7 @@ use nonovertake::{Earlier, earlier};
 use prooflog::{Evidence, EvidenceFault, read_evidence, write_evidence};
 use semantics::{End, ReplayFault, Step, replay};
 use std::alloc::{AllocError, Global};
+use std::mem;
 use std::thread::Threads;
 
 /// Two ranks that each send to one. It has no deadlock.
@@ -67,7 +68,10 @@ fn encoded_in<R: Threads + Sync>(
 ) -> Result<Encoded, AllocError> {
     match pairs(alloc, &program) {
         Ok(pairs) => encoded_with(rt, alloc, program, pairs),
-        Err(_fault) => Err(AllocError),
+        Err(_fault) => {
+            mem::drop(program);
+            Err(AllocError)
+        }
     }
 }
 
@@ -80,11 +84,26 @@ fn encoded_with<R: Threads + Sync>(
     requires { pairs ≡ pairs_of program }
 {
     match earlier(rt, alloc, &program, &pairs) {
-        Ok(earlier) => match encode(alloc, program, pairs, &earlier) {
-            Ok(encoded) => Ok(encoded),
-            Err(_refused) => Err(AllocError),
-        },
-        Err(error) => Err(error),
+        Ok(earlier) => {
+            let made = encode(alloc, program, pairs, &earlier);
+            mem::drop(earlier);
+            made_of(made)
+        }
+        Err(error) => {
+            mem::drop(pairs);
+            mem::drop(program);
+            Err(error)
+        }
+    }
+}
+
+fn made_of(made: Result<Encoded, NotEncoded>) -> Result<Encoded, AllocError> {
+    match made {
+        Ok(encoded) => Ok(encoded),
+        Err(refused) => {
+            mem::drop(refused);
+            Err(AllocError)
+        }
     }
 }
 
@@ -198,7 +217,9 @@ pub fn find_pairs(alloc: Global) -> Result<Outcome, AllocError> {
 
 pub fn split_cubes<R: Threads + Sync>(rt: &R, alloc: Global) -> Result<Outcome, AllocError> {
     let encoded = encoded(rt, alloc, GATHER)?;
-    Ok(tried(alloc, &Asked::Split(&encoded)))
+    let outcome = tried(alloc, &Asked::Split(&encoded));
+    mem::drop(encoded);
+    Ok(outcome)
 }
 
 pub fn write_proof(alloc: Global) -> Result<Outcome, AllocError> {
@@ -271,7 +292,10 @@ fn make_formula_of<R: Threads + Sync>(
 ) -> Result<Outcome, AllocError> {
     match pairs(alloc, &program) {
         Ok(pairs) => make_formula_with(rt, alloc, program, pairs),
-        Err(_fault) => Err(AllocError),
+        Err(_fault) => {
+            mem::drop(program);
+            Err(AllocError)
+        }
     }
 }
 
@@ -284,11 +308,29 @@ fn make_formula_with<R: Threads + Sync>(
     requires { pairs ≡ pairs_of program }
 {
     match earlier(rt, alloc, &program, &pairs) {
-        Ok(earlier) => match encode(alloc, program, pairs, &earlier) {
-            Ok(_encoded) => Ok(Outcome::Own),
-            Err(refused) => Ok(encoded_again(alloc, refused, &earlier)),
-        },
-        Err(error) => Err(error),
+        Ok(earlier) => {
+            let outcome = encoded_twice(alloc, program, pairs, &earlier);
+            mem::drop(earlier);
+            Ok(outcome)
+        }
+        Err(error) => {
+            mem::drop(pairs);
+            mem::drop(program);
+            Err(error)
+        }
+    }
+}
+
+fn encoded_twice(alloc: Global, program: Program, pairs: Pairs, earlier: &Earlier) -> Outcome
+    requires pairs { pairs ≡ pairs_of program }
+    requires earlier { earlier.now ≡ map (earlier_of program) (pairs_of program) }
+{
+    match encode(alloc, program, pairs, earlier) {
+        Ok(encoded) => {
+            mem::drop(encoded);
+            Outcome::Own
+        }
+        Err(refused) => encoded_again(alloc, refused, earlier),
     }
 }
 
@@ -297,19 +339,22 @@ fn encoded_again(alloc: Global, refused: NotEncoded, earlier: &Earlier) -> Outco
     requires pairs { refused.pairs ≡ pairs_of refused.program }
     requires earlier { earlier.now ≡ map (earlier_of refused.program) (pairs_of refused.program) }
 {
-    let NotEncoded {
-        fault,
-        program,
-        pairs,
-    } = refused;
-    if fault != EncodeFault::Memory {
+    if refused.fault != EncodeFault::Memory {
+        mem::drop(refused);
         return Outcome::Other;
     }
-    let second = match encode(alloc, program, pairs, earlier) {
+    let NotEncoded { program, pairs, .. } = refused;
+    let made = encode(alloc, program, pairs, earlier);
+    let second = encode_answer(&made);
+    mem::drop(made);
+    Outcome::of(Answer::Memory, true, second)
+}
+
+fn encode_answer(made: &Result<Encoded, NotEncoded>) -> Answer {
+    match made {
         Ok(_encoded) => Answer::Own,
         Err(refused) => encode_fault(refused.fault),
-    };
-    Outcome::of(Answer::Memory, true, second)
+    }
 }
 
 fn encode_fault(fault: EncodeFault) -> Answer {

@@ -1,0 +1,255 @@
+//! Searches over sets of matched calls that tell each other which states they closed.
+use crate::given::{Given, add};
+use crate::reading::cut_number;
+use crate::searches::{accept, next_number};
+use batches::Batch;
+use cdcl::{Found, SolveFault};
+use encode::Encoded;
+use pages::Lines;
+use refutations::Line;
+use statesearch::{Closing, StateSearch};
+use std::alloc::{AllocError, Global};
+use std::mem;
+
+/// A search, and how many lines it has seen, and closed states.
+#[derive(Drop)]
+struct Searcher<'e> {
+    search: StateSearch<'e>,
+    lines: usize,
+    closed: usize,
+}
+
+/// What all of them wrote and closed.
+#[derive(Drop)]
+struct Shared<'e> {
+    encoded: &'e Encoded,
+    lines: Vec<Line>,
+    closed: Vec<Closing>,
+}
+
+/// Has so many searches take turns with this budget, each of a turn of its own, until one closes the program: `COUNT BUDGET MOST`. Tells whether there
+/// are no more lines than so many then.
+pub fn beside(encoded: &Encoded, words: &str, given: &mut Given) {
+    let (count, words) = cut_number(words, given);
+    let mut searchers = Vec::new(given.alloc);
+    begin(encoded, count, &mut searchers, given);
+    if !given.is_refused() {
+        search_all(encoded, searchers.as_mut_slice(), words, given);
+    }
+    mem::drop(searchers);
+}
+
+fn begin<'e>(
+    encoded: &'e Encoded,
+    count: u32,
+    searchers: &mut Vec<Searcher<'e>>,
+    given: &mut Given,
+) {
+    for number in 0..count {
+        begin_one(encoded, number, searchers, given);
+    }
+}
+
+fn begin_one<'e>(
+    encoded: &'e Encoded,
+    number: u32,
+    searchers: &mut Vec<Searcher<'e>>,
+    given: &mut Given,
+) {
+    match StateSearch::new(given.alloc, encoded) {
+        Ok(search) => add(searchers, begun(search, number), given),
+        Err(_error) => given.refuse("memory"),
+    }
+}
+
+fn begun(mut search: StateSearch<'_>, number: u32) -> Searcher<'_> {
+    search.turn(number);
+    Searcher {
+        search,
+        lines: 0,
+        closed: 0,
+    }
+}
+
+/// Has the searches take turns: `BUDGET MOST`.
+fn search_all(encoded: &Encoded, searchers: &mut [Searcher<'_>], words: &str, given: &mut Given) {
+    let (budget, words) = cut_number(words, given);
+    let (most, _) = cut_number(words, given);
+    let mut shared = Shared {
+        encoded,
+        lines: Vec::new(given.alloc),
+        closed: Vec::new(given.alloc),
+    };
+    let is_closed = go_on(searchers, &mut shared, u64::from(budget), given);
+    put_end(is_closed, shared.lines.len(), most as usize, given);
+    mem::drop(shared);
+}
+
+/// Tells whether there was an end, and of how many lines.
+fn put_end(is_closed: bool, lines: usize, most: usize, given: &mut Given) {
+    if !is_closed {
+        given.put("no end");
+    } else if lines <= most {
+        given.put("closed");
+    } else {
+        given.number(lines);
+        given.put(" lines");
+    }
+}
+
+/// Goes on in rounds, and answers whether one of them closed the program.
+fn go_on(
+    searchers: &mut [Searcher<'_>],
+    shared: &mut Shared<'_>,
+    budget: u64,
+    given: &mut Given,
+) -> bool {
+    for _ in 0..1_000 {
+        if go_round(searchers, shared, budget, given) {
+            return true;
+        }
+    }
+    false
+}
+
+fn go_round(
+    searchers: &mut [Searcher<'_>],
+    shared: &mut Shared<'_>,
+    budget: u64,
+    given: &mut Given,
+) -> bool {
+    for searcher in searchers.iter_mut() {
+        if take_turn(searcher, shared, budget, given) {
+            return true;
+        }
+    }
+    false
+}
+
+/// Has one of them search once, with all that the others wrote and closed, and answers whether it closed the program.
+fn take_turn(
+    searcher: &mut Searcher<'_>,
+    shared: &mut Shared<'_>,
+    budget: u64,
+    given: &mut Given,
+) -> bool {
+    if learn(searcher, shared, given.alloc).is_err() {
+        given.refuse("memory");
+        return true;
+    }
+    let found = searcher.search.search(given.alloc, budget);
+    let is_end = take(searcher, shared, &found, given);
+    mem::drop(found);
+    is_end
+}
+
+/// Takes in what a search found, and answers whether it is an end.
+fn take(
+    searcher: &Searcher<'_>,
+    shared: &mut Shared<'_>,
+    found: &Result<Found, SolveFault>,
+    given: &mut Given,
+) -> bool {
+    match found {
+        Ok(Found::Budget(batch)) => {
+            tell(searcher, shared, batch, given);
+            false
+        }
+        Ok(Found::Closed(batch, _last)) => {
+            tell(searcher, shared, batch, given);
+            true
+        }
+        Ok(Found::Model(_assignment)) => {
+            given.refuse("a model");
+            true
+        }
+        Err(_fault) => {
+            given.refuse("a refused search");
+            true
+        }
+    }
+}
+
+/// Hands a search all lines that it hasn't seen, and which states were closed meanwhile.
+fn learn(
+    searcher: &mut Searcher<'_>,
+    shared: &Shared<'_>,
+    alloc: Global,
+) -> Result<(), AllocError> {
+    import_new(searcher, shared, alloc)?;
+    searcher.lines = shared.lines.len();
+    let lines = lines_of(alloc, &shared.lines)?;
+    take_in_new(searcher, shared, lines)?;
+    searcher.closed = shared.closed.len();
+    Ok(())
+}
+
+fn import_new(
+    searcher: &mut Searcher<'_>,
+    shared: &Shared<'_>,
+    alloc: Global,
+) -> Result<(), AllocError> {
+    for place in searcher.lines..shared.lines.len() {
+        let number = number_at(shared.encoded, place);
+        let clause = shared.lines[place].clause();
+        if searcher.search.import(alloc, number, clause).is_err() {
+            return Err(AllocError);
+        }
+    }
+    Ok(())
+}
+
+fn take_in_new(
+    searcher: &mut Searcher<'_>,
+    shared: &Shared<'_>,
+    lines: Lines,
+) -> Result<(), AllocError> {
+    let closed = shared.closed.get(searcher.closed..).unwrap_or(&[]);
+    match searcher.search.take_in(lines, closed) {
+        Ok(()) => Ok(()),
+        Err(_fault) => Err(AllocError),
+    }
+}
+
+/// The lines, once more.
+fn lines_of(alloc: Global, lines: &[Line]) -> Result<Lines, AllocError> {
+    let mut copies = Vec::new(alloc);
+    match copy(alloc, lines, &mut copies) {
+        Ok(()) => Lines::from_vec(alloc, copies),
+        Err(error) => {
+            mem::drop(copies);
+            Err(error)
+        }
+    }
+}
+
+fn copy(alloc: Global, lines: &[Line], copies: &mut Vec<Line>) -> Result<(), AllocError> {
+    for line in lines {
+        let line = line.copy(alloc)?;
+        copies.push(line)?;
+    }
+    Ok(())
+}
+
+/// The number of the line at this place.
+fn number_at(encoded: &Encoded, place: usize) -> u32 {
+    let number = encoded.formula().len().saturating_add(place);
+    u32::try_from(number.saturating_add(1)).unwrap_or(u32::MAX)
+}
+
+/// Takes in what a search wrote and closed.
+fn tell(searcher: &Searcher<'_>, shared: &mut Shared<'_>, batch: &Batch, given: &mut Given) {
+    let formula = shared.encoded.formula();
+    let base = next_number(formula, shared.lines.as_slice());
+    accept(formula, &mut shared.lines, batch, given);
+    match searcher.search.closings(given.alloc, base) {
+        Ok(closings) => add_all(&mut shared.closed, closings.as_slice(), given),
+        Err(_error) => given.refuse("memory"),
+    }
+}
+
+fn add_all(closed: &mut Vec<Closing>, closings: &[Closing], given: &mut Given) {
+    for closing in closings {
+        add(closed, *closing, given);
+    }
+}
