@@ -1,4 +1,4 @@
--- Texts with another line in the place of one.
+-- Texts with other words in the place of one line.
 use Rattle.std.specs.Prelude.{◌≡◌, ℕ, ◌+◌, List, [], ◌∷◌, ◌++◌, length}
 use Rattle.std.specs.List.{flat_map}
 use Rattle.plaintext.specs.Plain.{text_lines}
@@ -9,7 +9,8 @@ use Rattle.choices.specs.declared.items.Taken.{Taken}
 abbrev pub joined : List (List ℕ) → List ℕ
 joined lines = flat_map (λ line. line) lines
 
--- The pinned text has the lines of the text, but for that of this number, from 1, whose words say that what is taken is taken.
+-- The pinned text has the lines of the text, but in place of that of this number, from 1, it has words that say that what is taken is taken: one line,
+-- or the four calls of a `sendrecv`.
 pub record IsPinned (text : List ℕ) (number : ℕ) (taken : Taken) (pinned : List ℕ) : Type 0 where
   pub before : List (List ℕ)
   pub old : List ℕ

@@ -11,7 +11,7 @@ use Rattle.choices.specs.declared.items.Need.TheVariants as needs
 use Rattle.choices.specs.declared.items.Taken.{Taken}
 use Rattle.choices.specs.declared.items.Weighed.{Weighed}
 
--- with other words in the line of this number, which leave open no more than this, the text is a program's that has a run that ends stuck
+-- with other words in the place of the line of this number, which leave open no more than this, the text is a program's that has a run that ends stuck
 abbrev pub HangsWith : List ℕ → ℕ → Taken → Type 0
 HangsWith text number taken = (pinned : List ℕ) × IsPinned text number taken pinned × CanHang pinned
 

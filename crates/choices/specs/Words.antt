@@ -13,6 +13,10 @@ is_same = pointwise (λ x y. x == y)
 abbrev pub front_letters : List ℕ → ℕ
 front_letters line = if starts_with (λ x y. x == y) line (codes "i") then 1 else 0
 
+-- whether a line is a `sendrecv`
+abbrev pub is_joined : List ℕ → Bool
+is_joined line = starts_with (λ x y. x == y) line (codes "sendrecv")
+
 -- the line of a send with a letter before its `send`
 abbrev pub letter_line : ℕ → List ℕ → List ℕ
 letter_line letter line = take (front_letters line) line ++ letter ∷ drop (front_letters line) line
@@ -40,8 +44,31 @@ abbrev pub message_line : ℕ → ℕ → List ℕ → List ℕ
 message_line source tag line =
     told_words source tag (source_place (slice_split (λ b. b == 32) line)) 0 (slice_split (λ b. b == 32) line)
 
+-- a blank and the word at a place, from 0
+abbrev pub spaced_word : List (List ℕ) → ℕ → List ℕ
+spaced_word words place = codes " " ++ get_or words place []
+
+-- ` comm C`, where it follows the five words of a `sendrecv`
+abbrev pub communicator_words : List (List ℕ) → List ℕ
+communicator_words words = if is_same (get_or words 5 []) (codes "comm") then spaced_word words 5 ++ spaced_word words 6 else []
+
+-- the end of a line of one part of a `sendrecv`: the words at these places, for its rank and its tag, and its communicator
+abbrev pub part_words : List (List ℕ) → ℕ → ℕ → List ℕ
+part_words words rank tag = spaced_word words rank ++ spaced_word words tag ++ communicator_words words ++ codes "\n"
+
+-- The four calls that `sendrecv D T S U` stands for, with this letter before the `send`: `isend sendofsendrecv D T`,
+-- `irecv recvofsendrecv S U`, and a wait for each.
+abbrev pub four_lines : ℕ → List (List ℕ) → List ℕ
+four_lines letter words =
+    codes "i" ++ letter ∷ codes "send sendofsendrecv" ++ part_words words 1 2 ++ codes "irecv recvofsendrecv" ++ part_words words 3 4
+    ++ codes "wait sendofsendrecv\nwait recvofsendrecv"
+
+-- the line of a send with this letter before its `send`; of a `sendrecv`, its four calls
+abbrev pub mode_line : ℕ → List ℕ → List ℕ
+mode_line letter line = if is_joined line then four_lines letter (slice_split (λ b. b == 32) line) else letter_line letter line
+
 -- the line with words that leave open no more than what a run did: a buffered send is one in buffered mode, another one is synchronous
 abbrev pub line_with : Taken → List ℕ → List ℕ
-line_with taken.Buffered line = letter_line 98 line
-line_with taken.NotBuffered line = letter_line 115 line
+line_with taken.Buffered line = mode_line 98 line
+line_with taken.NotBuffered line = mode_line 115 line
 line_with (taken.Message source tag) line = message_line source tag line

@@ -67,8 +67,8 @@ fn walked(alloc: Global, text: &[u8]) -> Result<Way, AllocError>
     }
 }
 
-/// What is known of the program of the text in whose line of this number, from 1, other words leave open no more than this: by a search, or
-/// where none is given by walks alone.
+/// What is known of the program of the text with other words in the place of its line of this number, from 1, which leave open no more than
+/// this: by a search, or where none is given by walks alone.
 pub fn way_with<R: Threads + Wait + Sync>(
     rt: &R,
     alloc: Global,
@@ -112,8 +112,8 @@ fn is_run(alloc: Global, program: &Program, steps: &[Step]) -> Result<bool, Allo
     }
 }
 
-/// Whether the steps are a run that ends stuck of the program of the text in whose line of this number, from 1, other words leave open no more
-/// than this.
+/// Whether the steps are a run that ends stuck of the program of the text with other words in the place of its line of this number, from 1,
+/// which leave open no more than this.
 pub fn hangs_with(
     alloc: Global,
     text: &[u8],

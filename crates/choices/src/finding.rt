@@ -9,16 +9,7 @@ use callorder::{Kind, Mode, Policy, Program};
 use semantics::{State, Step};
 use std::alloc::{AllocError, Global};
 
-/// The choices of a run.
-#[derive(Drop)]
-pub struct Found {
-    /// Those whose line can be pinned, in the order of the run.
-    pub choices: Vec<Choice>,
-    /// How many others there are: whether sends of `sendrecv` lines are buffered.
-    pub left_out: usize,
-}
-
-/// The number, from 1, of the line of a call, if other words in it can say what the call does.
+/// The number, from 1, of the line of a call that leaves something open.
 fn line_of_call(numbers: &[usize], call: usize) -> Option<usize> {
     let number = numbers.get(call).copied()?;
     if number == 0 { None } else { Some(number) }
@@ -146,7 +137,7 @@ fn message_choice(
 
 /// Adds a choice of a send.
 fn put_send(
-    found: &mut Found,
+    found: &mut Vec<Choice>,
     alloc: Global,
     program: &Program,
     numbers: &[usize],
@@ -154,20 +145,18 @@ fn put_send(
     call: usize,
     buffered: bool,
 ) -> Result<(), AllocError> {
-    match line_of_call(numbers, call) {
-        None => found.left_out = found.left_out.saturating_add(1),
-        Some(line) => {
-            let rank = rank_of(program, call);
-            let choice = send_choice(alloc, line, rank, step, buffered)?;
-            found.choices.push(choice)?;
-        }
-    }
+    let Some(line) = line_of_call(numbers, call) else {
+        return Ok(());
+    };
+    let rank = rank_of(program, call);
+    let choice = send_choice(alloc, line, rank, step, buffered)?;
+    found.push(choice)?;
     Ok(())
 }
 
 /// Adds a choice of a call that found a message, where another one fitted too.
 fn put_message(
-    found: &mut Found,
+    found: &mut Vec<Choice>,
     alloc: Global,
     program: &Program,
     numbers: &[usize],
@@ -180,19 +169,17 @@ fn put_message(
     if rivals.is_empty() {
         return Ok(());
     }
-    match line_of_call(numbers, finder) {
-        None => found.left_out = found.left_out.saturating_add(1),
-        Some(line) => {
-            let choice = message_choice(alloc, program, line, finder, step, send, &rivals)?;
-            found.choices.push(choice)?;
-        }
-    }
+    let Some(line) = line_of_call(numbers, finder) else {
+        return Ok(());
+    };
+    let choice = message_choice(alloc, program, line, finder, step, send, &rivals)?;
+    found.push(choice)?;
     Ok(())
 }
 
 /// Adds what a step chooses in a state.
 fn put_choice(
-    found: &mut Found,
+    found: &mut Vec<Choice>,
     alloc: Global,
     program: &Program,
     numbers: &[usize],
@@ -213,7 +200,7 @@ fn put_choice(
 
 /// Adds the choices of a run.
 fn put_choices(
-    found: &mut Found,
+    found: &mut Vec<Choice>,
     alloc: Global,
     program: &Program,
     numbers: &[usize],
@@ -229,21 +216,18 @@ fn put_choices(
     Ok(())
 }
 
-/// The choices of a run of the text's program.
+/// The choices of a run of the text's program, in the order of the run.
 pub fn choices_of(
     alloc: Global,
     text: &[u8],
     program: &Program,
     steps: &[Step],
-) -> Result<Found, AllocError>
+) -> Result<Vec<Choice>, AllocError>
     requires { IsStuckRun program.now steps.now }
 {
     let lines = lines_of(alloc, text)?;
     let numbers = line_numbers(alloc, &lines)?;
-    let mut found = Found {
-        choices: Vec::new(alloc),
-        left_out: 0,
-    };
+    let mut found = Vec::new(alloc);
     put_choices(&mut found, alloc, program, &numbers, steps)?;
     Ok(found)
 }

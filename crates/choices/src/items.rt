@@ -70,8 +70,6 @@ pub struct Decided {
     pub choices: Vec<Weighed>,
     /// Whether it was asked of each of them whether it suffices without it.
     pub least: bool,
-    /// How many choices were not asked about, since no words of their line say so: whether sends of `sendrecv` lines are buffered.
-    pub left_out: usize,
 }
 
 /// How much is asked.

@@ -28,8 +28,8 @@ fn around(text: &[u8], number: usize) -> Option<(&[u8], &[u8], &[u8])>
     Some((&text[..text.len() - rest.len()], old, after))
 }
 
-/// The text in whose line of this number, from 1, other words leave open no more than what a run did. None where the text has no such
-/// line. The only error is want of memory.
+/// The text with other words in the place of its line of this number, from 1, which leave open no more than what a run did. None where the
+/// text has no such line. The only error is want of memory.
 pub fn with_choice(
     alloc: Global,
     text: &[u8],

@@ -19,15 +19,14 @@ pub fn verb_of(words: &[&[u8]]) -> Option<Verb> {
 fn put_numbers(numbers: &mut Vec<usize>, words: &[&[u8]], number: usize) -> Result<(), AllocError> {
     match verb_of(words) {
         Some(Verb::WaitAll) => put_copies(numbers, 0, words.len().saturating_sub(1)),
-        // The send, the receive and two waits. Other words in the line can say what the receive finds, but not whether the send is buffered.
-        Some(Verb::SendReceive) => numbers.extend_from_slice(&[0, number, 0, 0]),
+        // The send, the receive and two waits, which leave nothing open.
+        Some(Verb::SendReceive) => numbers.extend_from_slice(&[number, number, 0, 0]),
         Some(_verb) => put_copies(numbers, number, 1),
         None => Ok(()),
     }
 }
 
-/// For each call the number of its line, from 1, or 0 where other words in the line can't say what the call does: that of a `waitall`, and
-/// that of a `sendrecv`, but for its receive.
+/// For each call the number of its line, from 1, or 0 for the waits of a `waitall` and of a `sendrecv`, which leave nothing open.
 pub fn line_numbers(alloc: Global, lines: &[&[u8]]) -> Result<Vec<usize>, AllocError> {
     let mut numbers = Vec::new(alloc);
     for (index, line) in lines.iter().enumerate() {

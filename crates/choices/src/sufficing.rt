@@ -1,6 +1,6 @@
 //! Which choices suffice for a program to hang in each walk.
 
-use crate::items::{Choice, Extent};
+use crate::items::{Choice, Extent, Taken};
 use crate::places::lines_of;
 use crate::wording::line_with;
 use prover::{Reason, Until, walk_ends};
@@ -32,16 +32,35 @@ fn always_hangs(alloc: Global, text: &[u8], left: &mut u32) -> Result<bool, Allo
     }
 }
 
-/// For each line the place, from 1, of the choice that pins it among these, or 0.
+/// Which of a line's choices is meant.
+#[derive(Clone, Copy, PartialEq, Eq)]
+enum Part {
+    /// Which message is found.
+    Message,
+    /// Whether the send is buffered.
+    Mode,
+}
+
+/// Which of its line's choices this one is.
+fn part_of(choice: &Choice) -> Part {
+    match choice.taken {
+        Taken::Message { source: _, tag: _ } => Part::Message,
+        Taken::Buffered | Taken::NotBuffered => Part::Mode,
+    }
+}
+
+/// For each line the place, from 1, of the choice of this part that pins it among these, or 0.
 fn pins(
     alloc: Global,
     lines: usize,
     choices: &[Choice],
     kept: &[usize],
+    part: Part,
 ) -> Result<Vec<usize>, AllocError> {
     let mut pins = vec![in alloc; 0; lines]?;
     for place in kept {
         if let Some(choice) = choices.get(*place)
+            && part_of(choice) == part
             && choice.line > 0
             && choice.line <= pins.len()
         {
@@ -59,21 +78,31 @@ fn choice_at(choices: &[Choice], place: usize) -> Option<&Choice> {
     choices.get(place - 1)
 }
 
-/// Adds a line, which pins the choice at a place, from 1, if there is one.
-fn put_line(
-    out: &mut Vec<u8>,
+/// The line, with the choice at a place, from 1, pinned, if there is one.
+fn pinned_line(
     alloc: Global,
     choices: &[Choice],
     place: usize,
     line: &[u8],
-) -> Result<(), AllocError> {
+) -> Result<Vec<u8>, AllocError> {
     match choice_at(choices, place) {
-        None => out.extend_from_slice(line)?,
-        Some(choice) => {
-            let pinned = line_with(alloc, line, choice.taken)?;
-            out.extend_from_slice(&pinned)?;
-        }
+        None => Vec::from_slice(alloc, line),
+        Some(choice) => line_with(alloc, line, choice.taken),
     }
+}
+
+/// Adds a line, with the choices at these places, from 1, pinned: first what message is found, since the mode of a `sendrecv` takes its line apart.
+fn put_line(
+    out: &mut Vec<u8>,
+    alloc: Global,
+    choices: &[Choice],
+    message: usize,
+    mode: usize,
+    line: &[u8],
+) -> Result<(), AllocError> {
+    let found = pinned_line(alloc, choices, message, line)?;
+    let pinned = pinned_line(alloc, choices, mode, &found)?;
+    out.extend_from_slice(&pinned)?;
     out.push(b'\n')?;
     Ok(())
 }
@@ -86,11 +115,14 @@ fn text_with(
     kept: &[usize],
 ) -> Result<Vec<u8>, AllocError> {
     let lines = lines_of(alloc, text)?;
-    let pins = pins(alloc, lines.len(), choices, kept)?;
+    let messages = pins(alloc, lines.len(), choices, kept, Part::Message)?;
+    let modes = pins(alloc, lines.len(), choices, kept, Part::Mode)?;
     let mut out = Vec::with_capacity(alloc, text.len())?;
-    for (line, pin) in lines.iter().zip(pins.iter()) {
+    for (index, line) in lines.iter().enumerate() {
         if !line.is_empty() {
-            put_line(&mut out, alloc, choices, *pin, line)?;
+            let message = messages.get(index).copied().unwrap_or(0);
+            let mode = modes.get(index).copied().unwrap_or(0);
+            put_line(&mut out, alloc, choices, message, mode, line)?;
         }
     }
     Ok(out)

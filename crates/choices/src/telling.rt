@@ -2,15 +2,20 @@
 
 use crate::items::{Choice, Decided, Extent, Need, Taken, Weighed};
 use crate::places::lines_of;
+use crate::wording::is_joined;
 use std::alloc::{AllocError, Global};
 
 /// The most choices that are told.
 const MOST_TOLD: usize = 12;
 
+/// The line of this number, from 1, or no words.
+fn line_at<'a>(lines: &[&'a [u8]], number: usize) -> &'a [u8] {
+    lines.get(number.saturating_sub(1)).copied().unwrap_or(b"")
+}
+
 /// Adds a line's words, whose bytes are characters.
-fn put_line(out: &mut String, lines: &[&[u8]], number: usize) -> Result<(), AllocError> {
+fn put_line(out: &mut String, line: &[u8], number: usize) -> Result<(), AllocError> {
     write!(out, "line {number}: ")?;
-    let line = lines.get(number.saturating_sub(1)).copied().unwrap_or(b"");
     for byte in line {
         out.push(char::from(*byte))?;
     }
@@ -19,16 +24,27 @@ fn put_line(out: &mut String, lines: &[&[u8]], number: usize) -> Result<(), Allo
 
 /// Adds what a run did.
 fn put_taken(out: &mut String, lines: &[&[u8]], choice: &Choice) -> Result<(), AllocError> {
-    put_line(out, lines, choice.line)?;
+    let line = line_at(lines, choice.line);
+    put_line(out, line, choice.line)?;
     let rank = choice.rank;
-    write!(out, " of rank {rank} ")?;
+    write!(out, " of rank {rank}")?;
     match choice.taken {
-        Taken::Buffered => out.push_str("is buffered"),
-        Taken::NotBuffered => out.push_str("is not buffered"),
+        Taken::Buffered => put_mode(out, line, "is buffered"),
+        Taken::NotBuffered => put_mode(out, line, "is not buffered"),
         Taken::Message { source, tag } => {
-            write!(out, "finds the message of rank {source} with tag {tag}")
+            write!(out, " finds the message of rank {source} with tag {tag}")
         }
     }
+}
+
+/// Adds what became of a send, which of a `sendrecv` is one of its two parts.
+fn put_mode(out: &mut String, line: &[u8], mode: &str) -> Result<(), AllocError> {
+    if is_joined(line) {
+        out.push_str(": its send ")?;
+    } else {
+        out.push(' ')?;
+    }
+    out.push_str(mode)
 }
 
 /// What is told of a choice's other ways.
@@ -74,13 +90,6 @@ pub fn told(alloc: Global, text: &[u8], decided: &Decided) -> Result<String, All
     put_choices(&mut out, &lines, &decided.choices)?;
     if !decided.least {
         out.push_str("  it was not asked of all of them whether they are needed for that\n")?;
-    }
-    if decided.left_out > 0 && decided.extent != Extent::Always {
-        let count = decided.left_out;
-        write!(
-            out,
-            "  sends of sendrecv lines, of which it was not asked whether they are buffered: {count}\n"
-        )?;
     }
     Ok(out)
 }

@@ -6,7 +6,7 @@ ghost use Rattle.checker.specs.Parts.{IsNoRun};
 ghost use Rattle.choices.specs.Weights.{AreOthers, AreWeighed, HangsWith, IsWeighed};
 
 use crate::asking::{Way, hangs_with, way_with};
-use crate::finding::{Found, choices_of};
+use crate::finding::choices_of;
 use crate::items::{Choice, Decided, Limits, Need, Taken, Weighed};
 use crate::sufficing::choose;
 use callorder::Program;
@@ -181,7 +181,7 @@ fn decided_run<R: Threads + Wait + Sync>(
     requires { IsStuckRun program.now steps.now }
     ensures { IfOk result (λ decided. AreWeighed text.now decided.choices.items) }
 {
-    let Found { choices, left_out } = choices_of(alloc, text, program, steps)?;
+    let choices = choices_of(alloc, text, program, steps)?;
     let mut left = limits.walks;
     let enough = choose(alloc, text, &choices, &mut left)?;
     let search = search_for(program, limits);
@@ -191,16 +191,16 @@ fn decided_run<R: Threads + Wait + Sync>(
         extent: enough.extent,
         choices: weighed,
         least: enough.least,
-        left_out,
     })
 }
 
 /// What decided the run that an evidence shows: choices that suffice for the program to hang, and which of them are needed.
 ///
 /// The choices of a run are the standard sends that it buffered, and those that it did not, where the policy leaves that open, and the messages that
-/// wildcards found where one of another rank fitted too. Each is pinned by other words in its line: a send in buffered or synchronous mode, or
-/// a source and a tag in the place of stars, those of the receive of a `sendrecv` too. Whether its send is buffered is left out. Choices suffice where each walk that was taken of the
-/// program with all of them pinned ended stuck; they are found by dropping others, first many at once, then each in turn.
+/// wildcards found where one of another rank fitted too. Each is pinned by other words in place of its line: a send in buffered or synchronous
+/// mode, that of a `sendrecv` in the four calls that the line stands for, or a source and a tag in the place of stars. Choices suffice where each
+/// walk that was taken of the program with all of them pinned ended stuck; they are found by dropping others, first many at once, then each in
+/// turn.
 ///
 /// Each choice that suffices with the others is then asked about alone. It is told only where its line, pinned as in the run, makes a
 /// program that has a run that ends stuck. It is known to be needed where no run ends stuck with the line of any other way, which a search has
