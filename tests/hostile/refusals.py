@@ -1,6 +1,6 @@
 """Refuses to the built program what it asks the system for, one call after another, and looks at what it then answers.
 
-Run by ./refusals [WORD..]. A word is a kind (memory, threads, pieces, files, limits, scattered, budgets) or a command (prove, check, ..); without
+Run by ./refusals [WORD..]. A word is a kind (memory, threads, pieces, files, limits, names, scattered, budgets) or a command (prove, check, ..); without
 words all are tried. Each row below is a command on a small program that was worked by hand, with the status that it ends with.
 """
 import errno
@@ -22,6 +22,7 @@ SHOWN = 3
 DECIDED = 3
 BEFORE = b'what stood here before\n'
 SEEDS = 300
+FOREIGN = {b'\xff': rb'\xff', b'prog\xc3.mpi': rb'prog\xc3.mpi', b'\xed\xa0\x80\'': rb"\xed\xa0\x80\'"}
 
 Row = namedtuple('Row', 'status words')
 Outcome = namedtuple('Outcome', 'status printed told out others')
@@ -400,8 +401,19 @@ def try_limits(trial, row):
         trial.note('limits', row.words, got, f'standard output is {name}', right and trial.has_whole_file(row, got))
 
 
+def try_names(trial, row):
+    """A word that is no UTF-8 text in the place of each word: it is told with its number and bytes, and nothing is printed or written."""
+    for place in range(len(row.words)):
+        for foreign, shown in FOREIGN.items():
+            words = [*row.words[:place], os.fsdecode(foreign), *row.words[place + 1:]]
+            got = trial.outcome(words, None)
+            told = b'error: word %d is no UTF-8 text: %s\n' % (place + 1, shown)
+            right = (got.status, got.printed, got.told, got.out) == (6, b'', told, BEFORE)
+            trial.note('names', words, got, {}, right and got.others == trial.looks)
+
+
 KINDS = {'memory': try_memory, 'threads': try_threads, 'pieces': try_pieces, 'files': try_files, 'limits': try_limits,
-         'scattered': try_scattered, 'budgets': try_budgets}
+         'names': try_names, 'scattered': try_scattered, 'budgets': try_budgets}
 ONCE = {'scattered': 'prove', 'pieces': 'check', 'budgets': 'prove'}
 
 
