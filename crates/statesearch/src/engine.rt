@@ -4,6 +4,7 @@ use batches::Batch;
 use clauses::{Formula, Lit};
 use propagation::{
     Marks, NONE, OWN, Store, Trail, Truth, Watches, add_line, code_of, negated, propagate,
+    variable_of,
 };
 use std::alloc::{AllocError, Global};
 use std::mem;
@@ -39,7 +40,7 @@ enum Standing {
 pub(crate) struct Written {
     /// Its place in the store.
     pub(crate) clause: u32,
-    /// Its literals: negated decisions.
+    /// Its literals: of each decision the negation of one of its consequences.
     pub(crate) literals: Vec<u32>,
     /// Whether it is a line of its own.
     pub(crate) is_new: bool,
@@ -58,6 +59,10 @@ pub(crate) struct Engine {
     waiting: Vec<u32>,
     /// The clauses of the batch's lines.
     pub(crate) lines: Vec<u32>,
+    /// How many clauses the formula has, whose tags come first.
+    formula: u32,
+    /// The greatest tag of clauses of two literals on which a line needn't rest, so that it names a consequence in the place of a decision.
+    pub(crate) most_tag: u32,
 }
 
 /// Puts the literals' numbers in place of those in the list.
@@ -89,6 +94,8 @@ impl Engine {
             refuted: None,
             waiting: Vec::new(alloc),
             lines: Vec::new(alloc),
+            formula: 0,
+            most_tag: u32::MAX,
         })
     }
 
@@ -105,7 +112,13 @@ impl Engine {
             fill(&mut codes, clause.literals())?;
             engine.take_in(number, &codes)?;
         }
+        engine.formula = number;
         Ok(engine)
+    }
+
+    /// From now on lines name no consequences that others needn't know: those by clauses of the formula alone.
+    pub(crate) fn write_for_others(&mut self) {
+        self.most_tag = self.formula;
     }
 
     /// Takes in a clause of this tag, at level 0. Where no place is left for it, it is left out.
@@ -240,12 +253,19 @@ impl Engine {
         Ok(None)
     }
 
+    /// Whether each of these literals is false.
+    pub(crate) fn are_false(&self, codes: &[u32]) -> bool {
+        codes.iter().all(|code| self.trail.is_false(*code))
+    }
+
     /// Whether each literal of the clause is false.
     pub(crate) fn is_false(&self, place: u32) -> bool {
-        self.store
-            .literals(place)
-            .iter()
-            .all(|code| self.trail.is_false(*code))
+        self.are_false(self.store.literals(place))
+    }
+
+    /// Whether one of these literals got its value above this level.
+    pub(crate) fn is_above(&self, level: usize, codes: &[u32]) -> bool {
+        codes.iter().any(|code| self.trail.level_of(variable_of(*code)) as usize > level)
     }
 
     /// One more line, and the place of its clause; none where there is no number left for it.

@@ -5,7 +5,7 @@ use batches::Batch;
 use propagation::{Marks, NONE, Store, Trail, negated, variable_of};
 use std::alloc::{AllocError, Global};
 
-/// The negated decisions that a conflict rests on, with the places of what stands on the way, rising; `roots` are those of them at level 0, where
+/// The negations of what a conflict rests on, with the places of what stands on the way, rising; `roots` are those of them at level 0, where
 /// the way ends.
 #[derive(Drop)]
 struct Explained {
@@ -14,75 +14,186 @@ struct Explained {
     roots: Vec<usize>,
 }
 
-fn mark_all(store: &Store, marks: &mut Marks, clause: u32) -> Result<(), AllocError> {
-    for code in store.literals(clause) {
-        let variable = variable_of(*code);
-        if !marks.has(variable) {
-            marks.mark(variable)?;
-        }
-    }
-    Ok(())
+/// Something true from which a conflict follows, and the decision from which it follows by clauses of two literals alone.
+#[derive(Clone, Copy, PartialEq, Eq, PartialOrd, Ord)]
+struct Cause {
+    decision: usize,
+    place: usize,
 }
 
-/// Follows the reasons of the marked variables downwards, to decisions and to level 0.
-fn trace(
-    alloc: Global,
-    store: &Store,
-    trail: &Trail,
-    marks: &mut Marks,
-) -> Result<Explained, AllocError> {
-    let mut literals = Vec::new(alloc);
-    let mut places = Vec::new(alloc);
-    let mut roots = Vec::new(alloc);
-    for place in (0..trail.len()).rev() {
-        let code = trail.literal(place);
-        let variable = variable_of(code);
-        if !marks.has(variable) {
-            continue;
+/// A way from a conflict back to its causes, as far as it is known.
+#[derive(Drop)]
+struct Way {
+    causes: Vec<Cause>,
+    places: Vec<usize>,
+    roots: Vec<usize>,
+}
+
+/// The values that a conflict follows from, and the clauses that gave them.
+#[derive(Clone, Copy)]
+struct Values<'v> {
+    store: &'v Store,
+    trail: &'v Trail,
+    /// The greatest tag of clauses that may lead from one value to another alone.
+    most_tag: u32,
+}
+
+impl Values<'_> {
+    /// The variable from whose value alone this one's follows, by a clause of two literals; none where that one has its value at level 0.
+    fn single_cause(&self, variable: usize) -> Option<usize> {
+        let reason = self.trail.reason_of(variable);
+        if self.store.tag(reason) > self.most_tag {
+            return None;
         }
-        let clause = trail.reason_of(variable);
-        if clause == NONE {
-            literals.push(negated(code))?;
-            continue;
-        }
-        places.push(place)?;
-        if trail.level_of(variable) == 0 {
-            roots.push(place)?;
+        let &[one, other] = self.store.literals(reason) else {
+            return None;
+        };
+        let cause = if variable_of(one) == variable {
+            variable_of(other)
         } else {
-            mark_all(store, marks, clause)?;
+            variable_of(one)
+        };
+        if self.trail.level_of(cause) == 0 {
+            return None;
         }
+        Some(cause)
     }
-    marks.clear();
-    places.reverse();
-    Ok(Explained {
-        literals,
-        places,
-        roots,
-    })
-}
 
-fn explain_clause(
-    alloc: Global,
-    store: &Store,
-    trail: &Trail,
-    marks: &mut Marks,
-    clause: u32,
-) -> Result<Explained, AllocError> {
-    mark_all(store, marks, clause)?;
-    trace(alloc, store, trail, marks)
-}
+    /// The place of the decision from which the variable's value follows by such clauses alone.
+    fn decision_of(&self, variable: usize) -> Option<usize> {
+        let mut cause = variable;
+        for _ in 0..self.trail.len() {
+            if self.trail.reason_of(cause) == NONE {
+                return Some(self.trail.place_of(cause));
+            }
+            cause = self.single_cause(cause)?;
+        }
+        None
+    }
 
-fn explain_falsified(
-    alloc: Global,
-    store: &Store,
-    trail: &Trail,
-    marks: &mut Marks,
-    falsified: u32,
-) -> Result<Explained, AllocError> {
-    marks.mark(variable_of(falsified))?;
-    let mut explained = trace(alloc, store, trail, marks)?;
-    explained.literals.push(negated(falsified))?;
-    Ok(explained)
+    fn mark_all(&self, marks: &mut Marks, clause: u32) -> Result<(), AllocError> {
+        for code in self.store.literals(clause) {
+            let variable = variable_of(*code);
+            if !marks.has(variable) {
+                marks.mark(variable)?;
+            }
+        }
+        Ok(())
+    }
+
+    /// Follows the reason of the value at this place, or takes it for a cause, where it follows from one decision alone and isn't that of `falsified`.
+    fn follow(
+        &self,
+        marks: &mut Marks,
+        way: &mut Way,
+        place: usize,
+        falsified: Option<usize>,
+    ) -> Result<(), AllocError> {
+        let variable = variable_of(self.trail.literal(place));
+        if falsified != Some(variable)
+            && let Some(decision) = self.decision_of(variable)
+        {
+            way.causes.push(Cause { decision, place })?;
+            return Ok(());
+        }
+        way.places.push(place)?;
+        if self.trail.level_of(variable) == 0 {
+            way.roots.push(place)?;
+            return Ok(());
+        }
+        self.mark_all(marks, self.trail.reason_of(variable))
+    }
+
+    /// Follows the reasons of the marked variables downwards, to what follows from one decision alone, and to level 0.
+    fn trace(
+        &self,
+        alloc: Global,
+        marks: &mut Marks,
+        falsified: Option<usize>,
+    ) -> Result<Way, AllocError> {
+        let mut way = Way {
+            causes: Vec::new(alloc),
+            places: Vec::new(alloc),
+            roots: Vec::new(alloc),
+        };
+        for place in (0..self.trail.len()).rev() {
+            if marks.has(variable_of(self.trail.literal(place))) {
+                self.follow(marks, &mut way, place, falsified)?;
+            }
+        }
+        marks.clear();
+        Ok(way)
+    }
+
+    /// Puts the cause of this one in, unless it is there.
+    fn go_back(&self, causes: &mut Vec<Cause>, cause: Cause) -> Result<(), AllocError> {
+        let variable = variable_of(self.trail.literal(cause.place));
+        let Some(single) = self.single_cause(variable) else {
+            return Ok(());
+        };
+        let before = Cause {
+            decision: cause.decision,
+            place: self.trail.place_of(single),
+        };
+        if let Err(at) = causes.binary_search(&before) {
+            causes.insert(at, before)?;
+        }
+        Ok(())
+    }
+
+    /// Goes back, of the causes that follow from the same decision, to the last one from which all of them do.
+    fn narrowed(&self, alloc: Global, way: Way) -> Result<Explained, AllocError> {
+        let Way {
+            mut causes,
+            mut places,
+            roots,
+        } = way;
+        let mut literals = Vec::new(alloc);
+        causes.sort_unstable();
+        for _ in 0..self.trail.len() {
+            let Some(cause) = causes.pop() else {
+                break;
+            };
+            match causes.last().copied() {
+                Some(other) if other.decision == cause.decision => {
+                    places.push(cause.place)?;
+                    self.go_back(&mut causes, cause)?;
+                }
+                _ => literals.push(negated(self.trail.literal(cause.place)))?,
+            }
+        }
+        places.sort_unstable();
+        Ok(Explained {
+            literals,
+            places,
+            roots,
+        })
+    }
+
+    fn explain_clause(
+        &self,
+        alloc: Global,
+        marks: &mut Marks,
+        clause: u32,
+    ) -> Result<Explained, AllocError> {
+        self.mark_all(marks, clause)?;
+        let way = self.trace(alloc, marks, None)?;
+        self.narrowed(alloc, way)
+    }
+
+    fn explain_falsified(
+        &self,
+        alloc: Global,
+        marks: &mut Marks,
+        falsified: u32,
+    ) -> Result<Explained, AllocError> {
+        let variable = variable_of(falsified);
+        marks.mark(variable)?;
+        let way = self.trace(alloc, marks, Some(variable))?;
+        let mut explained = self.narrowed(alloc, way)?;
+        explained.literals.push(negated(falsified))?;
+        Ok(explained)
+    }
 }
 
 /// The clause that is named alone: the one that is false, or the reason against the assumption.
@@ -98,13 +209,14 @@ fn named_alone(trail: &Trail, conflict: Conflict, places: &[usize]) -> Option<u3
 
 impl Engine {
     fn explain(&mut self, alloc: Global, conflict: Conflict) -> Result<Explained, AllocError> {
+        let values = Values {
+            store: &self.store,
+            trail: &self.trail,
+            most_tag: self.most_tag,
+        };
         match conflict {
-            Conflict::Clause(clause) => {
-                explain_clause(alloc, &self.store, &self.trail, &mut self.marks, clause)
-            }
-            Conflict::Falsified(code) => {
-                explain_falsified(alloc, &self.store, &self.trail, &mut self.marks, code)
-            }
+            Conflict::Clause(clause) => values.explain_clause(alloc, &mut self.marks, clause),
+            Conflict::Falsified(code) => values.explain_falsified(alloc, &mut self.marks, code),
         }
     }
 
@@ -128,8 +240,9 @@ impl Engine {
         Ok(tags)
     }
 
-    /// The clause of negated decisions by which there is no such conflict: the one that is named alone, or one more line. None where no number is
-    /// left for it.
+    /// The clause by which there is no such conflict: the one that is named alone, or one more line. Of each decision that the conflict rests on it has the
+    /// last of its consequences from which the conflict follows as well, by clauses of two literals: that holds in more states. None where no number
+    /// is left for it.
     pub(crate) fn write(
         &mut self,
         alloc: Global,

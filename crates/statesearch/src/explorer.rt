@@ -157,6 +157,9 @@ impl<'e> Explorer<'e> {
         self.returned = 0;
         self.learnt_from = 0;
         self.learnt_to = 0;
+        if !self.others.is_empty() {
+            self.engine.write_for_others();
+        }
         self.drop_closed(alloc)
     }
 
@@ -182,59 +185,75 @@ impl<'e> Explorer<'e> {
         Ok(closings)
     }
 
-    /// Whether others closed the state that the task is to close.
-    fn is_closed(&self, task: &Task) -> bool {
-        match task.state() {
-            Some(key) => self.others.closing(key).is_some(),
-            None => false,
+    /// What the task at this place assumes of the state that it is to close, where others closed that.
+    fn assumed_of_closed(
+        &self,
+        alloc: Global,
+        place: usize,
+    ) -> Result<Option<Vec<u32>>, AllocError> {
+        let Some((key, assumptions)) = self.tasks.get(place).and_then(Task::closing) else {
+            return Ok(None);
+        };
+        if self.others.closing(key).is_none() {
+            return Ok(None);
         }
+        Ok(Some(assumptions.to_vec(alloc)?))
     }
 
-    /// The place of the first task for a state that others have closed.
-    fn first_closed(&self) -> Option<usize> {
-        for (place, task) in self.tasks.iter().enumerate() {
-            if self.is_closed(task) {
-                return Some(place);
-            }
+    /// Closes the state that the task at this place is to close by the clause of others that does, and drops all that was to be done for it. Answers
+    /// whether the clause closes it.
+    fn drop_task(&mut self, alloc: Global, place: usize) -> Result<bool, AllocError> {
+        let Some(assumptions) = self.assumed_of_closed(alloc, place)? else {
+            return Ok(false);
+        };
+        if !self.stand_on(alloc, &assumptions)? {
+            return Ok(false);
         }
-        None
+        let Some(key) = self.key_at(alloc, place)? else {
+            return Ok(false);
+        };
+        if !self.take_over(alloc, &key)? {
+            self.others.forget(&key);
+            return Ok(false);
+        }
+        self.tasks.truncate(place);
+        Ok(true)
+    }
+
+    /// The numbers that tell the state that the task at this place is to close.
+    fn key_at(&self, alloc: Global, place: usize) -> Result<Option<Vec<u32>>, AllocError> {
+        match self.tasks.get(place).and_then(Task::closing) {
+            Some((key, _assumptions)) => Ok(Some(key.to_vec(alloc)?)),
+            None => Ok(None),
+        }
     }
 
     /// Drops the first task for a state that others have closed, and all that was to be done for it before.
     fn drop_closed(&mut self, alloc: Global) -> Result<(), AllocError> {
-        let Some(place) = self.first_closed() else {
-            return Ok(());
-        };
-        self.tasks.truncate(place.saturating_add(1));
-        match self.tasks.pop() {
-            Some(task) => self.take_over_task(alloc, task),
-            None => Ok(()),
-        }
-    }
-
-    /// Does the task by the clause of others that closes its state.
-    fn take_over_task(&mut self, alloc: Global, task: Task) -> Result<(), AllocError> {
-        match task.into_state() {
-            Some(key) => {
-                self.take_over(alloc, key)?;
-                Ok(())
+        for place in 0..self.tasks.len() {
+            if self.drop_task(alloc, place)? {
+                return Ok(());
             }
-            None => Ok(()),
         }
+        Ok(())
     }
 
-    /// Closes the state that these numbers tell by the clause of others that closes it, and answers whether there is one.
-    fn take_over(&mut self, alloc: Global, key: Vec<u32>) -> Result<bool, AllocError> {
+    /// Closes the state that these numbers tell, whose assumptions stand on the trail, by the clause of others that closes it, and answers whether there
+    /// is one that is false. What others know may make one false that isn't so here.
+    fn take_over(&mut self, alloc: Global, key: &[u32]) -> Result<bool, AllocError> {
         let mut codes = Vec::new(alloc);
-        let Some((number, clause)) = self.others.closing(&key) else {
+        let Some((number, clause)) = self.others.closing(key) else {
             return Ok(false);
         };
         fill(&mut codes, clause.literals())?;
+        if !self.engine.are_false(&codes) {
+            return Ok(false);
+        }
         let Some(place) = self.engine.store.add(&codes, number, 0)? else {
             return Ok(false);
         };
-        self.put_near(alloc, &key, place)?;
-        self.table.insert(key, place)?;
+        self.put_near(alloc, key, place)?;
+        self.table.insert(key.to_vec(alloc)?, place)?;
         Ok(true)
     }
 
@@ -425,14 +444,10 @@ impl<'e> Explorer<'e> {
         if self.clause_of(&key).is_some() {
             return Ok(());
         }
-        if self.others.closing(&key).is_some() {
-            self.take_over(alloc, key)?;
-            return Ok(());
-        }
         self.visit_unknown(alloc, state, key, batch)
     }
 
-    /// Branches a state with this key, which nobody has closed, unless it meets a conflict at once.
+    /// Branches a state with this key, which wasn't closed, unless others did or it meets a conflict at once.
     fn visit_unknown(
         &mut self,
         alloc: Global,
@@ -441,7 +456,7 @@ impl<'e> Explorer<'e> {
         batch: &mut Batch,
     ) -> Result<(), AllocError> {
         let assumptions = state.assumptions(alloc, &self.shape)?;
-        if !self.stand_on(alloc, &assumptions)? {
+        if !self.stand_on(alloc, &assumptions)? || self.take_over(alloc, &key)? {
             return Ok(());
         }
         self.visit_open(alloc, state, key, assumptions, batch)

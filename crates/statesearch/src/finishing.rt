@@ -4,7 +4,6 @@ use crate::engine::{Conflict, Written};
 use crate::explorer::Explorer;
 use crate::tasks::{Branch, Branching, Purpose, Task};
 use batches::Batch;
-use propagation::negated;
 use std::alloc::{AllocError, Global};
 
 /// What comes of a literal.
@@ -56,21 +55,28 @@ impl<'e> Explorer<'e> {
         }
     }
 
-    /// Writes the line against a literal.
+    /// Writes the line against a literal, and answers too whether that takes the literal.
     fn write_against(
         &mut self,
         alloc: Global,
         branch: &Branch,
         batch: &mut Batch,
-    ) -> Result<Option<Written>, AllocError> {
+    ) -> Result<Option<(Written, bool)>, AllocError> {
         let level = self.engine.trail.level();
         let falsified = self.falsified_below(alloc, branch)?;
         let written = match falsified {
             Some(clause) => self.engine.write(alloc, Conflict::Clause(clause), batch)?,
             None => None,
         };
+        let takes_it = match &written {
+            Some(written) => self.engine.is_above(level, &written.literals),
+            None => false,
+        };
         self.engine.trail.back(level);
-        Ok(written)
+        match written {
+            Some(written) => Ok(Some((written, takes_it))),
+            None => Ok(None),
+        }
     }
 
     /// The clause against a literal.
@@ -83,11 +89,11 @@ impl<'e> Explorer<'e> {
         if let Some(clause) = branch.clause {
             return Ok(Against::Clause(clause));
         }
-        let Some(written) = self.write_against(alloc, branch, batch)? else {
+        let Some((written, takes_it)) = self.write_against(alloc, branch, batch)? else {
             return Ok(Against::Nothing);
         };
         self.engine.watch_later(&written)?;
-        if written.literals.contains(&negated(branch.literal)) {
+        if takes_it {
             return Ok(Against::Clause(written.clause));
         }
         Ok(Against::Closed(written.clause))
@@ -109,7 +115,7 @@ impl<'e> Explorer<'e> {
             Against::Nothing => return Ok(Excluding::Gap(place)),
         };
         branch.clause = Some(clause);
-        match self.engine.exclude(alloc, branch.literal, clause)? {
+        match self.engine.apply(alloc, clause)? {
             Some(_) if is_first && !self.engine.is_short(clause) => Ok(Excluding::Closed(clause)),
             Some(conflict) => Ok(Excluding::Conflict(conflict)),
             None => Ok(Excluding::Going),

@@ -49,6 +49,16 @@ impl Others {
         Ok(())
     }
 
+    /// Whether nothing is known of others.
+    pub(crate) fn is_empty(&self) -> bool {
+        self.numbers.is_empty()
+    }
+
+    /// Forgets that the state that these numbers tell is closed.
+    pub(crate) fn forget(&mut self, key: &[u32]) {
+        self.numbers.remove(&hash_of(key));
+    }
+
     /// The line of this number.
     fn line(&self, number: u32) -> Option<&Clause> {
         let place = (number as usize).checked_sub(self.clauses)?.checked_sub(1)?;
@@ -58,7 +68,7 @@ impl Others {
 
     /// The line by which the state that these numbers tell is closed, and its number.
     pub(crate) fn closing(&self, key: &[u32]) -> Option<(u32, &Clause)> {
-        if self.numbers.is_empty() {
+        if self.is_empty() {
             return None;
         }
         let number = *self.numbers.get(&hash_of(key))?;

@@ -77,8 +77,8 @@ impl<'e> StateSearch<'e> {
         self.explorer.turn(number);
     }
 
-    /// Takes in which states other searches over the same program closed, by clauses of the formula and then of these lines. They aren't closed once
-    /// more, and what was to be done for them is dropped.
+    /// Takes in which states other searches over the same program closed, by clauses of the formula and then of these lines. A state whose clause is false
+    /// under what is assumed of it isn't closed once more, and what was to be done for it is dropped.
     ///
     /// Refused with [`SolveFault::Spent`] exactly where memory ran out before; never with [`SolveFault::Foreign`].
     pub fn take_in(&mut self, lines: Lines, closings: &[Closing]) -> Result<(), SolveFault>

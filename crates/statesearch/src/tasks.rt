@@ -31,16 +31,6 @@ pub(crate) enum Purpose {
     Formula,
 }
 
-impl Purpose {
-    /// The numbers that tell the state that is closed.
-    fn into_state(self) -> Option<Vec<u32>> {
-        match self {
-            Purpose::State(key) => Some(key),
-            _ => None,
-        }
-    }
-}
-
 /// Something to do.
 #[derive(Drop)]
 pub(crate) enum Task {
@@ -59,22 +49,13 @@ pub(crate) enum Task {
 }
 
 impl Task {
-    /// The numbers that tell the state that it closes, where they are known.
-    pub(crate) fn state(&self) -> Option<&[u32]> {
+    /// The numbers that tell the state that it closes, and what is assumed of that, where it knows both.
+    pub(crate) fn closing(&self) -> Option<(&[u32], &[u32])> {
         match self {
-            Task::Alias(key, _) => Some(key.as_slice()),
-            Task::Finish(branching) => Some(branching.key.as_slice()),
-            Task::Learn(_, Purpose::State(key)) => Some(key.as_slice()),
-            _ => None,
-        }
-    }
-
-    /// The same numbers, taken out of it.
-    pub(crate) fn into_state(self) -> Option<Vec<u32>> {
-        match self {
-            Task::Alias(key, _other) => Some(key),
-            Task::Finish(branching) => Some(branching.key),
-            Task::Learn(_codes, purpose) => purpose.into_state(),
+            Task::Finish(branching) => {
+                Some((branching.key.as_slice(), branching.assumptions.as_slice()))
+            }
+            Task::Learn(codes, Purpose::State(key)) => Some((key.as_slice(), codes.as_slice())),
             _ => None,
         }
     }
