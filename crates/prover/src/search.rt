@@ -6,7 +6,6 @@ ghost use Rattle.crossbeam_utils.specs.Seq.{cell_view};
 ghost use Rattle.sharedpool.specs.Views.{knower};
 ghost use Rattle.prover.specs.Searches.{smallest_with};
 
-use callorder::Program;
 use cubes::{CubeFault, split};
 use encode::Encoded;
 use pool::{Pool, Share, Why, smaller};
@@ -20,9 +19,7 @@ use std::thread::Threads;
 use std::{mem, thread};
 use steal::{Supply, deal, settle_all};
 use trees::Tree;
-use workers::{
-    Begun, ClosedStates, Common, EventCount, Exploring, Gate, KeptLines, has_late_sends, open, work,
-};
+use workers::{Begun, ClosedStates, Common, EventCount, Exploring, Gate, KeptLines, open, work};
 
 /// What a worker's thread is handed.
 #[derive(Drop)]
@@ -193,9 +190,8 @@ fn ended<B: Room, R: Wait>(
 }
 
 /// When workers search over sets of matched calls.
-fn exploring(options: Options, program: &Program) -> Exploring {
+fn exploring(options: Options) -> Exploring {
     match options.searches() {
-        Searches::All if options.workers() > 1 && has_late_sends(program) => Exploring::First,
         Searches::All => Exploring::InTurn,
         Searches::Cubes => Exploring::Never,
         Searches::Sets => Exploring::Always,
@@ -251,7 +247,7 @@ fn search_in<B: Room + Send + Sync, G: Gate + Sync, R: Threads + Wait + Sync>(
         gate,
         events: &events,
         budget: options.budget(),
-        exploring: exploring(options, encoded.program()),
+        exploring: exploring(options),
         begun: Begun::nothing(),
         kept: &kept,
         closed: &closed,

@@ -3,7 +3,6 @@
 use crate::closed::ClosedStates;
 use crate::events::EventCount;
 use crate::kept::KeptLines;
-use callorder::{Kind, Program};
 use encode::Encoded;
 use pool::Why;
 
@@ -12,40 +11,10 @@ use pool::Why;
 pub enum Exploring {
     /// Never.
     Never,
-    /// All of them in turn with cubes. Each turn takes twice as many conflicts and lines as the last one of its kind.
+    /// All of them in turn with cubes, where a conflict counts as four lines. Each turn takes twice as many as the last one of its kind.
     InTurn,
     /// All of them as long as that search goes on.
     Always,
-    /// Worker 0 alone, as long as that search goes on.
-    First,
-}
-
-/// Whether the call after that at this place waits for it.
-fn is_waited_for_next(program: &Program, place: usize) -> bool {
-    match program.call(place.saturating_add(1)) {
-        Some(next) => match next.kind {
-            Kind::Wait { operation } => operation == place,
-            _ => false,
-        },
-        None => false,
-    }
-}
-
-/// Whether some send of the program is waited for later than by the next call. What is known of the rank then depends on the order in which sends are
-/// taken: in the order of their calls each state closes many, and in any other one few, so that several searches in different orders take longer
-/// than one.
-pub fn has_late_sends(program: &Program) -> bool {
-    for (place, call) in program.calls().iter().enumerate() {
-        if let Kind::Send {
-            blocking: false,
-            ..
-        } = call.kind
-            && !is_waited_for_next(program, place)
-        {
-            return true;
-        }
-    }
-    false
 }
 
 /// What was done before the workers began.

@@ -36,8 +36,11 @@ const MARGIN: u64 = 150_000;
 /// that there are far more of them.
 const MOST_LITERALS: usize = 1;
 
-/// How many conflicts and lines the first turns take.
+/// How many lines the first turn takes.
 const FIRST_TURN: u64 = 4_000;
+
+/// A conflict below a cube counts as so many lines.
+const LINES_OF_A_CONFLICT: u64 = 4;
 
 /// Whose turn it is, where a search over sets of matched calls and one below cubes take turns.
 #[derive(Clone, Copy)]
@@ -58,9 +61,9 @@ impl Turns {
         }
     }
 
-    /// Counts what a search took.
-    fn count(&mut self, conflicts: u64) {
-        self.left = self.left.saturating_sub(conflicts);
+    /// Counts so many lines.
+    fn count(&mut self, lines: u64) {
+        self.left = self.left.saturating_sub(lines);
         if self.left > 0 || self.is_alone {
             return;
         }
@@ -91,7 +94,7 @@ impl<'e> Exploration<'e> {
         exploring: Exploring,
         worker: u32,
     ) -> Result<Option<Exploration<'e>>, AllocError> {
-        if exploring == Exploring::Never || exploring == Exploring::First && worker > 0 {
+        if exploring == Exploring::Never {
             return Ok(None);
         }
         let mut search = StateSearch::new(alloc, encoded)?;
@@ -120,7 +123,8 @@ impl<'e> Exploration<'e> {
 
     /// Counts what a search below a cube took.
     pub(crate) fn count(&mut self, conflicts: u64) {
-        self.turns.count(conflicts);
+        let lines = conflicts.saturating_mul(LINES_OF_A_CONFLICT);
+        self.turns.count(lines);
     }
 
     /// Searches on, until so many lines and conflicts were counted at most.
@@ -222,12 +226,6 @@ impl Worker<'_> {
         let left = kept.count();
         let taken = (self.seen() as u64).saturating_add(left);
         left > 0 && taken.saturating_add(MARGIN) >= MOST_LINES as u64
-    }
-
-    /// Whether this worker rests, since the log has room for no more lines than are kept for worker 0, which alone searches over sets of matched calls.
-    pub(crate) fn leaves_room<S, G>(&self, common: &Common<S, G>) -> bool {
-        let is_other = common.exploring == Exploring::First && self.exploration.is_none();
-        is_other && self.refuted.is_none() && self.is_kept(common.kept)
     }
 
     /// Drops the exploration where it may write no more lines.

@@ -6,7 +6,7 @@ use std::sync::atomic::{AtomicU64, Ordering};
 const MOST_IN_ALL: u64 = 600_000;
 
 /// How many lines of the log are kept for searches over sets of matched calls. Where the log has room for no more than these, workers no longer search
-/// below cubes until they are used up or given up.
+/// below cubes until they are used up.
 #[derive(Drop)]
 pub struct KeptLines {
     used: AtomicU64,
@@ -23,11 +23,6 @@ impl KeptLines {
     /// So many more are used.
     pub(crate) fn use_up(&self, lines: u64) {
         self.used.fetch_add(lines, Ordering::SeqCst);
-    }
-
-    /// None are left any more.
-    pub(crate) fn give_up(&self) {
-        self.used.store(MOST_IN_ALL, Ordering::SeqCst);
     }
 
     /// How many are left.

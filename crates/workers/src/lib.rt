@@ -19,7 +19,7 @@ mod stop;
 mod worker;
 
 pub use closed::ClosedStates;
-pub use common::{Begun, Common, Exploring, has_late_sends};
+pub use common::{Begun, Common, Exploring};
 pub use events::EventCount;
 pub use gate::{Gate, Searched};
 pub use kept::KeptLines;

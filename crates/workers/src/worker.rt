@@ -3,7 +3,7 @@
 ghost use Rattle.std.specs.Prelude.{◌≡◌};
 
 use crate::branching::{branching_variable, most_active};
-use crate::common::{Common, Exploring};
+use crate::common::Common;
 use crate::events::EventCount;
 use crate::exploring::Exploration;
 use crate::gate::{Gate, Searched};
@@ -406,10 +406,6 @@ impl<'e> Worker<'e> {
                 common.events.advance();
                 continue;
             }
-            if self.leaves_room(common) {
-                rest(rt, common.events, seen, &pause);
-                continue;
-            }
             let Some(cube) = cube_after(current, cubes, common.gate, worker) else {
                 if status.why.is_some() {
                     return Ok(());
@@ -478,11 +474,12 @@ fn reason<S: Share, C: Cubes, G: Gate, R: Wait>(
 /// split or, where the tree has no room, searched on. A cube is split on the match variable that took part in most conflicts of those that
 /// have no value below its path; where there is none, on the first variable that isn't on it, match variables first, in the branching order.
 ///
-/// Where that is wanted it also searches over sets of matched calls, at most 250 lines at a time, each of which counts as a conflict of its budget: in
-/// turn with cubes, or as long as that search goes on. It tells the other workers which states it closed, and takes from them those that they did, so
-/// that all of them together search over the sets once. They write 600,000 lines at most; where the log has room for no more than what is left of
-/// these, it searches below no cube, and rests where worker 0 alone searches over sets. Where the log has an empty clause, each cube is closed by it. Of the lines of others a worker takes in the
-/// shortest, up to 6,000 after each search, and all with at most two literals; these alone as long as it searches below no cube.
+/// Where that is wanted it also searches over sets of matched calls, at first 64 lines at a time and later up to 1,000, each of which counts as a
+/// conflict of its budget: in turn with cubes, where a conflict counts as four lines, or as long as that search goes on. It tells the other workers
+/// which states it closed, and takes from them those that they did, so that all of them together search over the sets once. They write 600,000 lines
+/// at most; where the log has room for no more than what is left of these, it searches below no cube. Where the log has an empty clause, each cube is
+/// closed by it. Of the lines of others a worker takes in the shortest, up to 6,000 after each search, and all with at most two literals; these alone
+/// as long as it searches below no cube.
 ///
 /// The worker leaves with no reason once a schedule was found or no leaf is open, or, without a cube, once another worker left for a
 /// reason; else it pauses without a cube, and rests until the events are advanced. It advances them after each search and when it leaves. It
@@ -501,9 +498,6 @@ pub fn work<S: Share, C: Cubes, G: Gate, R: Wait>(
     ensures { C.deques cubes.new ≡ C.deques cubes.old }
 {
     let why = reason(rt, alloc, common, seat, cubes, worker);
-    if worker == 0 && common.exploring == Exploring::First {
-        common.kept.give_up();
-    }
     let left = common.shared.leave(rt, seat, why);
     common.events.advance();
     left
