@@ -1,6 +1,7 @@
 //! Lines against cycles in the order of events.
 
 use crate::engine::Engine;
+use crate::others::Others;
 use batches::Batch;
 use propagation::{Trail, negated};
 use states::{Cycle, Shape};
@@ -42,6 +43,7 @@ fn make_bits(
     alloc: Global,
     shape: &Shape<'_>,
     engine: &mut Engine,
+    others: &mut Others,
     base: &[u32],
     edges: &[(usize, usize)],
     bits: usize,
@@ -50,7 +52,7 @@ fn make_bits(
     for (first, second) in edges {
         let mut codes = base.to_vec(alloc)?;
         codes.push(shape.same(*first, *second, bits))?;
-        engine.make_lemma(alloc, &codes, batch)?;
+        engine.make_lemma(alloc, others, &codes, batch)?;
     }
     Ok(())
 }
@@ -60,6 +62,7 @@ pub(crate) fn cut_cycle(
     alloc: Global,
     shape: &Shape<'_>,
     engine: &mut Engine,
+    others: &mut Others,
     cycle: &Cycle,
     batch: &mut Batch,
 ) -> Result<bool, AllocError> {
@@ -67,7 +70,7 @@ pub(crate) fn cut_cycle(
     engine.to_root(alloc)?;
     let base = base_of(alloc, shape, &engine.trail, &edges)?;
     for bits in 1..shape.clock_size() {
-        make_bits(alloc, shape, engine, &base, &edges, bits, batch)?;
+        make_bits(alloc, shape, engine, others, &base, &edges, bits, batch)?;
     }
-    engine.make_lemma(alloc, &base, batch)
+    engine.make_lemma(alloc, others, &base, batch)
 }

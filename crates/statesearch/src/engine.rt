@@ -1,5 +1,6 @@
 //! What propagation knows, and how clauses come in.
 
+use crate::others::{Others, hash_of};
 use batches::Batch;
 use clauses::{Formula, Lit};
 use propagation::{
@@ -81,6 +82,13 @@ fn negations(alloc: Global, codes: &[u32]) -> Result<Vec<u32>, AllocError> {
         negations.push(negated(*code))?;
     }
     Ok(negations)
+}
+
+/// What tells the lemma with these literals from nearly all others.
+fn lemma_of(alloc: Global, codes: &[u32]) -> Result<u64, AllocError> {
+    let mut sorted = codes.to_vec(alloc)?;
+    sorted.sort_unstable();
+    Ok(hash_of(&sorted))
 }
 
 impl Engine {
@@ -301,10 +309,15 @@ impl Engine {
     pub(crate) fn make_lemma(
         &mut self,
         alloc: Global,
+        others: &mut Others,
         codes: &[u32],
         batch: &mut Batch,
     ) -> Result<bool, AllocError> {
         if !self.to_root(alloc)? {
+            return Ok(true);
+        }
+        let lemma = lemma_of(alloc, codes)?;
+        if self.takes_lemma(alloc, others, lemma)? {
             return Ok(true);
         }
         let negations = negations(alloc, codes)?;
@@ -314,8 +327,25 @@ impl Engine {
             && written.is_new
         {
             self.waiting.push(written.clause)?;
+            others.tell(lemma, written.clause)?;
         }
         self.to_root(alloc)?;
         Ok(conflict.is_some())
+    }
+
+    /// Takes in the line of others that has this lemma, at level 0, and answers whether there is one.
+    fn takes_lemma(
+        &mut self,
+        alloc: Global,
+        others: &mut Others,
+        lemma: u64,
+    ) -> Result<bool, AllocError> {
+        let mut codes = Vec::new(alloc);
+        let Some((number, clause)) = others.take_lemma(lemma) else {
+            return Ok(false);
+        };
+        fill(&mut codes, clause.literals())?;
+        self.take_in(number, &codes)?;
+        Ok(true)
     }
 }

@@ -47,10 +47,8 @@ pub(crate) struct Explorer<'e> {
     returned: usize,
     /// Whether a cycle could not be cut, so that none is looked for any more.
     leaves_cycles: bool,
-    /// What others closed.
+    /// What searches tell each other.
     others: Others,
-    /// The states that were closed in this batch, each with the place of the clause.
-    closed: Vec<(u64, u32)>,
     /// Tells which state below another one is visited first.
     turn: u32,
 }
@@ -124,7 +122,6 @@ impl<'e> Explorer<'e> {
             returned: 0,
             leaves_cycles: false,
             others: Others::new(alloc, encoded.formula().len()),
-            closed: Vec::new(alloc),
             turn: 0,
         })
     }
@@ -153,7 +150,7 @@ impl<'e> Explorer<'e> {
             self.restart(alloc, encoded)?;
         }
         self.engine.lines.clear();
-        self.closed.clear();
+        self.others.told.clear();
         self.returned = 0;
         self.learnt_from = 0;
         self.learnt_to = 0;
@@ -163,22 +160,22 @@ impl<'e> Explorer<'e> {
         self.drop_closed(alloc)
     }
 
-    /// Takes in what others closed, by clauses of the formula and then of these lines.
+    /// Takes in what others closed and made, by clauses of the formula and then of these lines.
     pub(crate) fn take_in(&mut self, lines: Lines, closings: &[Closing]) -> Result<(), AllocError> {
         self.others.take_in(lines, closings)
     }
 
-    /// The states that were closed in the last batch, whose first line has this number.
+    /// The states that were closed in the last batch, whose first line has this number, and the lemmas that were made.
     pub(crate) fn closings(&self, alloc: Global, base: u32) -> Result<Vec<Closing>, AllocError> {
-        let mut closings = Vec::with_capacity(alloc, self.closed.len())?;
-        for (state, clause) in &self.closed {
-            let tag = self.engine.store.tag(*clause);
+        let mut closings = Vec::with_capacity(alloc, self.others.told.len())?;
+        for told in &self.others.told {
+            let tag = self.engine.store.tag(told.clause);
             let number = match tag.checked_sub(OWN) {
                 Some(place) => base.saturating_add(place),
                 None => tag,
             };
             closings.push(Closing {
-                state: *state,
+                state: told.state,
                 number,
             })?;
         }
@@ -331,7 +328,7 @@ impl<'e> Explorer<'e> {
 
     /// The state that these numbers tell is closed by this clause, which closed another one.
     fn close_too(&mut self, key: Vec<u32>, clause: u32) -> Result<(), AllocError> {
-        self.closed.push((hash_of(&key), clause))?;
+        self.others.tell(hash_of(&key), clause)?;
         self.table.insert(key, clause)?;
         Ok(())
     }
@@ -402,17 +399,27 @@ impl<'e> Explorer<'e> {
         let Some(cycle) = find_cycle(alloc, &self.shape, &self.engine.trail)? else {
             return Ok(false);
         };
-        let is_cut = cut_cycle(alloc, &self.shape, &mut self.engine, &cycle, batch)?;
+        let is_cut = cut_cycle(
+            alloc,
+            &self.shape,
+            &mut self.engine,
+            &mut self.others,
+            &cycle,
+            batch,
+        )?;
         self.leaves_cycles = !is_cut;
         Ok(true)
     }
 
     /// Makes lemmas that are due, and answers whether there were any; then the trail is at level 0.
     fn makes_lemmas(&mut self, alloc: Global, batch: &mut Batch) -> Result<bool, AllocError> {
-        if self
-            .lemmas
-            .make(alloc, &self.shape, &mut self.engine, batch)?
-        {
+        if self.lemmas.make(
+            alloc,
+            &self.shape,
+            &mut self.engine,
+            &mut self.others,
+            batch,
+        )? {
             return Ok(true);
         }
         self.cuts(alloc, batch)

@@ -1,4 +1,4 @@
-//! States that other searches over the same program closed.
+//! What searches over the same program tell each other.
 
 use clauses::Clause;
 use pages::Lines;
@@ -6,13 +6,20 @@ use std::alloc::{AllocError, Global};
 use std::collections::HashMap;
 use std::hash::{DefaultHasher, Hash, Hasher};
 
-/// A state that a search closed, and the clause by which it did.
+/// A state that a search closed, or a lemma that it made, and the clause by which it did.
 #[derive(Clone, Copy, PartialEq, Eq)]
 pub struct Closing {
-    /// What tells the state from nearly all others of the same program.
+    /// What tells the state or the lemma from nearly all others of the same program.
     pub state: u64,
     /// The clause's number, from 1.
     pub number: u32,
+}
+
+/// The same, with the place of the clause in the store.
+#[derive(Clone, Copy)]
+pub(crate) struct Told {
+    pub(crate) state: u64,
+    pub(crate) clause: u32,
 }
 
 /// What tells a state with this key from nearly all others.
@@ -22,11 +29,13 @@ pub(crate) fn hash_of(key: &[u32]) -> u64 {
     hasher.finish()
 }
 
-/// What others closed, and the lines by which they did. Nothing of it is trusted: a clause that isn't the state's is of no use, and no harm.
+/// What others closed, and the lines by which they did, and what this search closed in the last batch. Nothing of it is trusted: a clause that isn't the
+/// state's is of no use, and no harm.
 #[derive(Drop)]
 pub(crate) struct Others {
     clauses: usize,
     numbers: HashMap<u64, u32>,
+    pub(crate) told: Vec<Told>,
     lines: Option<Lines>,
 }
 
@@ -36,16 +45,23 @@ impl Others {
         Others {
             clauses,
             numbers: HashMap::new(alloc),
+            told: Vec::new(alloc),
             lines: None,
         }
     }
 
-    /// Puts these states in, which are closed by clauses of the formula and then of the lines.
+    /// Puts these states and lemmas in, whose clauses are those of the formula and then of the lines.
     pub(crate) fn take_in(&mut self, lines: Lines, closings: &[Closing]) -> Result<(), AllocError> {
         for closing in closings {
             self.numbers.insert(closing.state, closing.number)?;
         }
         self.lines = Some(lines);
+        Ok(())
+    }
+
+    /// This search closed this state, or made this lemma, by the clause at this place of the store.
+    pub(crate) fn tell(&mut self, state: u64, clause: u32) -> Result<(), AllocError> {
+        self.told.push(Told { state, clause })?;
         Ok(())
     }
 
@@ -57,6 +73,12 @@ impl Others {
     /// Forgets that the state that these numbers tell is closed.
     pub(crate) fn forget(&mut self, key: &[u32]) {
         self.numbers.remove(&hash_of(key));
+    }
+
+    /// The line of the lemma that this number tells, and its number. It is forgotten then.
+    pub(crate) fn take_lemma(&mut self, state: u64) -> Option<(u32, &Clause)> {
+        let number = self.numbers.remove(&state)?;
+        Some((number, self.line(number)?))
     }
 
     /// The line of this number.

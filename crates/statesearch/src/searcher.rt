@@ -77,8 +77,9 @@ impl<'e> StateSearch<'e> {
         self.explorer.turn(number);
     }
 
-    /// Takes in which states other searches over the same program closed, by clauses of the formula and then of these lines. A state whose clause is false
-    /// under what is assumed of it isn't closed once more, and what was to be done for it is dropped.
+    /// Takes in which states other searches over the same program closed, and which lemmas they made, by clauses of the formula and then of these lines. A
+    /// state whose clause is false under what is assumed of it isn't closed once more, and what was to be done for it is dropped. A lemma isn't made once
+    /// more either: its line is taken in.
     ///
     /// Refused with [`SolveFault::Spent`] exactly where memory ran out before; never with [`SolveFault::Foreign`].
     pub fn take_in(&mut self, lines: Lines, closings: &[Closing]) -> Result<(), SolveFault>
@@ -96,7 +97,7 @@ impl<'e> StateSearch<'e> {
         }
     }
 
-    /// The states that the last search closed, where the first line of its batch has this number, from 1.
+    /// The states that the last search closed, and the lemmas that it made, where the first line of its batch has this number, from 1.
     pub fn closings(&self, alloc: Global, base: u32) -> Result<Vec<Closing>, AllocError> {
         self.explorer.closings(alloc, base)
     }

@@ -1,17 +1,17 @@
-//! Which states the searches over sets of matched calls have closed.
+//! Which states the searches over sets of matched calls have closed, and which lemmas they made.
 
 use statesearch::Closing;
 use std::alloc::{AllocError, Global};
 use std::sync::{Mutex, Wait};
 
-/// A state that a worker closed.
+/// A state that a worker closed, or a lemma that it made.
 #[derive(Clone, Copy)]
 struct Entry {
     worker: u32,
     closing: Closing,
 }
 
-/// The states that any worker's search over sets of matched calls has closed, in the order in which that was told.
+/// The states that any worker's search over sets of matched calls has closed, and the lemmas that it has made, in the order in which that was told.
 #[derive(Drop)]
 pub struct ClosedStates {
     entries: Mutex<Vec<Entry>>,

@@ -19,13 +19,16 @@ use std::mem;
 use std::ops::Range;
 use std::sync::Wait;
 
-/// How many lines one search writes at least, and at most, where the budget lets it. What several workers do at the same time is lost, so at first they
-/// tell each other soon what they closed.
-const FEWEST_LINES: u64 = 64;
+/// How many lines one search writes at least, and at most, where the budget lets it. What several workers do at the same time is lost, so they tell
+/// each other soon what they closed.
+const FEWEST_LINES: u64 = 32;
 
 const MOST_LINES_AT_A_TIME: u64 = 1_000;
 
-/// One search writes a line for so many states that are closed by then.
+/// One search beside others writes a line for so many lines of the log, since what it takes to hand these out grows with them.
+const LINES_FOR_A_LINE: usize = 4_096;
+
+/// One search writes a line for so many states and lemmas that are told by then, as long as there are none of others.
 const STATES_FOR_A_LINE: usize = 16;
 
 /// How many lines of the log others leave free beside those that are kept for the search over sets of matched calls, since all that search below cubes
@@ -84,6 +87,8 @@ pub(crate) struct Exploration<'e> {
     own: Range<usize>,
     /// How many of the states that were closed were looked at.
     seen: usize,
+    /// Whether others closed some.
+    has_others: bool,
 }
 
 impl<'e> Exploration<'e> {
@@ -104,6 +109,7 @@ impl<'e> Exploration<'e> {
             turns: Turns::new(exploring != Exploring::InTurn),
             own: 0..0,
             seen: 0,
+            has_others: false,
         }))
     }
 
@@ -127,10 +133,19 @@ impl<'e> Exploration<'e> {
         self.turns.count(lines);
     }
 
-    /// Searches on, until so many lines and conflicts were counted at most.
-    fn search(&mut self, alloc: Global, most: u64) -> Result<Found, Stop> {
-        let lines = (self.seen / STATES_FOR_A_LINE) as u64;
-        let budget = most.min(lines.clamp(FEWEST_LINES, MOST_LINES_AT_A_TIME));
+    /// How many lines one search writes at most, where the log has so many.
+    fn lines_at_a_time(&self, logged: usize) -> u64 {
+        let lines = if self.has_others {
+            logged / LINES_FOR_A_LINE
+        } else {
+            self.seen / STATES_FOR_A_LINE
+        };
+        (lines as u64).clamp(FEWEST_LINES, MOST_LINES_AT_A_TIME)
+    }
+
+    /// Searches on, until so many lines and conflicts were counted at most. The log has so many lines.
+    fn search(&mut self, alloc: Global, most: u64, logged: usize) -> Result<Found, Stop> {
+        let budget = most.min(self.lines_at_a_time(logged));
         let found = self.search.search(alloc, budget)?;
         self.turns.count(self.search.conflicts());
         Ok(found)
@@ -146,6 +161,7 @@ impl<'e> Exploration<'e> {
         lines: Lines,
     ) -> Result<(), Stop> {
         let (closings, seen) = common.closed.others(rt, alloc, worker, self.seen)?;
+        self.has_others = self.has_others || !closings.is_empty();
         self.search.take_in(lines, &closings)?;
         self.seen = seen;
         Ok(())
@@ -166,10 +182,11 @@ impl Worker<'_> {
 
     /// Searches over sets of matched calls, and counts what that took, which it answers, too.
     fn search_states(&mut self, kept: &KeptLines) -> Result<Option<(Found, u64)>, Stop> {
+        let (left, logged) = (self.left.min(kept.count()), self.seen());
         let Some(exploration) = &mut self.exploration else {
             return Ok(None);
         };
-        let found = exploration.search(self.alloc, self.left.min(kept.count()))?;
+        let found = exploration.search(self.alloc, left, logged)?;
         let counted = exploration.search.conflicts();
         kept.use_up(counted);
         self.left = self.left.saturating_sub(counted);

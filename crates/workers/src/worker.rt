@@ -474,9 +474,9 @@ fn reason<S: Share, C: Cubes, G: Gate, R: Wait>(
 /// split or, where the tree has no room, searched on. A cube is split on the match variable that took part in most conflicts of those that
 /// have no value below its path; where there is none, on the first variable that isn't on it, match variables first, in the branching order.
 ///
-/// Where that is wanted it also searches over sets of matched calls, at first 64 lines at a time and later up to 1,000, each of which counts as a
+/// Where that is wanted it also searches over sets of matched calls, at first 32 lines at a time and later up to 1,000, each of which counts as a
 /// conflict of its budget: in turn with cubes, where a conflict counts as four lines, or as long as that search goes on. It tells the other workers
-/// which states it closed, and takes from them those that they did, so that all of them together search over the sets once. They write 600,000 lines
+/// which states it closed and which lemmas it made, and takes theirs over, so that all of them together search over the sets once. They write 600,000 lines
 /// at most; where the log has room for no more than what is left of these, it searches below no cube. Where the log has an empty clause, each cube is
 /// closed by it. Of the lines of others a worker takes in the shortest, up to 6,000 after each search, and all with at most two literals; these alone
 /// as long as it searches below no cube.
