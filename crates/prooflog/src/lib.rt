@@ -9,6 +9,7 @@
 #![tactic(auto)]
 
 mod ahead;
+mod chunks;
 mod evidence;
 mod fault;
 mod formula_text;
@@ -35,4 +36,4 @@ pub use refutation::{
 pub use schedule::Schedule;
 pub use step::{find_word, put_find};
 pub use trims::{TrimFault, trim};
-pub use writer::{put_hints, put_literals, write_evidence};
+pub use writer::{put_hints, put_literals, write_evidence, write_evidence_in};

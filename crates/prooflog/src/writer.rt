@@ -7,7 +7,9 @@ ghost use Rattle.refutations.specs.Proofs.{ProofLine};
 ghost use Rattle.prooflog.specs.Steps.{step_line, written, IsSchedule};
 ghost use Rattle.prooflog.specs.Refutations.{literal_word, item_line, a_proof, a_node};
 ghost use Rattle.prooflog.specs.Grammar.{IsEvidenceText, heading_line};
+ghost use Rattle.prooflog.specs.Chunks.{AreChunks};
 
+use crate::chunks::{Chunk, chunks_of, put_all};
 use crate::evidence::Evidence;
 use crate::node::put_node;
 use crate::refutation::{Refutation, Version};
@@ -18,6 +20,7 @@ use plaintext::put_number;
 use refutations::{Line, Node};
 use semantics::Step;
 use std::alloc::{AllocError, Global};
+use std::thread::Threads;
 
 /// Writes the lines of a schedule's steps at the end.
 fn put_steps(out: &mut Vec<u8>, steps: &[Step]) -> Result<(), AllocError>
@@ -86,7 +89,7 @@ fn put_line(out: &mut Vec<u8>, line: &Line) -> Result<(), AllocError>
     Ok(())
 }
 
-fn put_lines(out: &mut Vec<u8>, lines: &[Line]) -> Result<(), AllocError>
+pub(crate) fn put_lines(out: &mut Vec<u8>, lines: &[Line]) -> Result<(), AllocError>
     ensures { OnOk result (out.new.items ≡ out.old.items ++ flat_map item_line (map a_proof lines.now)) }
 {
     for line in lines {
@@ -114,8 +117,13 @@ fn put_heading(out: &mut Vec<u8>, version: Version) -> Result<(), AllocError>
     }
 }
 
-/// The text of the refutation.
-fn write_refutation(alloc: Global, refutation: &Refutation) -> Result<Vec<u8>, AllocError>
+/// The text of the refutation, of whose lines these parts are written already.
+fn write_refutation(
+    alloc: Global,
+    refutation: &Refutation,
+    chunks: Vec<Option<Chunk>>,
+) -> Result<Vec<u8>, AllocError>
+    requires { AreChunks refutation.now.lines chunks.items }
     ensures { IfOk result (λ text. IsEvidenceText text.items (Evidence.Refutation refutation.now)) }
 {
     let mut out = Vec::new(alloc);
@@ -125,7 +133,7 @@ fn write_refutation(alloc: Global, refutation: &Refutation) -> Result<Vec<u8>, A
     out.push(b' ')?;
     put_number(&mut out, refutation.clauses())?;
     out.push(b'\n')?;
-    put_lines(&mut out, refutation.lines())?;
+    put_all(&mut out, refutation.lines(), chunks)?;
     out.extend_from_slice(b"tree\n")?;
     put_nodes(&mut out, refutation.tree().nodes())?;
     Ok(out)
@@ -136,7 +144,29 @@ pub fn write_evidence(alloc: Global, evidence: &Evidence) -> Result<Vec<u8>, All
     ensures { IfOk result (λ text. IsEvidenceText text.items evidence.now) }
 {
     match evidence {
-        Evidence::Refutation(refutation) => write_refutation(alloc, refutation),
+        Evidence::Refutation(refutation) => write_refutation(alloc, refutation, Vec::new(alloc)),
+        Evidence::Schedule(schedule) => write_schedule(alloc, schedule),
+    }
+}
+
+/// The same text, of which proof lines are written in so many parts, each in a thread of its own where one can be started. A part has more than a thousand
+/// lines; so there may be fewer, or none at all.
+pub fn write_evidence_in<R: Threads + Sync>(
+    rt: &R,
+    alloc: Global,
+    evidence: &Evidence,
+    parts: usize,
+) -> Result<Vec<u8>, AllocError>
+    ensures { IfOk result (λ text. IsEvidenceText text.items evidence.now) }
+{
+    if parts < 2 {
+        return write_evidence(alloc, evidence);
+    }
+    match evidence {
+        Evidence::Refutation(refutation) => {
+            let chunks = chunks_of(rt, alloc, refutation.lines(), parts)?;
+            write_refutation(alloc, refutation, chunks)
+        }
         Evidence::Schedule(schedule) => write_schedule(alloc, schedule),
     }
 }

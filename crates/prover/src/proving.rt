@@ -4,6 +4,7 @@ ghost use Rattle.std.specs.Prelude.{◌≡◌, ℕ, List, IfErr, IfNone, IfOk, I
 ghost use Rattle.callorder.specs.Programs.{MpiProgram};
 ghost use Rattle.callorder.specs.Resolving.{IsTextOf};
 ghost use Rattle.checker.specs.Verdicts.{HasFormula};
+ghost use Rattle.prooflog.specs.Grammar.{IsEvidenceText};
 ghost use Rattle.prover.specs.Answers.{Answers, FinishesIfUnknown, HasNoFormulaText};
 ghost use Rattle.formulas.specs.Numbering.{formula_of};
 ghost use Rattle.pool.specs.States.{IsUndecided};
@@ -17,7 +18,7 @@ use callorder::Program;
 use checker::{Reason, formula_of, program_of};
 use encode::Encoded;
 use pool::{AssembleFault, Pool, Why, schedule_of_run};
-use prooflog::{Evidence, TrimFault, trim, write_evidence};
+use prooflog::{Evidence, TrimFault, trim, write_evidence, write_evidence_in};
 use settings::Options;
 use std::alloc::{AllocError, Global};
 use std::mem;
@@ -25,18 +26,56 @@ use std::sync::Wait;
 use std::thread::Threads;
 use workers::Gate;
 
+/// How many parts of an evidence each worker writes. Parts differ in length.
+const PARTS_OF_A_WORKER: u32 = 4;
+
+/// In how many parts an evidence is written.
+fn part_count(options: Options) -> usize {
+    match options.workers() {
+        1 => 1,
+        workers => workers.saturating_mul(PARTS_OF_A_WORKER) as usize,
+    }
+}
+
+/// The answer of an evidence with this text.
+fn told_by(program: &Program, evidence: &Evidence, text: Vec<u8>) -> Answer
+    requires text { IsEvidenceText text.items evidence.now }
+    requires evidence { IsEvidenceOn program.now evidence.now }
+    ensures answer { (text : List ℕ) → IsTextOf text program.now → Answers text result }
+    ensures finishes { (budget : ℕ) (text : List ℕ) → FinishesIfUnknown budget text result }
+{
+    match evidence {
+        Evidence::Schedule(_schedule) => Answer::Deadlock(text),
+        Evidence::Refutation(_refutation) => Answer::NoDeadlock(text),
+    }
+}
+
 /// The answer of an evidence.
 fn told(alloc: Global, program: &Program, evidence: &Evidence) -> Answer
     requires { IsEvidenceOn program.now evidence.now }
     ensures answer { (text : List ℕ) → IsTextOf text program.now → Answers text result }
     ensures finishes { (budget : ℕ) (text : List ℕ) → FinishesIfUnknown budget text result }
 {
-    let Ok(text) = write_evidence(alloc, evidence) else {
-        return Answer::Unknown(Why::Memory);
-    };
-    match evidence {
-        Evidence::Schedule(_schedule) => Answer::Deadlock(text),
-        Evidence::Refutation(_refutation) => Answer::NoDeadlock(text),
+    match write_evidence(alloc, evidence) {
+        Ok(text) => told_by(program, evidence, text),
+        Err(AllocError) => Answer::Unknown(Why::Memory),
+    }
+}
+
+/// The same of an evidence that is written in so many parts.
+fn told_in<R: Threads + Sync>(
+    rt: &R,
+    alloc: Global,
+    program: &Program,
+    evidence: &Evidence,
+    parts: usize,
+) -> Answer
+    requires { IsEvidenceOn program.now evidence.now }
+    ensures { (text : List ℕ) → IsTextOf text program.now → Answers text result }
+{
+    match write_evidence_in(rt, alloc, evidence, parts) {
+        Ok(text) => told_by(program, evidence, text),
+        Err(AllocError) => Answer::Unknown(Why::Memory),
     }
 }
 
@@ -51,14 +90,20 @@ fn trimmed(alloc: Global, evidence: Evidence) -> Result<Evidence, AllocError>
     }
 }
 
-/// The answer of what a pool assembled.
-fn told_trimmed(alloc: Global, pool: &Pool, evidence: Evidence) -> Answer
+/// The answer of what a pool assembled, which is written in so many parts.
+fn told_trimmed<R: Threads + Sync>(
+    rt: &R,
+    alloc: Global,
+    pool: &Pool,
+    evidence: Evidence,
+    parts: usize,
+) -> Answer
     requires over { IsOver pool.now.held }
     requires evidence { IsEvidenceOn pool.now.held.program evidence }
     ensures { (text : List ℕ) → IsTextOf text pool.now.held.program → Answers text result }
 {
     match trimmed(alloc, evidence) {
-        Ok(evidence) => told(alloc, pool.program(), &evidence),
+        Ok(evidence) => told_in(rt, alloc, pool.program(), &evidence, parts),
         Err(AllocError) => Answer::Unknown(smallest_with(pool.status().why, Why::Memory)),
     }
 }
@@ -71,14 +116,20 @@ fn unnoted(was_short: bool) -> Why
 }
 
 /// What a pool says at the end of a search, in which memory may have been wanting. A leaf that is open for no reason that was noted counts
-/// as left.
-fn answer_of(alloc: Global, pool: &Pool, was_short: bool) -> Answer
+/// as left. An evidence is written in so many parts.
+fn answer_of<R: Threads + Sync>(
+    rt: &R,
+    alloc: Global,
+    pool: &Pool,
+    was_short: bool,
+    parts: usize,
+) -> Answer
     requires { IsOver pool.now.held }
     ensures answer { (text : List ℕ) → IsTextOf text pool.now.held.program → Answers text result }
     ensures undecided { IsUndecided pool.now.held → IsUnknownFor pool.now.held.reasons was_short result }
 {
     match pool.assemble(alloc) {
-        Ok(evidence) => told_trimmed(alloc, pool, evidence),
+        Ok(evidence) => told_trimmed(rt, alloc, pool, evidence, parts),
         Err(AssembleFault::Memory) => {
             Answer::Unknown(smallest_with(pool.status().why, Why::Memory))
         }
@@ -119,7 +170,7 @@ fn answer_over<G: Gate + Sync, R: Threads + Wait + Sync>(
 {
     match pool_of(rt, alloc, encoded, lent, options, gate) {
         Ok((pool, was_short)) => {
-            let answer = answer_of(alloc, &pool, was_short);
+            let answer = answer_of(rt, alloc, &pool, was_short, part_count(options));
             mem::drop(pool);
             answer
         },

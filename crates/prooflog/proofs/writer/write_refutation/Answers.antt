@@ -15,7 +15,7 @@ returns c =
     let space = c.in_ok-push.ensures.items ∙ ap (λ (t : List ℕ). t ++ 32 ∷ []) variables in
     let clauses = c.in_ok-put_number-2.ensures.written ∙ (λ i. space i ++ numeral (c.clauses.ensures.same i)) in
     let ended = c.in_ok-push-2.ensures.items ∙ ap (λ (t : List ℕ). t ++ 10 ∷ []) clauses in
-    let lines = c.in_ok-put_lines.ensures ∙ (λ i. ended i ++ flat_map item_line (map a_proof (c.lines.ensures.same i))) in
+    let lines = c.in_ok-put_all.ensures ∙ (λ i. ended i ++ flat_map item_line (map a_proof (c.lines.ensures.same i))) in
     let tree = c.in_ok-extend_from_slice-2.ensures.items ∙ ap (λ (t : List ℕ). t ++ (codes "tree" ++ 10 ∷ [])) lines in
     refutation_text c.args.refutation.now c.put_nodes.new.out.items c.variables.ensures.limits
     (c.in_ok-put_nodes.ensures ∙ (λ i. tree i ++ flat_map item_line (map a_node ((c.nodes.ensures.same ∙ c.tree.ensures.same) i))))

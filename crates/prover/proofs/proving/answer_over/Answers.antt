@@ -3,8 +3,8 @@ use Rattle.callorder.specs.Resolving.{IsTextOf}
 use Rattle.prover.proofs.Answering.{over_made}
 use Rattle.prover.proofs.proving.answer_over.Goals as goal
 
-pub answer_of-answer-requires : goal.answer_of-answer-requires
-answer_of-answer-requires g c =
+pub answer_of-answer-requires-after_bounds : goal.answer_of-answer-requires-after_bounds
+answer_of-answer-requires-after_bounds g c κs within =
     let kept = c.in-Ok.ensures in
     over_made c.args.encoded.program c.args.encoded c.in-Ok.pool.held refl c.requires.formula c.requires.within kept.program kept.formula
 
