@@ -10,13 +10,15 @@ use refutations::Line;
 use statesearch::{Closing, StateSearch};
 use std::alloc::{AllocError, Global};
 use std::mem;
+use std::ops::Range;
 
-/// A search, and how many lines it has seen, and closed states.
+/// A search, how many lines it has seen, and closed states, and where the lines stand that it wrote last.
 #[derive(Drop)]
 struct Searcher<'e> {
     search: StateSearch<'e>,
     lines: usize,
     closed: usize,
+    own: Range<usize>,
 }
 
 /// What all of them wrote and closed.
@@ -68,6 +70,7 @@ fn begun(mut search: StateSearch<'_>, number: u32) -> Searcher<'_> {
         search,
         lines: 0,
         closed: 0,
+        own: 0..0,
     }
 }
 
@@ -145,7 +148,7 @@ fn take_turn(
 
 /// Takes in what a search found, and answers whether it is an end.
 fn take(
-    searcher: &Searcher<'_>,
+    searcher: &mut Searcher<'_>,
     shared: &mut Shared<'_>,
     found: &Result<Found, SolveFault>,
     given: &mut Given,
@@ -170,7 +173,7 @@ fn take(
     }
 }
 
-/// Hands a search all lines that it hasn't seen, and which states were closed meanwhile.
+/// Hands a search, as a worker does, of the lines that it hasn't seen its own and those of one literal at most, and which states were closed meanwhile.
 fn learn(
     searcher: &mut Searcher<'_>,
     shared: &Shared<'_>,
@@ -192,7 +195,8 @@ fn import_new(
     for place in searcher.lines..shared.lines.len() {
         let number = number_at(shared.encoded, place);
         let clause = shared.lines[place].clause();
-        if searcher.search.import(alloc, number, clause).is_err() {
+        let is_taken = clause.literals().len() <= 1 || searcher.own.contains(&place);
+        if is_taken && searcher.search.import(alloc, number, clause).is_err() {
             return Err(AllocError);
         }
     }
@@ -238,10 +242,12 @@ fn number_at(encoded: &Encoded, place: usize) -> u32 {
 }
 
 /// Takes in what a search wrote and closed.
-fn tell(searcher: &Searcher<'_>, shared: &mut Shared<'_>, batch: &Batch, given: &mut Given) {
+fn tell(searcher: &mut Searcher<'_>, shared: &mut Shared<'_>, batch: &Batch, given: &mut Given) {
+    let before = shared.lines.len();
     let formula = shared.encoded.formula();
     let base = next_number(formula, shared.lines.as_slice());
     accept(formula, &mut shared.lines, batch, given);
+    searcher.own = before..shared.lines.len();
     match searcher.search.closings(given.alloc, base) {
         Ok(closings) => add_all(&mut shared.closed, closings.as_slice(), given),
         Err(_error) => given.refuse("memory"),

@@ -8,8 +8,10 @@ use cubes::CubeFault;
 use pieces::LinesFault;
 use prooflog::{
     Evidence, EvidenceFault, TrimFault, read_evidence, read_evidence_in, trim, write_evidence,
+    write_evidence_in,
 };
 use refutations::{LineFault, MakeLineFault, TreeFault};
+use std::alloc::AllocError;
 use std::thread::Threads;
 use std::{mem, str};
 use trees::SplitFault;
@@ -38,7 +40,7 @@ fn answer<R: Threads + Sync>(rt: &R, name: &str, words: &str, given: &mut Given)
     }
 }
 
-/// Answers a call about a text: `read_in`, such as `4 evidence 1/..`, reads it in so many parts.
+/// Answers a call about a text: `read_in`, such as `4 evidence 1/..`, reads it in so many parts, and writes it so.
 fn read<R: Threads + Sync>(rt: &R, name: &str, text: &str, given: &mut Given) {
     match name {
         "read" => read_whole(text, given),
@@ -50,7 +52,10 @@ fn read<R: Threads + Sync>(rt: &R, name: &str, text: &str, given: &mut Given) {
 
 fn read_whole(text: &str, given: &mut Given) {
     let read = read_evidence(given.alloc, text.as_bytes());
-    put_read(text, &read, given);
+    match &read {
+        Ok(evidence) => put_written(text, write_evidence(given.alloc, evidence), given),
+        Err(fault) => given.show(fault),
+    }
     mem::drop(read);
 }
 
@@ -64,7 +69,13 @@ fn read_in<R: Threads + Sync>(rt: &R, words: &str, given: &mut Given) {
     let (parts, text) = words.split_once(' ').unwrap_or(("", words));
     let parts = number(parts, given) as usize;
     let read = read_evidence_in(rt, given.alloc, text.as_bytes(), parts);
-    put_read(text, &read, given);
+    match &read {
+        Ok(evidence) => {
+            let written = write_evidence_in(rt, given.alloc, evidence, parts);
+            put_written(text, written, given);
+        }
+        Err(fault) => given.show(fault),
+    }
     mem::drop(read);
 }
 
@@ -83,16 +94,9 @@ fn put_fault(words: &str, given: &mut Given) {
     }
 }
 
-/// Writes `read`, where the text is written as it was read, and else its fault.
-fn put_read(text: &str, read: &Result<Evidence, EvidenceFault>, given: &mut Given) {
-    match read {
-        Ok(evidence) => put_written(text, evidence, given),
-        Err(fault) => given.show(fault),
-    }
-}
-
-fn put_written(text: &str, evidence: &Evidence, given: &mut Given) {
-    match write_evidence(given.alloc, evidence) {
+/// Writes `read`, where the text is written as it was read.
+fn put_written(text: &str, written: Result<Vec<u8>, AllocError>, given: &mut Given) {
+    match written {
         Ok(written) => given.put(if written.as_slice() == text.as_bytes() {
             "read"
         } else {
