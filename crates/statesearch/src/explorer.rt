@@ -4,7 +4,7 @@ ghost use Rattle.std.specs.Prelude.{◌≤◌, vec_len};
 
 use crate::cutting::cut_cycle;
 use crate::engine::{Engine, fill};
-use crate::lemmas::Lemmas;
+use crate::lemmas::{Lemmas, Portion};
 use crate::others::{Closing, Others, hash_of};
 use crate::tasks::{Branch, Branching, Purpose, Task};
 use batches::Batch;
@@ -49,8 +49,8 @@ pub(crate) struct Explorer<'e> {
     leaves_cycles: bool,
     /// What searches tell each other.
     others: Others,
-    /// Tells which state below another one is visited first.
-    turn: u32,
+    /// Which lemmas it makes first. Its turn tells, too, which state below another one is visited first.
+    pub(crate) portion: Portion,
 }
 
 /// The place, of so many, at which a search of this turn begins below the state that these numbers tell: the first one at turn 0.
@@ -122,13 +122,13 @@ impl<'e> Explorer<'e> {
             returned: 0,
             leaves_cycles: false,
             others: Others::new(alloc, encoded.formula().len()),
-            turn: 0,
+            portion: Portion { turn: 0, lines: 0 },
         })
     }
 
     /// Has the search of this number begin elsewhere than others.
     pub(crate) fn turn(&mut self, number: u32) {
-        self.turn = number;
+        self.portion.turn = number;
     }
 
     /// Forgets all.
@@ -418,6 +418,7 @@ impl<'e> Explorer<'e> {
             &self.shape,
             &mut self.engine,
             &mut self.others,
+            self.portion,
             batch,
         )? {
             return Ok(true);
@@ -539,7 +540,7 @@ impl<'e> Explorer<'e> {
         if are_made {
             return self.push(Task::Visit(state));
         }
-        let first = first_of(self.turn, &key, states.len());
+        let first = first_of(self.portion.turn, &key, states.len());
         self.push(Task::Finish(Branching {
             key,
             assumptions,

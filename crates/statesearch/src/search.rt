@@ -467,6 +467,7 @@ impl<'e> Explorer<'e> {
         ensures exact { IsCounted budget result.conflicts result.ending }
         ensures right { IsRight encoded.now.formula result.ending }
     {
+        self.portion.lines = usize::try_from(budget).unwrap_or(usize::MAX);
         match self.begin(alloc, encoded) {
             Ok(()) => self.go_on_within(alloc, encoded.formula(), budget, batch),
             Err(_) => Counted {
