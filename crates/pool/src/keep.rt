@@ -2,6 +2,7 @@
 
 ghost use Rattle.std.specs.Prelude.{◌≡◌, ◌↔◌, ◌≤◌, ◌<◌, ◌+◌, ◌-◌, ◌++◌, ◌∷◌, [], None, Some, ℕ, length, map, replicate, IfOk, IfErr, OnOk, OnErr, IsTrue, IsSome, IsOk, Err};
 ghost use Rattle.std.specs.Option.{option_map};
+ghost use Rattle.std.specs.Arc.{arc_value};
 ghost use Rattle.trees.specs.Trees.{HasNoRoom, IsLeaf, path_at, split_at};
 ghost use Rattle.prooflog.specs.declared.refutation.Version.TheVariants.{One};
 ghost use Rattle.pool.specs.Counts.{open_count};
@@ -28,6 +29,7 @@ use refutations::{PartialAssignment, clause_at, refutes};
 use semantics::{End, ReplayFault, Step, replay};
 use std::alloc::{AllocError, Global};
 use std::marker::Model;
+use std::sync::Arc;
 use trees::{GREATEST_DEPTH, MOST_NODES, Tree};
 
 /// How far the search is.
@@ -47,7 +49,7 @@ pub struct Status {
 /// in order, but for those that were refused for want of memory.
 #[derive(Drop)]
 pub struct Pool {
-    encoded: Encoded,
+    encoded: Arc<Encoded>,
     tree: Tree,
     closed: Vec<u32>,
     open_leaves: u32,
@@ -60,14 +62,15 @@ pub struct Pool {
 impl Model for Pool {
     ghost use Rattle.std.specs.Prelude.{◌≡◌, ◌+◌, length};
     ghost use Rattle.std.specs.Option.{option_map};
+    ghost use Rattle.std.specs.Arc.{arc_value};
     ghost use Rattle.pool.specs.Counts.{open_count};
     ghost use Rattle.pool.specs.States.{Kept, IsSound, held_of};
 
     ghost Value = { Kept };
 
-    ghost view = { λ a. record { held = held_of a.encoded a.tree a.closed.items a.log (option_map (λ s. s.items) a.schedule) a.ledger.reasons; history = a.ledger.history; places = a.ledger.places } };
+    ghost view = { λ a. record { held = held_of (arc_value a.encoded) a.tree a.closed.items a.log (option_map (λ s. s.items) a.schedule) a.ledger.reasons; history = a.ledger.history; places = a.ledger.places } };
 
-    ghost invariant = { λ a. IsSound (held_of a.encoded a.tree a.closed.items a.log (option_map (λ s. s.items) a.schedule) a.ledger.reasons) × (a.open_leaves ≡ open_count a.tree.nodes a.closed.items) × (length a.known ≡ a.encoded.formula.variables + 1) };
+    ghost invariant = { λ a. IsSound (held_of (arc_value a.encoded) a.tree a.closed.items a.log (option_map (λ s. s.items) a.schedule) a.ledger.reasons) × (a.open_leaves ≡ open_count a.tree.nodes a.closed.items) × (length a.known ≡ (arc_value a.encoded).formula.variables + 1) };
 }
 
 /// How many leaves the tree has.
@@ -156,24 +159,25 @@ impl Pool {
         requires { tree.variables ≡ encoded.formula.variables }
         ensures { IfOk result (λ pool. pool ≡ opening encoded tree) }
     {
-        match tables(alloc, encoded.formula(), &tree) {
-            Ok((closed, known)) => Ok(Pool::opened(alloc, encoded, tree, closed, known)),
-            Err(AllocError) => Err(AllocError),
+        let (closed, known) = tables(alloc, encoded.formula(), &tree)?;
+        match Arc::new(alloc, encoded) {
+            Ok(encoded) => Ok(Pool::opened(alloc, encoded, tree, closed, known)),
+            Err(_) => Err(AllocError),
         }
     }
 
     /// The pool with its tables, in which nothing was done yet.
     fn opened(
         alloc: Global,
-        encoded: Encoded,
+        encoded: Arc<Encoded>,
         tree: Tree,
         closed: Vec<u32>,
         known: PartialAssignment,
     ) -> Pool
-        requires variables { tree.variables ≡ encoded.formula.variables }
+        requires variables { tree.variables ≡ (arc_value encoded).formula.variables }
         requires closed { closed.items ≡ replicate (length tree.nodes) 0 }
-        requires known { length known ≡ encoded.formula.variables + 1 }
-        ensures { result ≡ opening encoded tree }
+        requires known { length known ≡ (arc_value encoded).formula.variables + 1 }
+        ensures { result ≡ opening (arc_value encoded) tree }
     {
         let _program = encoded.program();
         let _formula = encoded.formula();
@@ -211,6 +215,15 @@ impl Pool {
         ensures formula { result.now.formula ≡ self.now.held.formula }
     {
         &self.encoded
+    }
+
+    /// The same for whoever reads it while others have the pool. It isn't copied. The only error is want of memory.
+    pub fn lend_encoded(&self) -> Result<Arc<Encoded>, AllocError>
+        ensures program { IfOk result (λ lent. (arc_value lent).program ≡ self.now.held.program) }
+        ensures formula { IfOk result (λ lent. (arc_value lent).formula ≡ self.now.held.formula) }
+    {
+        let lent = Arc::try_clone(&self.encoded)?;
+        Ok(lent)
     }
 
     /// The calls so far, in order, but for those that were answered with want of memory.

@@ -13,11 +13,7 @@ use std::mem;
 use std::thread::Threads;
 
 /// The program of a text, with its formula, or the first reason why there is none.
-pub(crate) fn encoded_of(
-    rt: &(impl Threads + Sync),
-    alloc: Global,
-    program: &[u8],
-) -> Result<Encoded, Reason>
+fn encoded_of(rt: &(impl Threads + Sync), alloc: Global, program: &[u8]) -> Result<Encoded, Reason>
     ensures encoded { IfOk result (IsFormulaOf program.now) }
     ensures reason { IfErr result (HasNoFormulaText program.now) }
 {

@@ -8,11 +8,10 @@ ghost use Rattle.prooflog.specs.Grammar.{IsEvidenceText};
 ghost use Rattle.prover.specs.Answers.{Answers, FinishesIfUnknown, HasNoFormulaText};
 ghost use Rattle.formulas.specs.Numbering.{formula_of};
 ghost use Rattle.pool.specs.States.{IsUndecided};
-ghost use Rattle.prover.specs.Searches.{HasFinishedRun, IsEvidenceOn, IsFormulaOf, IsOver, IsUnknownFor, unnoted};
+ghost use Rattle.prover.specs.Searches.{HasFinishedRun, IsEvidenceOn, IsOver, IsUnknownFor, unnoted};
 
 use crate::answer::Answer;
 use crate::explore::stuck_walk;
-use crate::formula::encoded_of;
 use crate::search::{pool_of, smallest_with};
 use callorder::Program;
 use checker::{Reason, formula_of, program_of};
@@ -155,12 +154,11 @@ fn walked(alloc: Global, program: &Program) -> Option<Answer>
     }
 }
 
-/// The answer of a search over a formula, whose workers read `lent`.
+/// The answer of a search over a formula.
 fn answer_over<G: Gate + Sync, R: Threads + Wait + Sync>(
     rt: &R,
     alloc: Global,
     encoded: Encoded,
-    lent: &Encoded,
     options: Options,
     gate: &G,
 ) -> Answer
@@ -168,7 +166,7 @@ fn answer_over<G: Gate + Sync, R: Threads + Wait + Sync>(
     requires within { HasFormula encoded.program }
     ensures { (text : List ℕ) → IsTextOf text encoded.program → Answers text result }
 {
-    match pool_of(rt, alloc, encoded, lent, options, gate) {
+    match pool_of(rt, alloc, encoded, options, gate) {
         Ok((pool, was_short)) => {
             let answer = answer_of(rt, alloc, &pool, was_short, part_count(options));
             mem::drop(pool);
@@ -178,47 +176,19 @@ fn answer_over<G: Gate + Sync, R: Threads + Wait + Sync>(
     }
 }
 
-/// The same for the formula of the text's program. The workers' copy of it is made from the text.
-fn searched_over<G: Gate + Sync, R: Threads + Wait + Sync>(
-    rt: &R,
-    alloc: Global,
-    text: &[u8],
-    encoded: Encoded,
-    options: Options,
-    gate: &G,
-) -> Result<Answer, Reason>
-    requires { IsFormulaOf text.now encoded }
-    ensures answer { IfOk result (Answers text.now) }
-    ensures reason { IfErr result (HasNoFormulaText text.now) }
-{
-    match encoded_of(rt, alloc, text) {
-        Ok(lent) => {
-            let answer = answer_over(rt, alloc, encoded, &lent, options, gate);
-            mem::drop(lent);
-            Ok(answer)
-        },
-        Err(reason) => {
-            mem::drop(encoded);
-            Err(reason)
-        },
-    }
-}
-
-/// The answer of a search over the formula of the text's program, or why it has none.
+/// The answer of a search over the formula of the program, or why it has none.
 fn searched<G: Gate + Sync, R: Threads + Wait + Sync>(
     rt: &R,
     alloc: Global,
-    text: &[u8],
     program: Program,
     options: Options,
     gate: &G,
 ) -> Result<Answer, Reason>
-    requires { IsTextOf text.now program }
-    ensures answer { IfOk result (Answers text.now) }
-    ensures reason { IfErr result (HasNoFormulaText text.now) }
+    ensures answer { IfOk result (λ answer. (text : List ℕ) → IsTextOf text program → Answers text answer) }
+    ensures reason { IfErr result (λ reason. (text : List ℕ) → IsTextOf text program → HasNoFormulaText text reason) }
 {
     match formula_of(rt, alloc, program) {
-        Ok(encoded) => searched_over(rt, alloc, text, encoded, options, gate),
+        Ok(encoded) => Ok(answer_over(rt, alloc, encoded, options, gate)),
         Err(reason) => Err(reason),
     }
 }
@@ -240,11 +210,11 @@ fn answered<G: Gate + Sync, R: Threads + Wait + Sync>(
         Err(reason) => return Err(reason),
     };
     if options.budget() == 0 {
-        return searched(rt, alloc, text, program, options, gate);
+        return searched(rt, alloc, program, options, gate);
     }
     match walked(alloc, &program) {
         Some(answer) => Ok(answer),
-        None => searched(rt, alloc, text, program, options, gate),
+        None => searched(rt, alloc, program, options, gate),
     }
 }
 
@@ -258,8 +228,8 @@ fn answered<G: Gate + Sync, R: Threads + Wait + Sync>(
 ///
 /// Walks come first, before any formula is made, if the budget is above 0: runs that go on until no step is enabled. They differ in whether they
 /// buffer, whether they match or issue first, and which rank and which match comes first, and then for each rank one holds it back as long
-/// as it can. Where none ends stuck, the whole formula is searched for at most 4,000 conflicts, which count for worker 0. Then as many workers as the
-/// options say search the cubes of the tree that `split` gives at the depth of the options, each with the budget of the options and in a
+/// as it can. Where none ends stuck, the whole formula is searched for at most 4,000 conflicts, which count for worker 0; where there are several workers, all but
+/// the first 1,000 beside them. Then as many workers as the options say search the cubes of the tree that `split` gives at the depth of the options, each with the budget of the options and in a
 /// thread of its own where one can be started. Cube k of the first tree, from 0 in the order of its nodes, goes to worker k modulo their number; a
 /// worker without cubes takes another's. Each searches over sets of matched calls, too, in turn with cubes; these sets are shared. Who
 /// refutes the formula first closes all cubes. The options may ask for some of these searches alone. `gate.before` is called before each cube,

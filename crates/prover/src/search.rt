@@ -211,7 +211,7 @@ fn begun<B: Room, G: Gate, R: Wait>(
         return Begun::nothing();
     }
     match seats.first_mut() {
-        Some(seat) => open(rt, alloc, common, seat, cubes),
+        Some(seat) => open(rt, alloc, common, seat, cubes, options.workers()),
         None => Begun::nothing(),
     }
 }
@@ -223,7 +223,6 @@ fn search_in<B: Room + Send + Sync, G: Gate + Sync, R: Threads + Wait + Sync>(
     cell: Cell,
     keeper: Token,
     pool: Pool,
-    encoded: &Encoded,
     cubes: &[u32],
     options: Options,
     gate: &G,
@@ -235,6 +234,9 @@ fn search_in<B: Room + Send + Sync, G: Gate + Sync, R: Threads + Wait + Sync>(
     ensures formula { IfOk result (λ made. made.0.held.formula ≡ pool.held.formula) }
 {
     let workers = options.workers();
+    let Ok(lent) = pool.lend_encoded() else {
+        return Err(Why::Memory);
+    };
     let Ok((shared, mut seats)) = SharedPool::<B>::new(alloc, cell, keeper, pool, workers) else {
         return Err(Why::Memory);
     };
@@ -242,7 +244,7 @@ fn search_in<B: Room + Send + Sync, G: Gate + Sync, R: Threads + Wait + Sync>(
     let kept = KeptLines::new();
     let closed = ClosedStates::new(alloc);
     let first = Common {
-        encoded,
+        encoded: &lent,
         shared: &shared,
         gate,
         events: &events,
@@ -292,13 +294,11 @@ fn opened(alloc: Global, encoded: Encoded, depth: u32) -> Result<(Pool, Vec<u32>
     }
 }
 
-/// The pool at the end of a search over a program's formula, and whether memory was wanting at the end, or why there is no pool. The
-/// worker reads `lent`, which is the same program with its formula: the first is the pool's.
+/// The pool at the end of a search over a program's formula, and whether memory was wanting at the end, or why there is no pool.
 pub fn pool_of<G: Gate + Sync, R: Threads + Wait + Sync>(
     rt: &R,
     alloc: Global,
     encoded: Encoded,
-    lent: &Encoded,
     options: Options,
     gate: &G,
 ) -> Result<(Pool, bool), Why>
@@ -310,5 +310,5 @@ pub fn pool_of<G: Gate + Sync, R: Threads + Wait + Sync>(
         return Err(Why::Memory);
     };
     let (pool, cubes) = opened(alloc, encoded, options.depth())?;
-    search_in::<Brand, G, R>(rt, alloc, cell, keeper, pool, lent, &cubes, options, gate)
+    search_in::<Brand, G, R>(rt, alloc, cell, keeper, pool, &cubes, options, gate)
 }

@@ -24,6 +24,8 @@ pub struct Begun {
     pub conflicts: u64,
     /// Whether the match variables were probed.
     pub is_probed: bool,
+    /// How many conflicts worker 0 counts with no cube before it goes on as the others do.
+    pub whole: u64,
     /// Why worker 0 has to leave; none where it may go on.
     pub why: Option<Why>,
 }
@@ -34,6 +36,7 @@ impl Begun {
         Begun {
             conflicts: 0,
             is_probed: false,
+            whole: 0,
             why: None,
         }
     }
@@ -71,6 +74,11 @@ impl<S, G> Common<'_, S, G> {
         } else {
             budget
         }
+    }
+
+    /// How many conflicts this worker, from 0, counts with no cube at first.
+    pub(crate) fn whole(&self, worker: u32) -> u64 {
+        if worker == 0 { self.begun.whole } else { 0 }
     }
 
     /// How much of the budget is used where so much is left.

@@ -1,4 +1,4 @@
-//! What is searched before the workers begin.
+//! What is searched with no cube, before the workers begin and beside them.
 
 use crate::common::{Begun, Common};
 use crate::gate::{Gate, Searched};
@@ -6,13 +6,19 @@ use crate::numbers::number_of;
 use crate::stop::Stop;
 use crate::worker::Worker;
 use cdcl::Found;
-use pool::Share;
+use pool::{Share, Why};
 use std::alloc::Global;
 use std::mem;
 use std::sync::Wait;
 
-/// How many conflicts the first search counts at most.
+/// How many conflicts are counted with no cube at most.
 const MOST_CONFLICTS: u64 = 4_000;
+
+/// How many of them before other workers begin, where there are some.
+const FIRST_CONFLICTS: u64 = 1_000;
+
+/// How many of them at a time once others have begun, since what they find meanwhile is seen after that alone.
+const CONFLICTS_AT_A_TIME: u64 = 250;
 
 /// Closes these cubes by the clause of this number, which has no literals.
 fn close_all<S: Share, R: Wait>(
@@ -28,95 +34,115 @@ fn close_all<S: Share, R: Wait>(
     Ok(())
 }
 
-/// Hands on what the first search found.
-fn hand_on<S: Share, R: Wait>(
-    rt: &R,
-    worker: &Worker<'_>,
-    shared: &S,
-    seat: &mut S::Seat,
-    cubes: &[u32],
-    found: &Found,
-) -> Result<(), Stop> {
-    match found {
-        Found::Closed(batch, last) => {
-            let base = shared.publish(rt, worker.alloc, seat, batch)?;
-            close_all(rt, shared, seat, cubes, number_of(base, *last))
+impl Worker<'_> {
+    /// Hands on what a search with no cube found, and closes these cubes where it refuted the formula.
+    fn hand_on_whole<S: Share, R: Wait>(
+        &mut self,
+        rt: &R,
+        shared: &S,
+        seat: &mut S::Seat,
+        cubes: &[u32],
+        found: &Found,
+    ) -> Result<(), Stop> {
+        match found {
+            Found::Closed(batch, last) => {
+                let base = self.publish(rt, shared, seat, batch)?;
+                let number = number_of(base, *last);
+                self.refuted = Some(number);
+                close_all(rt, shared, seat, cubes, number)
+            }
+            Found::Model(assignment) => self.tell(rt, shared, seat, assignment),
+            Found::Budget(batch) => {
+                self.publish(rt, shared, seat, batch)?;
+                Ok(())
+            }
         }
-        Found::Model(assignment) => worker.tell(rt, shared, seat, assignment),
-        Found::Budget(batch) => {
-            shared.publish(rt, worker.alloc, seat, batch)?;
-            Ok(())
+    }
+
+    /// Searches with no cube for at most so many conflicts, closes these cubes where that refutes the formula, and calls the gate. Answers how many
+    /// conflicts there were.
+    fn search_whole<S: Share, G: Gate, R: Wait>(
+        &mut self,
+        rt: &R,
+        common: &Common<S, G>,
+        seat: &mut S::Seat,
+        cubes: &[u32],
+        most: u64,
+    ) -> Result<u64, Stop> {
+        let (found, conflicts) = self.learn(&[], most)?;
+        self.hand_on_whole(rt, common.shared, seat, cubes, &found)?;
+        let open = common.shared.status(rt).open_leaves;
+        let used = common.used(self.left);
+        common
+            .gate
+            .after(0, Searched::of(&found, 0, open, conflicts, used, false));
+        Ok(conflicts)
+    }
+
+    /// Searches on with no cube beside other workers, with all lines that the log has by now.
+    pub(crate) fn go_on_whole<S: Share, G: Gate, R: Wait>(
+        &mut self,
+        rt: &R,
+        common: &Common<S, G>,
+        seat: &mut S::Seat,
+    ) -> Result<(), Stop> {
+        self.catch_up(rt, common.shared, seat)?;
+        if self.refuted.is_some() {
+            return Ok(());
         }
+        let most = self.whole.min(CONFLICTS_AT_A_TIME);
+        self.search_whole(rt, common, seat, &[], most)?;
+        self.whole = self.whole.saturating_sub(most);
+        if self.left == 0 && self.refuted.is_none() {
+            return Err(Stop { why: Why::Budget });
+        }
+        Ok(())
     }
 }
 
-/// Hands on what the first search found after so many conflicts, and calls the gate.
-fn tell<S: Share, G: Gate, R: Wait>(
-    rt: &R,
-    worker: &Worker<'_>,
-    common: &Common<S, G>,
-    seat: &mut S::Seat,
-    cubes: &[u32],
-    found: &Found,
-    conflicts: u64,
-) -> Result<(), Stop> {
-    hand_on(rt, worker, common.shared, seat, cubes, found)?;
-    let open = common.shared.status(rt).open_leaves;
-    let used = common.used(worker.left);
-    common
-        .gate
-        .after(0, Searched::of(found, 0, open, conflicts, used, false));
-    Ok(())
-}
-
-/// Searches with no cube, and answers how many conflicts that took.
-fn search<S: Share, G: Gate, R: Wait>(
-    rt: &R,
-    worker: &mut Worker<'_>,
-    common: &Common<S, G>,
-    seat: &mut S::Seat,
-    cubes: &[u32],
-) -> Result<u64, Stop> {
-    let (found, conflicts) = worker.search(&[], MOST_CONFLICTS)?;
-    match tell(rt, worker, common, seat, cubes, &found, conflicts) {
-        Ok(()) => Ok(conflicts),
-        Err(stop) => Err(stop),
-    }
-}
-
-/// Searches with no cube by a worker of its own, and answers how many conflicts that took.
-fn search_all<S: Share, G: Gate, R: Wait>(
+/// Searches with no cube by a worker of its own.
+fn search_first<S: Share, G: Gate, R: Wait>(
     rt: &R,
     alloc: Global,
     common: &Common<S, G>,
     seat: &mut S::Seat,
     cubes: &[u32],
+    most: u64,
 ) -> Result<u64, Stop> {
     let mut worker = Worker::new(alloc, common, 0)?;
-    let end = search(rt, &mut worker, common, seat, cubes);
+    let end = worker.search_whole(rt, common, seat, cubes, most);
     mem::drop(worker);
     end
 }
 
-/// Searches the whole formula, with no cube, before the workers begin: match variables are probed, and at most 4,000 conflicts are
-/// counted, and at most those of the budget. Where that refutes the formula, these cubes are closed. What was learnt is published, so that workers need
-/// not probe again. The gate is called after the search, as if it were one of worker 0.
+/// Searches the whole formula, with no cube, before so many workers begin: match variables are probed, and at most 4,000 conflicts are
+/// counted, and at most those of the budget; where there are several workers, at most 1,000 now, and the others by worker 0 when all have begun. Where that
+/// refutes the formula, these cubes are closed. What was learnt is published, so that workers need not probe again. The gate is called after the search, as if
+/// it were one of worker 0.
 pub fn open<S: Share, G: Gate, R: Wait>(
     rt: &R,
     alloc: Global,
     common: &Common<S, G>,
     seat: &mut S::Seat,
     cubes: &[u32],
+    workers: u32,
 ) -> Begun {
-    match search_all(rt, alloc, common, seat, cubes) {
+    let most = if workers > 1 {
+        FIRST_CONFLICTS
+    } else {
+        MOST_CONFLICTS
+    };
+    match search_first(rt, alloc, common, seat, cubes, most) {
         Ok(conflicts) => Begun {
             conflicts,
             is_probed: true,
+            whole: MOST_CONFLICTS.saturating_sub(most),
             why: None,
         },
         Err(stop) => Begun {
             conflicts: 0,
             is_probed: true,
+            whole: 0,
             why: Some(stop.why),
         },
     }

@@ -50,6 +50,8 @@ pub(crate) struct Worker<'e> {
     own: Range<usize>,
     /// How many conflicts may still be counted.
     pub(crate) left: u64,
+    /// How many conflicts it counts with no cube before it searches otherwise.
+    pub(crate) whole: u64,
     /// The search over sets of matched calls, where this worker has one.
     pub(crate) exploration: Option<Exploration<'e>>,
     /// The number of an empty clause, which refutes each cube.
@@ -110,6 +112,7 @@ impl<'e> Worker<'e> {
             seen: 0,
             own: 0..0,
             left: common.left(worker),
+            whole: common.whole(worker),
             exploration: None,
             refuted: None,
         })
@@ -184,11 +187,17 @@ impl<'e> Worker<'e> {
     }
 
     /// Searches below the path for at most so many conflicts, and at most those that are left. Answers how many were counted, too.
-    pub(crate) fn search(&mut self, path: &[Lit], most: u64) -> Result<(Found, u64), Stop> {
+    pub(crate) fn learn(&mut self, path: &[Lit], most: u64) -> Result<(Found, u64), Stop> {
         let budget = self.left.min(most);
         let found = self.solver.search(self.alloc, path, budget)?;
         let conflicts = self.solver.conflicts();
         self.left = self.left.saturating_sub(conflicts);
+        Ok((found, conflicts))
+    }
+
+    /// The same below a cube, which is a turn of that search.
+    fn search(&mut self, path: &[Lit]) -> Result<(Found, u64), Stop> {
+        let (found, conflicts) = self.learn(path, MOST_CONFLICTS)?;
         if let Some(exploration) = &mut self.exploration {
             exploration.count(conflicts);
         }
@@ -196,7 +205,7 @@ impl<'e> Worker<'e> {
     }
 
     /// Publishes these lines, which the solver learnt. Answers the number of the first.
-    fn publish<S: Share, R: Wait>(
+    pub(crate) fn publish<S: Share, R: Wait>(
         &mut self,
         rt: &R,
         shared: &S,
@@ -274,7 +283,7 @@ impl<'e> Worker<'e> {
     }
 
     /// Imports the solver's own and the shortest of the lines that the log has by now and this worker hasn't seen.
-    fn catch_up<S: Share, R: Wait>(
+    pub(crate) fn catch_up<S: Share, R: Wait>(
         &mut self,
         rt: &R,
         shared: &S,
@@ -352,7 +361,7 @@ impl<'e> Worker<'e> {
     ) -> Result<Next, Stop>
         ensures { C.deques cubes.new ≡ C.deques cubes.old }
     {
-        let (found, conflicts) = self.search(path, MOST_CONFLICTS)?;
+        let (found, conflicts) = self.search(path)?;
         self.tell_found(
             rt, common, seat, cubes, worker, cube, path, &found, conflicts,
         )
@@ -380,6 +389,25 @@ impl<'e> Worker<'e> {
         self.search_below(rt, common, seat, cubes, worker, cube, &path)
     }
 
+    /// One search that is below no cube, where there is one to do now: with none, or over sets of matched calls. Answers whether there was.
+    fn searches_all<S: Share, G: Gate, R: Wait>(
+        &mut self,
+        rt: &R,
+        common: &Common<S, G>,
+        seat: &mut S::Seat,
+        worker: u32,
+    ) -> Result<bool, Stop> {
+        if self.whole > 0 && self.refuted.is_none() {
+            self.go_on_whole(rt, common, seat)?;
+            return Ok(true);
+        }
+        if self.explores(common.kept) {
+            self.explore(rt, common, seat, worker)?;
+            return Ok(true);
+        }
+        Ok(false)
+    }
+
     /// Searches below one cube after another, until the search is over. Without a cube it pauses, and ends too where another worker left for a
     /// reason.
     fn run<S: Share, C: Cubes, G: Gate, R: Wait>(
@@ -401,8 +429,7 @@ impl<'e> Worker<'e> {
             if is_over(&status) {
                 return Ok(());
             }
-            if self.explores(common.kept) {
-                self.explore(rt, common, seat, worker)?;
+            if self.searches_all(rt, common, seat, worker)? {
                 common.events.advance();
                 continue;
             }
@@ -473,6 +500,8 @@ fn reason<S: Share, C: Cubes, G: Gate, R: Wait>(
 /// A search counts at most 2,000 conflicts, and all of them at most as many as the budget; after each the cube is closed,
 /// split or, where the tree has no room, searched on. A cube is split on the match variable that took part in most conflicts of those that
 /// have no value below its path; where there is none, on the first variable that isn't on it, match variables first, in the branching order.
+///
+/// Worker 0 begins with what the opening left to it: searches with no cube, of 250 conflicts at most each.
 ///
 /// Where that is wanted it also searches over sets of matched calls, at first 32 lines at a time and later up to 1,000, each of which counts as a
 /// conflict of its budget: in turn with cubes, where a conflict counts as four lines, or as long as that search goes on. It tells the other workers

@@ -1,15 +1,23 @@
-use Rattle.std.proofs.Common.{◌≡◌, length, replicate, arith, ap, sym, ◌∙◌}
+use Rattle.std.proofs.Common.{◌≡◌, ◌≤◌, length, replicate, arith, ap, sym, subst, ◌∙◌}
+use Rattle.std.specs.Arc.{arc_value}
+use Rattle.formulas.specs.Numbering.{formula_of}
+use Rattle.formulas.specs.Families.{events}
+use Rattle.encode.specs.Encodings.{EncodedProgram}
 use Rattle.pool.specs.Counts.{open_count}
 use Rattle.pool.proofs.Soundness.{sound_opening, sound_opened}
 use Rattle.pool.proofs.keep.Pool.opened.Goals as goal
 
 pub invariant_of-result : goal.invariant_of-result
 invariant_of-result c =
-    let e = c.args.encoded in
+    let e = arc_value c.args.encoded in
     let tree = c.args.tree in
     let zeros : c.args.closed.items ≡ replicate (length tree.nodes) 0 = c.requires.closed in (
       sound_opened e tree c.args.closed.items c.new.result c.new-2.result.reasons zeros c.new.ensures c.new-2.ensures.reasons
-          (sound_opening e tree c.formula-formula.ensures.is c.program-program.ensures.few c.formula-formula.ensures.few c.variables-variables.ensures.grown c.requires.variables),
+          (sound_opening e tree
+          (subst (λ (x : EncodedProgram). x.formula ≡ formula_of x.program) c.deref-2.ensures c.formula-formula.ensures.is)
+          (subst (λ (x : EncodedProgram). length (events x.program) ≤ 1024) c.deref.ensures c.program-program.ensures.few)
+          (subst (λ (x : EncodedProgram). length x.formula.clauses ≤ 4000000) c.deref-2.ensures c.formula-formula.ensures.few)
+          c.variables-variables.ensures.grown c.requires.variables),
       c.leaves_of-open_leaves.ensures ∙ ap (open_count tree.nodes) (sym zeros),
-      omega (arith, c.requires.known, ap (λ f. f.variables) c.formula-formula.ensures.same),
+      omega (arith, c.requires.known, ap (λ f. f.variables) c.formula-formula.ensures.same, ap (λ (x : EncodedProgram). x.formula.variables) c.deref-2.ensures),
     )
