@@ -2,6 +2,7 @@
 
 use crate::analysis::Learnt;
 use crate::order::Order;
+use crate::probing::most_in_vain;
 use crate::stamps::Stamps;
 use clauses::{Clause, Formula, Lit};
 use propagation::{
@@ -28,7 +29,7 @@ pub(crate) struct Engine {
     /// How many clauses of more than one level there are beside the formula's, and how many are too many.
     pub(crate) learnt: usize,
     pub(crate) limit: usize,
-    /// The literals to probe, which of them is probed next, and how many are probed until all were since the last one failed.
+    /// The literals to probe, which of them is probed next, and how many are still probed where none fails.
     pub(crate) probes: Vec<u32>,
     pub(crate) probe_place: usize,
     pub(crate) probes_left: usize,
@@ -81,7 +82,7 @@ impl Engine {
             learnt: 0,
             limit: FIRST_LIMIT,
             probe_place: 0,
-            probes_left: probes.len(),
+            probes_left: most_in_vain(probes.len()),
             probes,
         })
     }

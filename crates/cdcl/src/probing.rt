@@ -4,6 +4,15 @@ use crate::engine::Engine;
 use propagation::Truth;
 use std::alloc::{AllocError, Global};
 
+/// How many variables in a row are probed in vain at most. A probe is as dear as a conflict where the formula is large, and those that fail
+/// mostly follow on each other.
+const MOST_IN_VAIN: usize = 512;
+
+/// How many of so many variables are probed at most where none fails.
+pub(crate) fn most_in_vain(variables: usize) -> usize {
+    variables.min(MOST_IN_VAIN)
+}
+
 impl Engine {
     /// The variable to probe next, as its positive literal.
     fn next_probe(&mut self) -> Option<u32> {
@@ -35,7 +44,7 @@ impl Engine {
         }
         let conflict = self.propagate_alone(alloc, code)?;
         if conflict.is_some() {
-            self.probes_left = self.probes.len().saturating_add(1);
+            self.probes_left = most_in_vain(self.probes.len().saturating_add(1));
         } else {
             self.back(0);
         }

@@ -94,9 +94,9 @@ fn is_foreign(variables: u32, cube: &[Lit]) -> bool
 }
 
 impl<'f> Solver<'f> {
-    /// A solver of this formula. The variables of the numbers `probed` are probed at the start of the first search: each
-    /// that can't be true alone gets its value without a decision. Numbers that are no variable of the formula are left
-    /// out. Clauses from number 2^31 on are left out, too, since no line could name them, and so are clauses past 2^32 words
+    /// A solver of this formula. The variables of the numbers `probed` are probed at the start of the first search, in this order and again from
+    /// the first on, until 512 in a row, or all, were probed in vain: each that can't be true alone gets its value without a decision. Numbers that
+    /// are no variable of the formula are left out. Clauses from number 2^31 on are left out, too, since no line could name them, and so are clauses past 2^32 words
     /// of all clauses, of which each takes three more than it has literals.
     pub fn new(
         alloc: Global,

@@ -14,6 +14,7 @@ mod imports;
 mod kept;
 mod numbers;
 mod opening;
+mod probing;
 mod source;
 mod stop;
 mod worker;

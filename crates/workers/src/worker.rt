@@ -9,6 +9,7 @@ use crate::exploring::Exploration;
 use crate::gate::{Gate, Searched};
 use crate::imports::longest;
 use crate::numbers::{line_number, line_place, number_of};
+use crate::probing::probing_order;
 use crate::source::Cubes;
 use crate::stop::Stop;
 use batches::{Batch, Hint};
@@ -98,12 +99,12 @@ impl<'e> Worker<'e> {
     ) -> Result<Worker<'e>, AllocError> {
         let encoded = common.encoded;
         let variables = branching_variables(alloc, encoded)?;
-        let probed: &[u32] = if common.begun.is_probed {
-            &[]
+        let probed = if common.begun.is_probed {
+            Vec::new(alloc)
         } else {
-            &variables
+            probing_order(alloc, encoded, &variables)?
         };
-        let solver = Solver::new(alloc, encoded.formula(), probed)?;
+        let solver = Solver::new(alloc, encoded.formula(), &probed)?;
         Ok(Worker {
             alloc,
             encoded,
