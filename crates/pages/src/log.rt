@@ -2,6 +2,7 @@
 
 ghost use Rattle.std.specs.Prelude.{◌≡◌, ◌+◌, ◌++◌, ◌∷◌, [], ◌≤◌, ◌<◌, ◌^◌, drop, length, IfOk, OnOk, OnErr, slice_get, vec_capacity, vec_len};
 ghost use Rattle.std.specs.Option.{option_map};
+ghost use Rattle.pages.specs.Pages.{joined};
 
 use crate::lines::Lines;
 use crate::page::{LINES_PER_PAGE, Page, copied, page_of, shared};
@@ -46,6 +47,17 @@ pub(crate) fn paged(alloc: Global, lines: Vec<Line>) -> Result<Log, AllocError>
         log.push(alloc, line)?;
     }
     Ok(log)
+}
+
+/// The lines of these pages, one after another, with room for so many.
+fn joined(alloc: Global, pages: Vec<Page>, count: usize) -> Result<Vec<Line>, AllocError>
+    ensures { IfOk result (λ lines. lines.items ≡ joined pages.items) }
+{
+    let mut lines = Vec::with_capacity(alloc, count)?;
+    for page in pages {
+        lines.append(&mut page.into_lines(alloc)?)?;
+    }
+    Ok(lines)
 }
 
 /// Appends a page and those after it, for which there is room.
@@ -127,6 +139,17 @@ impl Log {
         push_pages(&mut self.pages, page, &mut later);
         self.last = last;
         Ok(())
+    }
+
+    /// All lines. Those of pages that are shared with nobody are moved out, and others copied.
+    pub fn into_lines(self, alloc: Global) -> Result<Vec<Line>, AllocError>
+        ensures { IfOk result (λ lines. lines.items ≡ self) }
+    {
+        let count = self.len();
+        let Log { pages, mut last } = self;
+        let mut lines = joined(alloc, pages, count)?;
+        lines.append(&mut last)?;
+        Ok(lines)
     }
 
     /// The lines after the first `from` ones, as they are now. Full pages are shared, so this takes

@@ -47,6 +47,16 @@ impl Page {
         self.lines.get(place)
     }
 
+    /// The lines of the page, which are moved out where nobody else has it, and copied otherwise.
+    pub(crate) fn into_lines(self, alloc: Global) -> Result<Vec<Line>, AllocError>
+        ensures { IfOk result (λ lines. lines.items ≡ self) }
+    {
+        match Arc::try_unwrap(self.lines) {
+            Ok(lines) => Ok(lines),
+            Err(shared) => copied(alloc, &shared, 0),
+        }
+    }
+
     /// The same page once more. Copies no line.
     pub(crate) fn share(&self) -> Result<Page, AllocError>
         ensures { IfOk result (λ page. page ≡ self.now) }

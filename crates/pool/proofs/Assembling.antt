@@ -4,7 +4,6 @@ use Rattle.std.specs.List.{list_all}
 use Rattle.std.specs.Option.{option_map, IsNone}
 use Rattle.std.proofs.lemmas.Bool.{and_from, le-leb}
 use Rattle.std.proofs.lemmas.List.{length-append, length-map, take_more}
-use Rattle.std.proofs.lemmas.List.Folds.{list_all-append}
 use Rattle.std.proofs.lemmas.Option.{slice_get-get_or, slice_get_within, get_or_from_slice_get}
 use Rattle.clauses.specs.Clauses.{Literal, Conjunction}
 use Rattle.refutations.specs.declared.tree.Node.{Node}
@@ -74,14 +73,6 @@ one_more_copied log lines more place line copy at same so_far is =
     ∙ ap (λ (ls : List ProofLine). ls ++ copy ∷ []) so_far
     ∙ ap (λ (l : ProofLine). take place log ++ l ∷ []) (same ∙ sym (get_or_from_slice_get log place line line at))
     ∙ sym (take_more log place line low)
-
-pub one_more_in_range : (log : List ProofLine) (place : ℕ) (line : ProofLine) → slice_get log place ≡ Some line → list_all is_line_in_range (take place log) ≡ true → is_line_in_range line ≡ true → list_all is_line_in_range (take (place + 1) log) ≡ true
-one_more_in_range log place line at all here =
-    let low = slice_get_within log place line at in
-    ap (list_all is_line_in_range) (take_more log place line low)
-    ∙ list_all-append is_line_in_range (take place log) (get_or log place line ∷ [])
-    ∙ and_from (list_all is_line_in_range (take place log)) (list_all is_line_in_range (get_or log place line ∷ [])) all
-    (ap (λ (l : ProofLine). list_all is_line_in_range (l ∷ [])) (get_or_from_slice_get log place line line at) ∙ and_from (is_line_in_range line) true here refl)
 
 -- the same for counts and lines that are these
 pub within_limits_of : (state : TreeState) (variables clauses : ℕ) (log lines : List ProofLine) (nodes : List Node) → variables ≡ state.variables → lines ≡ log → IsGrown state → clauses ≤ 4000000 → length log ≤ 1000000 → IsTrue (list_all is_line_in_range log) → (numbers : List ℕ) → (tree : Tree) × (preorder tree ≡ nodes) × IsBelow state.nodes numbers tree 0 → IsTrue (is_tree nodes) → IsTrue (are_numbered nodes) → IsRefutation (record { version = One; variables = variables; clauses = clauses; lines = lines; nodes = nodes })

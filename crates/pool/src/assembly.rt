@@ -42,55 +42,63 @@ pub fn schedule_of_run(program: &Program, steps: Vec<Step>) -> Schedule
     }
 }
 
-fn copied(alloc: Global, line: &Line) -> Result<Line, AllocError>
-    ensures same { IfOk result (λ copy. copy ≡ line.now) }
-    ensures in_range { IsTrue (is_line_in_range line.now) }
-{
-    let _literals = line.literals();
-    let _hints = line.hints();
-    line.copy(alloc)
-}
-
-fn lines_of(alloc: Global, log: &Log) -> Result<Vec<Line>, AllocError>
-    ensures lines { IfOk result (λ lines. lines.items ≡ log.now) }
-    ensures in_range { IfOk result (λ _. IsTrue (list_all is_line_in_range log.now)) }
+/// Copies of the lines of a log.
+pub(crate) fn lines_of(alloc: Global, log: &Log) -> Result<Vec<Line>, AllocError>
+    ensures { IfOk result (λ lines. lines.items ≡ log.now) }
 {
     let mut lines = Vec::with_capacity(alloc, log.len())?;
     for place in 0..log.len() {
         let Some(line) = log.get(place) else {
             unreachable!()
         };
-        lines.push(copied(alloc, line)?)?;
+        lines.push(line.copy(alloc)?)?;
     }
     Ok(lines)
 }
 
-/// The refutation of a log and a tree all of whose leaves are closed by these clauses, which is within
+/// Whether the line's numbers are in range. Those of each line are, by its type; going over lines with this brings that out for all of them.
+fn is_in_range(line: &Line) -> bool
+    ensures same { result ≡ is_line_in_range line.now }
+    ensures always { IsTrue result }
+{
+    let _literals = line.literals();
+    let _hints = line.hints();
+    true
+}
+
+fn are_in_range(lines: &[Line]) -> bool
+    ensures same { result ≡ list_all is_line_in_range lines.now }
+    ensures always { IsTrue result }
+{
+    lines.iter().all(is_in_range)
+}
+
+/// The refutation of these lines and a tree all of whose leaves are closed by these clauses, which is within
 /// the limits of refutations.
 pub(crate) fn refutation_of(
     alloc: Global,
     formula: &Formula,
-    log: &Log,
+    lines: Vec<Line>,
     tree: &Tree,
     closed: &[u32],
 ) -> Result<Refutation, AllocError>
     requires few_clauses { length formula.now.clauses ≤ 4000000 }
-    requires few_lines { length log.now ≤ 1000000 }
+    requires few_lines { length lines.items ≤ 1000000 }
     requires variables { tree.now.variables ≡ formula.now.variables }
     requires many { length closed.now ≡ length tree.now.nodes }
-    requires derived { AreDerived formula.now log.now }
-    requires refuted { AreLeavesRefuted tree.now.nodes (clauses_before formula.now log.now) closed.now }
+    requires derived { AreDerived formula.now lines.items }
+    requires refuted { AreLeavesRefuted tree.now.nodes (clauses_before formula.now lines.items) closed.now }
     ensures version { IfOk result (λ claim. claim.version ≡ Version.One) }
     ensures variables { IfOk result (λ claim. claim.variables ≡ formula.now.variables) }
     ensures clauses { IfOk result (λ claim. claim.clauses ≡ length formula.now.clauses) }
-    ensures lines { IfOk result (λ claim. claim.lines ≡ log.now) }
+    ensures lines { IfOk result (λ claim. claim.lines ≡ lines.items) }
     ensures tree { IfOk result (λ claim. IsTreeOf tree.now.nodes closed.now claim.nodes) }
     ensures accepted { IfOk result (λ claim. Accepts formula.now claim.lines claim.nodes) }
 {
     let _limits = tree.variables();
     let nodes = tree.proof_tree(alloc, closed)?;
     let _numbered = nodes.nodes();
-    let lines = lines_of(alloc, log)?;
+    let _in_range = are_in_range(&lines);
     let clauses = formula.clauses().len() as u32;
     match Refutation::make(
         alloc,
@@ -104,4 +112,29 @@ pub(crate) fn refutation_of(
         Err(MakeRefutationFault::Memory) => Err(AllocError),
         Err(MakeRefutationFault::TooLarge) => unreachable!(),
     }
+}
+
+/// The same of a log that isn't needed any more.
+pub(crate) fn refutation_by(
+    alloc: Global,
+    formula: &Formula,
+    log: Log,
+    tree: &Tree,
+    closed: &[u32],
+) -> Result<Refutation, AllocError>
+    requires few_clauses { length formula.now.clauses ≤ 4000000 }
+    requires few_lines { length log ≤ 1000000 }
+    requires variables { tree.now.variables ≡ formula.now.variables }
+    requires many { length closed.now ≡ length tree.now.nodes }
+    requires derived { AreDerived formula.now log }
+    requires refuted { AreLeavesRefuted tree.now.nodes (clauses_before formula.now log) closed.now }
+    ensures version { IfOk result (λ claim. claim.version ≡ Version.One) }
+    ensures variables { IfOk result (λ claim. claim.variables ≡ formula.now.variables) }
+    ensures clauses { IfOk result (λ claim. claim.clauses ≡ length formula.now.clauses) }
+    ensures lines { IfOk result (λ claim. claim.lines ≡ log) }
+    ensures tree { IfOk result (λ claim. IsTreeOf tree.now.nodes closed.now claim.nodes) }
+    ensures accepted { IfOk result (λ claim. Accepts formula.now claim.lines claim.nodes) }
+{
+    let lines = log.into_lines(alloc)?;
+    refutation_of(alloc, formula, lines, tree, closed)
 }

@@ -12,7 +12,7 @@ ghost use Rattle.pool.specs.Refusals.{IsSplitFault};
 ghost use Rattle.refutations.specs.Refutations.{Accepts};
 ghost use Rattle.semantics.specs.Machine.{IsStuckRun};
 
-use crate::assembly::{AssembleFault, refutation_of, schedule_of_run};
+use crate::assembly::{AssembleFault, lines_of, refutation_by, refutation_of, schedule_of_run};
 use crate::entry::{
     CloseFault, Deed, Entry, FetchFault, FoundFault, PathFault, PublishFault, SplitFault,
 };
@@ -332,14 +332,36 @@ impl Pool {
         ensures tree { IfOk result (λ claim. IsTreeOf self.now.held.tree.nodes self.now.held.closed claim.nodes) }
         ensures accepted { IfOk result (λ claim. Accepts self.now.held.formula claim.lines claim.nodes) }
     {
+        let lines = lines_of(alloc, &self.log)?;
         let formula = self.encoded.formula();
-        refutation_of(
-            alloc,
-            formula,
-            &self.log,
-            &self.tree,
-            self.closed.as_slice(),
-        )
+        refutation_of(alloc, formula, lines, &self.tree, self.closed.as_slice())
+    }
+
+    /// The same evidence of a pool that isn't needed any more: the lines of the log are moved where nobody else has them.
+    pub fn into_evidence(self, alloc: Global) -> Result<Evidence, AssembleFault>
+        ensures evidence { IfOk result (λ evidence. IsAssembled self.held evidence) }
+        ensures open { result ≡ Err AssembleFault.Open ↔ IsUndecided self.held }
+    {
+        let Pool {
+            encoded,
+            tree,
+            closed,
+            open_leaves,
+            log,
+            schedule,
+            ..
+        } = self;
+        if let Some(steps) = schedule {
+            let schedule = schedule_of_run(encoded.program(), steps);
+            return Ok(Evidence::Schedule(schedule));
+        }
+        if open_leaves > 0 {
+            return Err(AssembleFault::Open);
+        }
+        match refutation_by(alloc, encoded.formula(), log, &tree, closed.as_slice()) {
+            Ok(moved) => Ok(Evidence::Refutation(moved)),
+            Err(AllocError) => Err(AssembleFault::Memory),
+        }
     }
 
     /// Appends the lines of a batch to the log, each `Own` hint as the number of the batch's line at that

@@ -1,14 +1,14 @@
 -- What is trimmed is within the limits, and accepted where it was.
-use Rattle.std.proofs.Common.{◌≡◌, ℕ, ◌+◌, ◌≤◌, ◌⊎◌, inl, inr, Bool, true, false, ◌&&◌, Result, Ok, Err, IsTrue, List, [], ◌∷◌, map, length, refl, sym, ap, ◌∙◌, subst, arith}
+use Rattle.std.proofs.Common.{◌≡◌, ℕ, ◌+◌, ◌⊎◌, inl, inr, Bool, true, ◌&&◌, Result, Ok, Err, List, [], ◌∷◌, map, refl, sym, ap, ◌∙◌, subst, arith}
 use Rattle.std.specs.List.{list_all}
 use Rattle.std.proofs.lemmas.Bool.{and_parts, and_from}
 use Rattle.std.proofs.lemmas.List.{length-map}
-use Rattle.clauses.specs.Clauses.{Conjunction, rises, is_within}
+use Rattle.clauses.specs.Clauses.{rises, is_within}
 use Rattle.refutations.specs.declared.tree.Node.{Node}
 use Rattle.refutations.specs.declared.tree.Node.TheVariants.{Split, Leaf}
-use Rattle.refutations.specs.Proofs.{ProofLine, are_numbers, are_numbered, is_tree}
+use Rattle.refutations.specs.Proofs.{ProofLine, are_numbers}
 use Rattle.refutations.specs.Refutations.{Accepts}
-use Rattle.trimming.specs.Needed.{Needed, are_named, needed, kept, renumber, renumbered_line, renumbered_node, new_number, trimmed_lines, trimmed_nodes}
+use Rattle.trimming.specs.Needed.{are_named, needed, kept, renumber, renumbered_line, renumbered_node, trimmed_lines, trimmed_nodes}
 use Rattle.trimming.proofs.Ranges.{numbers_renumbered, nodes_renumbered, trees_renumbered, length_kept, kept_pass}
 use Rattle.trimming.proofs.TrimLaws.{trimmed_are_accepted, trimmed_are_needed}
 use Rattle.prooflog.specs.declared.evidence.Evidence.{Evidence}

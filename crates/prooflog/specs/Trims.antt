@@ -1,5 +1,5 @@
 -- A refutation without lines that are not needed.
-use Rattle.std.specs.Prelude.{◌≡◌, Bool, false, List, length}
+use Rattle.std.specs.Prelude.{◌≡◌, false, length}
 use Rattle.clauses.specs.Clauses.{Conjunction}
 use Rattle.refutations.specs.Refutations.{Accepts}
 use Rattle.trimming.specs.Needed.{Needed, are_named, trimmed_lines, trimmed_nodes}

@@ -85,6 +85,17 @@ fn put_chunk(out: &mut Vec<u8>, lines: &[Line], used: usize, chunk: Option<Chunk
     }
 }
 
+/// How many bytes the parts have together.
+fn sum_of(chunks: &[Option<Chunk>]) -> usize {
+    let mut sum = 0usize;
+    for chunk in chunks {
+        if let Some(chunk) = chunk {
+            sum = sum.saturating_add(chunk.text.len());
+        }
+    }
+    sum
+}
+
 /// Writes the lines at the end, of which these parts are written already.
 pub(crate) fn put_all(
     out: &mut Vec<u8>,
@@ -94,6 +105,7 @@ pub(crate) fn put_all(
     requires { AreChunks lines.now chunks.items }
     ensures { OnOk result (out.new.items ≡ out.old.items ++ lines_text lines.now) }
 {
+    out.reserve(sum_of(&chunks))?;
     let mut used = 0usize;
     for chunk in chunks {
         used = put_chunk(out, lines, used, chunk);

@@ -1,14 +1,17 @@
 //! Refutations.
 
-ghost use Rattle.std.specs.Prelude.{◌≡◌, ◌↔◌, ◌<◌, ◌≤◌, true, false, ◌∷◌, [], ℕ, IfOk, IfErr, OnOk, IsTrue};
+ghost use Rattle.std.specs.Prelude.{◌≡◌, ◌↔◌, ◌<◌, ◌≤◌, ◌⊎◌, true, false, ◌∷◌, [], ℕ, IfOk, IfErr, OnOk, OnErr, IsTrue};
 ghost use Rattle.std.specs.List.{list_all};
 ghost use Rattle.refutations.specs.Proofs.{is_tree, are_numbered};
+ghost use Rattle.trimming.specs.Needed.{are_named};
+ghost use Rattle.prooflog.specs.Trims.{trimmed_of};
 ghost use Rattle.prooflog.specs.Refutations.{IsRefutation, IsSmall, is_line_in_range, is_depth, depths, waiting_after};
 
 use refutations::{LARGEST_NUMBER, Line, Node, ProofTree};
 use std::alloc::{AllocError, AllocFailed, Global};
 use std::marker::Model;
 use thiserror::Error;
+use trimming::TrimFault;
 
 /// The most proof lines that a refutation has.
 pub const MOST_LINES: usize = 1_000_000;
@@ -147,6 +150,18 @@ impl Refutation {
             lines,
             tree,
         })
+    }
+
+    /// Leaves out the lines that aren't needed, and makes it one of version 2. Where that is refused, it stays as it is.
+    pub(crate) fn trim(&mut self, alloc: Global) -> Result<(), TrimFault>
+        ensures trimmed { OnOk result (self.new ≡ trimmed_of self.old) }
+        ensures unchanged { OnErr result (self.new ≡ self.old) }
+        ensures number { result ≡ Err TrimFault.Number → are_named self.old.clauses self.old.lines self.old.nodes ≡ false }
+        ensures number_only { are_named self.old.clauses self.old.lines self.old.nodes ≡ false → (result ≡ Err TrimFault.Number) ⊎ (result ≡ Err TrimFault.Memory) }
+    {
+        trimming::trim(alloc, self.clauses, &mut self.lines, &mut self.tree)?;
+        self.version = Version::Two;
+        Ok(())
     }
 
     /// The refutation of parts that are known to be within the limits.

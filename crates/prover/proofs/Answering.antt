@@ -1,5 +1,5 @@
 -- What an evidence, and the end of a search, say of the program's text.
-use Rattle.std.proofs.Common.{◌≡◌, ◌<◌, ◌⊎◌, inl, inr, ℕ, List, ap, subst, sym, ◌∙◌, length}
+use Rattle.std.proofs.Common.{◌≡◌, ◌<◌, inr, ℕ, List, ap, subst, sym, ◌∙◌, length}
 use Rattle.callorder.specs.Programs.{MpiProgram}
 use Rattle.callorder.specs.Resolving.{IsTextOf}
 use Rattle.clauses.specs.Clauses.{Conjunction}

@@ -20,7 +20,6 @@ use pool::{AssembleFault, Pool, Why, schedule_of_run};
 use prooflog::{Evidence, TrimFault, trim, write_evidence, write_evidence_in};
 use settings::Options;
 use std::alloc::{AllocError, Global};
-use std::mem;
 use std::sync::Wait;
 use std::thread::Threads;
 use workers::Gate;
@@ -36,11 +35,10 @@ fn part_count(options: Options) -> usize {
     }
 }
 
-/// The answer of an evidence with this text.
-fn told_by(program: &Program, evidence: &Evidence, text: Vec<u8>) -> Answer
-    requires text { IsEvidenceText text.items evidence.now }
-    requires evidence { IsEvidenceOn program.now evidence.now }
-    ensures answer { (text : List ℕ) → IsTextOf text program.now → Answers text result }
+/// The answer of an evidence with this text, for each program on which it is one.
+fn told_by(evidence: &Evidence, text: Vec<u8>) -> Answer
+    requires { IsEvidenceText text.items evidence.now }
+    ensures answer { (p : MpiProgram) (text : List ℕ) → IsEvidenceOn p evidence.now → IsTextOf text p → Answers text result }
     ensures finishes { (budget : ℕ) (text : List ℕ) → FinishesIfUnknown budget text result }
 {
     match evidence {
@@ -50,60 +48,50 @@ fn told_by(program: &Program, evidence: &Evidence, text: Vec<u8>) -> Answer
 }
 
 /// The answer of an evidence.
-fn told(alloc: Global, program: &Program, evidence: &Evidence) -> Answer
-    requires { IsEvidenceOn program.now evidence.now }
-    ensures answer { (text : List ℕ) → IsTextOf text program.now → Answers text result }
+fn told(alloc: Global, evidence: &Evidence) -> Answer
+    ensures answer { (p : MpiProgram) (text : List ℕ) → IsEvidenceOn p evidence.now → IsTextOf text p → Answers text result }
     ensures finishes { (budget : ℕ) (text : List ℕ) → FinishesIfUnknown budget text result }
 {
     match write_evidence(alloc, evidence) {
-        Ok(text) => told_by(program, evidence, text),
+        Ok(text) => told_by(evidence, text),
         Err(AllocError) => Answer::Unknown(Why::Memory),
     }
 }
 
 /// The same of an evidence that is written in so many parts.
-fn told_in<R: Threads + Sync>(
-    rt: &R,
-    alloc: Global,
-    program: &Program,
-    evidence: &Evidence,
-    parts: usize,
-) -> Answer
-    requires { IsEvidenceOn program.now evidence.now }
-    ensures { (text : List ℕ) → IsTextOf text program.now → Answers text result }
+fn told_in<R: Threads + Sync>(rt: &R, alloc: Global, evidence: &Evidence, parts: usize) -> Answer
+    ensures { (p : MpiProgram) (text : List ℕ) → IsEvidenceOn p evidence.now → IsTextOf text p → Answers text result }
 {
     match write_evidence_in(rt, alloc, evidence, parts) {
-        Ok(text) => told_by(program, evidence, text),
+        Ok(text) => told_by(evidence, text),
         Err(AllocError) => Answer::Unknown(Why::Memory),
     }
 }
 
-/// The evidence without lines that aren't needed. One that can't be trimmed, such as a schedule, stays as it is.
-fn trimmed(alloc: Global, evidence: Evidence) -> Result<Evidence, AllocError>
-    ensures { IfOk result (λ trimmed. (p : MpiProgram) → IsEvidenceOn p evidence → IsEvidenceOn p trimmed) }
+/// Leaves out of the evidence the lines that aren't needed. One that can't be trimmed, such as a schedule, stays as it is.
+fn shorten(alloc: Global, evidence: &mut Evidence) -> Result<(), AllocError>
+    ensures { (p : MpiProgram) → IsEvidenceOn p evidence.old → IsEvidenceOn p evidence.new }
 {
-    match trim(alloc, &evidence) {
-        Ok(trimmed) => Ok(trimmed),
+    match trim(alloc, evidence) {
+        Ok(()) => Ok(()),
         Err(TrimFault::Memory) => Err(AllocError),
-        Err(TrimFault::Number | TrimFault::NotRefutation) => Ok(evidence),
+        Err(TrimFault::Number | TrimFault::NotRefutation) => Ok(()),
     }
 }
 
-/// The answer of what a pool assembled, which is written in so many parts.
+/// The answer of what a pool assembled, which is written in so many parts. A reason for which a worker left may be noted.
 fn told_trimmed<R: Threads + Sync>(
     rt: &R,
     alloc: Global,
-    pool: &Pool,
-    evidence: Evidence,
+    noted: Option<Why>,
+    mut evidence: Evidence,
     parts: usize,
 ) -> Answer
-    requires over { IsOver pool.now.held }
-    requires evidence { IsEvidenceOn pool.now.held.program evidence }
-    ensures { (text : List ℕ) → IsTextOf text pool.now.held.program → Answers text result }
+    ensures { (p : MpiProgram) (text : List ℕ) → HasFormula p → IsEvidenceOn p evidence → IsTextOf text p → Answers text result }
 {
-    match trimmed(alloc, evidence) {
-        Ok(evidence) => told_in(rt, alloc, pool.program(), &evidence, parts),
-        Err(AllocError) => Answer::Unknown(smallest_with(pool.status().why, Why::Memory)),
+    match shorten(alloc, &mut evidence) {
+        Ok(()) => told_in(rt, alloc, &evidence, parts),
+        Err(AllocError) => Answer::Unknown(smallest_with(noted, Why::Memory)),
     }
 }
 
@@ -119,22 +107,19 @@ fn unnoted(was_short: bool) -> Why
 fn answer_of<R: Threads + Sync>(
     rt: &R,
     alloc: Global,
-    pool: &Pool,
+    pool: Pool,
     was_short: bool,
     parts: usize,
 ) -> Answer
-    requires { IsOver pool.now.held }
-    ensures answer { (text : List ℕ) → IsTextOf text pool.now.held.program → Answers text result }
-    ensures undecided { IsUndecided pool.now.held → IsUnknownFor pool.now.held.reasons was_short result }
+    requires { IsOver pool.held }
+    ensures answer { (text : List ℕ) → IsTextOf text pool.held.program → Answers text result }
+    ensures undecided { IsUndecided pool.held → IsUnknownFor pool.held.reasons was_short result }
 {
-    match pool.assemble(alloc) {
-        Ok(evidence) => told_trimmed(rt, alloc, pool, evidence, parts),
-        Err(AssembleFault::Memory) => {
-            Answer::Unknown(smallest_with(pool.status().why, Why::Memory))
-        }
-        Err(AssembleFault::Open) => {
-            Answer::Unknown(smallest_with(pool.status().why, unnoted(was_short)))
-        }
+    let noted = pool.status().why;
+    match pool.into_evidence(alloc) {
+        Ok(evidence) => told_trimmed(rt, alloc, noted, evidence, parts),
+        Err(AssembleFault::Memory) => Answer::Unknown(smallest_with(noted, Why::Memory)),
+        Err(AssembleFault::Open) => Answer::Unknown(smallest_with(noted, unnoted(was_short))),
     }
 }
 
@@ -147,7 +132,7 @@ fn walked(alloc: Global, program: &Program) -> Option<Answer>
     match stuck_walk(alloc, program) {
         Ok(Some(steps)) => {
             let schedule = schedule_of_run(program, steps);
-            Some(told(alloc, program, &Evidence::Schedule(schedule)))
+            Some(told(alloc, &Evidence::Schedule(schedule)))
         }
         Ok(None) => None,
         Err(AllocError) => Some(Answer::Unknown(Why::Memory)),
@@ -167,11 +152,7 @@ fn answer_over<G: Gate + Sync, R: Threads + Wait + Sync>(
     ensures { (text : List ℕ) → IsTextOf text encoded.program → Answers text result }
 {
     match pool_of(rt, alloc, encoded, options, gate) {
-        Ok((pool, was_short)) => {
-            let answer = answer_of(rt, alloc, &pool, was_short, part_count(options));
-            mem::drop(pool);
-            answer
-        },
+        Ok((pool, was_short)) => answer_of(rt, alloc, pool, was_short, part_count(options)),
         Err(why) => Answer::Unknown(why),
     }
 }

@@ -75,19 +75,20 @@ pub fn trim_evidence(alloc: Global, evidence: &[u8]) -> Result<Shortened, Untrim
     ensures shortened { IfOk result (Shortens evidence.now) }
     ensures why { IfErr result (IsWhyUntrimmed evidence.now) }
 {
-    let evidence = match read_evidence(alloc, evidence) {
+    let mut evidence = match read_evidence(alloc, evidence) {
         Ok(evidence) => evidence,
         Err(fault) => return Err(Untrimmed::from(fault)),
     };
-    let trimmed = match trim(alloc, &evidence) {
-        Ok(trimmed) => trimmed,
+    let before = lines_of(&evidence);
+    match trim(alloc, &mut evidence) {
+        Ok(()) => {}
         Err(fault) => return Err(Untrimmed::from(fault)),
-    };
-    match write_evidence(alloc, &trimmed) {
+    }
+    match write_evidence(alloc, &evidence) {
         Ok(text) => Ok(Shortened {
             text,
-            before: lines_of(&evidence),
-            after: lines_of(&trimmed),
+            before,
+            after: lines_of(&evidence),
         }),
         Err(AllocError) => Err(Untrimmed::Memory),
     }

@@ -60,8 +60,8 @@ fn read_whole(text: &str, given: &mut Given) {
 }
 
 fn trim_whole(text: &str, given: &mut Given) {
-    let read = read_evidence(given.alloc, text.as_bytes());
-    put_trimmed(&read, given);
+    let mut read = read_evidence(given.alloc, text.as_bytes());
+    put_trimmed(&mut read, given);
     mem::drop(read);
 }
 
@@ -107,9 +107,12 @@ fn put_written(text: &str, written: Result<Vec<u8>, AllocError>, given: &mut Giv
 }
 
 /// Writes the text of the refutation without the lines that aren't needed.
-fn put_trimmed(read: &Result<Evidence, EvidenceFault>, given: &mut Given) {
+fn put_trimmed(read: &mut Result<Evidence, EvidenceFault>, given: &mut Given) {
     match read {
-        Ok(evidence) => tell(&trim(given.alloc, evidence), given),
+        Ok(evidence) => match trim(given.alloc, evidence) {
+            Ok(()) => evidence.put(given),
+            Err(fault) => given.show(fault),
+        },
         Err(fault) => given.show(fault),
     }
 }

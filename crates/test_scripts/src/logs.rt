@@ -28,6 +28,7 @@ impl Subject for Pages {
             "held" => put_taken(&self.held, given),
             "after" => put_after(&self.log, words, given),
             "lines" => put_told(&self.log, given),
+            "moved" => put_moved(&mut self.log, given),
             "get" => put_place(&self.log, words, given),
             "extended" => put_extended(&self.log, words, given),
             "from_vec" => put_from_vec(words, given),
@@ -47,6 +48,15 @@ fn put_after(log: &Log, words: &str, given: &mut Given) {
     let lines = after(log, words, given);
     put_taken(&lines, given);
     mem::drop(lines);
+}
+
+/// Moves all lines out of the log, which has none then.
+fn put_moved(log: &mut Log, given: &mut Given) {
+    let moved = mem::replace(log, Log::new(given.alloc));
+    match moved.into_lines(given.alloc) {
+        Ok(lines) => put_told(&lines.as_slice(), given),
+        Err(_error) => given.refuse("memory"),
+    }
 }
 
 fn put_from_vec(word: &str, given: &mut Given) {

@@ -1,5 +1,5 @@
 -- What is accepted stays so without the lines that are not needed, and then each line is needed.
-use Rattle.std.proofs.Common.{◌≡◌, ℕ, zero, suc, ◌+◌, ◌-◌, ◌<◌, ◌≤◌, ◌⊎◌, inl, inr, Bool, true, false, ◌&&◌, ◌||◌, ◌==◌, nat_lt, if◌then◌else◌, List, [], ◌∷◌, ◌++◌, Option, Some, None, map, take, length, slice_get, refl, sym, ap, ◌∙◌, subst, arith}
+use Rattle.std.proofs.Common.{◌≡◌, ℕ, zero, suc, ◌+◌, ◌-◌, ◌<◌, ◌≤◌, inl, inr, Bool, true, false, ◌&&◌, ◌||◌, ◌==◌, nat_lt, if◌then◌else◌, List, [], ◌∷◌, ◌++◌, Option, Some, None, map, take, length, slice_get, refl, sym, ap, ◌∙◌, subst, arith}
 use Rattle.std.specs.Option.{option_map}
 use Rattle.std.specs.List.{list_any, list_all}
 use Rattle.std.proofs.lemmas.Bool.{cases_lt, or_left, or_right, or_cases, and_from, eq-eqb, eqb-true}
@@ -15,7 +15,7 @@ use Rattle.refutations.specs.Derivations.{clauses_before, clause_numbered, Propa
 use Rattle.refutations.specs.BinaryTrees.{Tree, leaf, split, preorder}
 use Rattle.refutations.specs.Trees.{Refutes, branch}
 use Rattle.refutations.specs.Refutations.{Accepts}
-use Rattle.trimming.specs.Needed.{names_leaf, is_hinted, needed, Needed, kept, count_first, renumber, renumbered_line, renumbered_node, new_number, trimmed_lines, trimmed_nodes, TrimmedAreAccepted, TrimmedAreNeeded}
+use Rattle.trimming.specs.Needed.{names_leaf, is_hinted, needed, Needed, kept, count_first, renumber, renumbered_line, renumbered_node, trimmed_lines, trimmed_nodes, TrimmedAreAccepted, TrimmedAreNeeded}
 use Rattle.refutations.proofs.Numbered.{clause_numbered-line}
 
 -- ---- which lines are needed

@@ -13,5 +13,5 @@ mod trims;
 mod unneeded;
 
 pub use laws::{trimmed_are_accepted, trimmed_are_needed};
-pub use trims::{TrimFault, Trimmed, trim};
+pub use trims::{TrimFault, trim};
 pub use unneeded::first_unneeded;

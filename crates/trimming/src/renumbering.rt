@@ -1,12 +1,13 @@
 //! Which lines stay, and their new numbers.
 
-ghost use Rattle.std.specs.Prelude.{◌≡◌, ◌<◌, IfOk, map, length, slice_index};
+ghost use Rattle.std.specs.Prelude.{◌≡◌, ◌<◌, ◌≤◌, ◌+◌, ◌++◌, ◌∷◌, [], true, false, Some, IfOk, OnOk, OnErr, map, length, slice_get, slice_index, vec_capacity, vec_len};
 ghost use Rattle.trimming.specs.Needed.{renumber, renumbered_line, renumbered_node, kept};
 ghost use Rattle.trimming.specs.Marks.{running};
 
 use refutations::{Line, Node};
 use std::alloc::{AllocError, Global};
 use std::marker::Model;
+use std::mem;
 
 /// Which lines stay, whose numbers come after those of the clauses, and how many of them stay before each.
 #[derive(Drop)]
@@ -68,39 +69,55 @@ impl Renumbering {
         self.clauses + count as u32 + 1
     }
 
-    fn numbers(&self, alloc: Global, numbers: &[u32]) -> Result<Vec<u32>, AllocError>
-        ensures { IfOk result (λ made. made.items ≡ map (renumber self.now.clauses self.now.flags) numbers.now) }
+    /// Puts the new number of each of these clauses and lines in its place.
+    fn renumber(&self, numbers: &mut [u32])
+        ensures { numbers.new ≡ map (renumber self.now.clauses self.now.flags) numbers.old }
     {
-        let mut made = Vec::with_capacity(alloc, numbers.len())?;
-        for number in numbers {
-            made.push(self.number(*number))?;
+        for number in numbers.iter_mut() {
+            *number = self.number(*number);
         }
-        Ok(made)
     }
 
-    fn line(&self, alloc: Global, line: &Line) -> Result<Line, AllocError>
-        ensures { IfOk result (λ made. made ≡ renumbered_line (renumber self.now.clauses self.now.flags) line.now) }
+    /// The line with its hints renumbered. Nothing of it is copied.
+    fn line(&self, line: Line) -> Line
+        ensures { result ≡ renumbered_line (renumber self.now.clauses self.now.flags) line }
     {
-        let literals = line.literals().to_vec(alloc)?;
-        let hints = self.numbers(alloc, line.hints())?;
-        match Line::from_vecs(literals, hints) {
-            Some(line) => Ok(line),
+        let (clause, mut hints) = line.into_parts();
+        self.renumber(hints.as_mut_slice());
+        match Line::from_parts(clause, hints) {
+            Some(line) => line,
             None => unreachable!(),
         }
     }
 
-    /// The lines that stay, with their hints renumbered.
-    pub fn lines(&self, alloc: Global, lines: &[Line]) -> Result<Vec<Line>, AllocError>
-        requires { length self.now.flags ≡ length lines.now }
-        ensures { IfOk result (λ made. made.items ≡ map (renumbered_line (renumber self.now.clauses self.now.flags)) (kept self.now.flags lines.now)) }
+    /// Appends the line of this place, with its hints renumbered, where it stays.
+    fn put(&self, staying: &mut Vec<Line>, place: usize, line: Line)
+        requires there { place < length self.now.flags }
+        requires room { vec_len staying.old < vec_capacity staying.old }
+        ensures yes { slice_get self.now.flags place ≡ Some true → staying.new.items ≡ staying.old.items ++ renumbered_line (renumber self.now.clauses self.now.flags) line ∷ [] }
+        ensures no { slice_get self.now.flags place ≡ Some false → staying.new.items ≡ staying.old.items }
+        ensures most { vec_len staying.new ≤ vec_len staying.old + 1 }
+        ensures capacity { vec_capacity staying.new ≡ vec_capacity staying.old }
     {
-        let mut made = Vec::new(alloc);
-        for (place, line) in lines.iter().enumerate() {
-            if self.stays[place] {
-                made.push(self.line(alloc, line)?)?;
-            }
+        if self.stays[place] {
+            staying.push_reserved(self.line(line));
         }
-        Ok(made)
+    }
+
+    /// Leaves out the lines that don't stay, and renumbers the hints of the others. Where memory runs out, all stay as they are.
+    pub fn keep(&self, alloc: Global, lines: &mut Vec<Line>) -> Result<(), AllocError>
+        requires { length self.now.flags ≡ length lines.old.items }
+        ensures kept { OnOk result (lines.new.items ≡ map (renumbered_line (renumber self.now.clauses self.now.flags)) (kept self.now.flags lines.old.items)) }
+        ensures unchanged { OnErr result (lines.new.items ≡ lines.old.items) }
+    {
+        let mut staying = Vec::with_capacity(alloc, lines.len())?;
+        let mut place = 0usize;
+        for line in mem::replace(lines, Vec::new(alloc)) {
+            self.put(&mut staying, place, line);
+            place += 1;
+        }
+        *lines = staying;
+        Ok(())
     }
 
     /// The nodes with their leaves renumbered.

@@ -1,6 +1,6 @@
 //! A refutation without the lines that aren't needed.
 
-ghost use Rattle.std.specs.Prelude.{◌≡◌, ◌⊎◌, false, ℕ, length, IfOk};
+ghost use Rattle.std.specs.Prelude.{◌≡◌, ◌⊎◌, false, length, OnOk, OnErr};
 ghost use Rattle.clauses.specs.Clauses.{Conjunction};
 ghost use Rattle.refutations.specs.Refutations.{Accepts};
 ghost use Rattle.trimming.specs.Needed.{Needed, are_named, trimmed_lines, trimmed_nodes};
@@ -34,40 +34,35 @@ impl From<AllocError> for TrimFault {
     }
 }
 
-/// Lines that are all needed, and their tree.
-#[derive(Drop)]
-pub struct Trimmed {
-    /// The lines, numbered after the clauses as before.
-    pub lines: Vec<Line>,
-    /// The tree.
-    pub tree: ProofTree,
-}
-
-/// The lines that are needed, in their order, and the tree, where so many clauses stand before the lines. The numbers of lines are
-/// closed up, and each hint and leaf has its clause's new number. What accepted the lines and the tree accepts these. It takes time
-/// linear in the literals, hints and nodes, and beside what it answers nine bytes a line.
+/// Leaves out the lines that aren't needed, where so many clauses stand before the lines. The others stay in their order, the numbers of
+/// lines are closed up, and each hint and leaf has its clause's new number. What accepted the lines and the tree accepts these. Where it is
+/// refused, both stay as they are. It takes time linear in the lines, hints and nodes, and beside what there is nine bytes a line and room for the
+/// lines and nodes themselves once more; no literal and no hint is copied.
 pub fn trim(
     alloc: Global,
     clauses: u32,
-    lines: &[Line],
-    tree: &ProofTree,
-) -> Result<Trimmed, TrimFault>
-    ensures lines { IfOk result (λ trimmed. trimmed.lines.items ≡ trimmed_lines clauses lines.now tree.now) }
-    ensures tree { IfOk result (λ trimmed. trimmed.tree ≡ trimmed_nodes clauses lines.now tree.now) }
-    ensures accepted { IfOk result (λ trimmed. (f : Conjunction) → length f.clauses ≡ clauses → Accepts f lines.now tree.now → Accepts f trimmed.lines.items trimmed.tree) }
-    ensures needed { IfOk result (λ trimmed. Needed clauses trimmed.lines.items trimmed.tree) }
-    ensures number { result ≡ Err TrimFault.Number → are_named clauses lines.now tree.now ≡ false }
-    ensures number_only { are_named clauses lines.now tree.now ≡ false → (result ≡ Err TrimFault.Number) ⊎ (result ≡ Err TrimFault.Memory) }
+    lines: &mut Vec<Line>,
+    tree: &mut ProofTree,
+) -> Result<(), TrimFault>
+    ensures lines { OnOk result (lines.new.items ≡ trimmed_lines clauses lines.old.items tree.old) }
+    ensures tree { OnOk result (tree.new ≡ trimmed_nodes clauses lines.old.items tree.old) }
+    ensures accepted { OnOk result ((f : Conjunction) → length f.clauses ≡ clauses → Accepts f lines.old.items tree.old → Accepts f lines.new.items tree.new) }
+    ensures needed { OnOk result (Needed clauses lines.new.items tree.new) }
+    ensures same_lines { OnErr result (lines.new.items ≡ lines.old.items) }
+    ensures same_tree { OnErr result (tree.new ≡ tree.old) }
+    ensures number { result ≡ Err TrimFault.Number → are_named clauses lines.old.items tree.old ≡ false }
+    ensures number_only { are_named clauses lines.old.items tree.old ≡ false → (result ≡ Err TrimFault.Number) ⊎ (result ≡ Err TrimFault.Memory) }
 {
-    if !are_named(clauses, lines, tree.nodes()) {
+    if !are_named(clauses, lines.as_slice(), tree.nodes()) {
         return Err(TrimFault::Number);
     }
-    let stays = needed_lines(alloc, clauses, lines, tree.nodes())?;
+    let stays = needed_lines(alloc, clauses, lines.as_slice(), tree.nodes())?;
     let renumbering = Renumbering::new(alloc, clauses, stays)?;
-    let lines = renumbering.lines(alloc, lines)?;
     let nodes = renumbering.nodes(alloc, tree.nodes())?;
-    match ProofTree::make(nodes) {
-        Ok(tree) => Ok(Trimmed { lines, tree }),
-        Err(_nodes) => unreachable!(),
-    }
+    let Ok(trimmed) = ProofTree::make(nodes) else {
+        unreachable!()
+    };
+    renumbering.keep(alloc, lines)?;
+    *tree = trimmed;
+    Ok(())
 }

@@ -2,4 +2,4 @@ use Rattle.prooflog.proofs.TrimLaws.{each_keeps_accepted}
 use Rattle.prooflog.proofs.trims.trim.Goals as goal
 
 pub returns-in-Ok-clause-accepted : goal.returns-in-Ok-clause-accepted
-returns-in-Ok-clause-accepted c = each_keeps_accepted c.args.evidence.now c.in-Refutation.refutation c.in-Ok.trimmed c.in-Refutation.is c.in-Ok.ensures.made
+returns-in-Ok-clause-accepted c = each_keeps_accepted c.args.evidence.now c.in-Refutation.refutation c.trim.new.self c.in-Refutation.is c.in-Ok.ensures.trimmed

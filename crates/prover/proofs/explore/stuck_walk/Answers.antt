@@ -1,4 +1,4 @@
-use Rattle.std.proofs.Common.{◌≡◌, sym, subst}
+use Rattle.std.proofs.Common.{sym, subst}
 use Rattle.semantics.specs.Machine.{IsStuckRun}
 use Rattle.prover.proofs.Walks.{walk_finishes}
 use Rattle.prover.proofs.explore.stuck_walk.Goals as goal

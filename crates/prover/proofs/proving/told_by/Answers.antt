@@ -6,7 +6,6 @@ use Rattle.prover.proofs.proving.told_by.Goals as goal
 
 pub returns-in-Refutation-clause-answer : goal.returns-in-Refutation-clause-answer
 returns-in-Refutation-clause-answer c =
-    let p = c.args.program.now in
-    λ text is_text.
+    λ p text on is_text.
     refuted text c.args.text.items p c.in-Refutation._refutation is_text
-    (subst (IsEvidenceText c.args.text.items) c.in-Refutation.is c.requires.text) (subst (IsEvidenceOn p) c.in-Refutation.is c.requires.evidence)
+    (subst (IsEvidenceText c.args.text.items) c.in-Refutation.is c.requires) (subst (IsEvidenceOn p) c.in-Refutation.is on)

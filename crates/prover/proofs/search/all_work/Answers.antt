@@ -1,4 +1,4 @@
-use Rattle.std.proofs.Common.{◌≡◌, ℕ, ◌<◌, ◌∙◌, length, get_or, sym, ap}
+use Rattle.std.proofs.Common.{◌∙◌, sym, ap}
 use Rattle.steal.specs.Deques.{deques_of}
 use Rattle.prover.proofs.Stations.{same_map}
 use Rattle.prover.proofs.search.all_work.Goals as goal

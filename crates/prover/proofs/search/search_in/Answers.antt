@@ -1,4 +1,4 @@
-use Rattle.std.proofs.Common.{◌≡◌, ◌∙◌, ap, map, subst, sym}
+use Rattle.std.proofs.Common.{◌∙◌, ap, map, subst, sym}
 use Rattle.steal.specs.Deques.{AreDealt, deques_of}
 use Rattle.prover.proofs.Stations.{written_back}
 use Rattle.prover.proofs.search.search_in.Goals as goal

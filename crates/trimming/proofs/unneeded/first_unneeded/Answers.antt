@@ -1,4 +1,4 @@
-use Rattle.std.proofs.Common.{◌≡◌, ◌+◌, ◌<◌, ◌∙◌, Bool, List, ℕ, true, Some, ap, length, slice_get, subst, sym, arith, rules}
+use Rattle.std.proofs.Common.{◌≡◌, ◌+◌, ◌∙◌, Bool, List, true, Some, ap, length, slice_get, subst, arith, rules}
 use Rattle.trimming.specs.Needed.{needed}
 use Rattle.trimming.proofs.MarkLaws.{all_needed}
 use Rattle.trimming.proofs.unneeded.first_unneeded.Goals as goal

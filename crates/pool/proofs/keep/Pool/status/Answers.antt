@@ -1,4 +1,4 @@
-use Rattle.std.proofs.Common.{List, ap, ◌∙◌, subst}
+use Rattle.std.proofs.Common.{List, ap, subst}
 use Rattle.pool.specs.declared.why.Why.{Why}
 use Rattle.pool.specs.Reasons.{IsSmallest}
 use Rattle.pool.specs.States.{Kept}

@@ -1,5 +1,0 @@
-use Rattle.prover.proofs.Answering.{evidence_trimmed}
-use Rattle.prover.proofs.proving.trimmed.Goals as goal
-
-pub returns-in-Ok : goal.returns-in-Ok
-returns-in-Ok c = λ p on. evidence_trimmed p c.args.evidence c.in-Ok.trimmed c.in-Ok.ensures.trimmed on

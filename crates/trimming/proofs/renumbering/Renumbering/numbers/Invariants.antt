@@ -1,6 +1,0 @@
-use Rattle.std.proofs.Common.{◌≡◌, ◌++◌, drop, map}
-use Rattle.trimming.specs.Needed.{renumber}
-use Rattle.trimming.proofs.renumbering.Renumbering.numbers.Given as goal
-
-abbrev pub invariant-loop-number : goal.invariant-loop-number
-invariant-loop-number l = l.made.items ++ map (renumber l.self.clauses l.self.flags) (drop l.number-index l.numbers) ≡ map (renumber l.self.clauses l.self.flags) l.numbers
