@@ -39,8 +39,12 @@ const MARGIN: u64 = 150_000;
 /// that there are far more of them.
 const MOST_LITERALS: usize = 1;
 
-/// How many lines the first turn takes.
+/// How many lines the first turn of worker 0 takes.
 const FIRST_TURN: u64 = 4_000;
+
+/// So many workers begin each with a turn that is twice as long as that of the one before, so that they don't all begin with cubes at the same time, each
+/// with a solver that has learnt nothing yet.
+const MOST_DOUBLINGS: u32 = 3;
 
 /// A conflict below a cube counts as so many lines.
 const LINES_OF_A_CONFLICT: u64 = 4;
@@ -55,12 +59,14 @@ struct Turns {
 }
 
 impl Turns {
-    fn new(is_alone: bool) -> Turns {
+    /// The turns of the worker of this number, from 0.
+    fn new(is_alone: bool, worker: u32) -> Turns {
+        let size = FIRST_TURN << worker.min(MOST_DOUBLINGS);
         Turns {
             is_alone,
             explores: true,
-            size: FIRST_TURN,
-            left: FIRST_TURN,
+            size,
+            left: size,
         }
     }
 
@@ -106,7 +112,7 @@ impl<'e> Exploration<'e> {
         search.turn(worker);
         Ok(Some(Exploration {
             search,
-            turns: Turns::new(exploring != Exploring::InTurn),
+            turns: Turns::new(exploring != Exploring::InTurn, worker),
             own: 0..0,
             seen: 0,
             has_others: false,
