@@ -15,8 +15,8 @@ use std::mem;
 /// lengths known to fit.
 const LARGEST_LENGTH: usize = usize::MAX / 2;
 
-/// A list of proof lines to which lines are appended. It keeps full pages of 256 lines, which it
-/// shares with the lists that it hands out, and the fewer than 256 lines after them.
+/// A list of proof lines to which lines are appended. It keeps full pages of 64 lines, which it
+/// shares with the lists that it hands out, and the fewer than 64 lines after them.
 ///
 /// It has fewer than 2^63 lines; more are refused as want of memory, which comes long before.
 #[derive(Debug, Drop)]
@@ -153,7 +153,7 @@ impl Log {
     }
 
     /// The lines after the first `from` ones, as they are now. Full pages are shared, so this takes
-    /// time in proportion to the pages; at most 255 lines are copied.
+    /// time in proportion to the pages; at most 63 lines are copied.
     pub fn after(&self, alloc: Global, from: usize) -> Result<Lines, AllocError>
         requires { from ≤ length self.now }
         ensures { IfOk result (λ lines. lines ≡ drop from self.now) }
