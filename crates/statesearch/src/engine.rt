@@ -13,6 +13,9 @@ use std::mem;
 /// The longest line that is watched.
 const MOST_WATCHED: usize = 30;
 
+/// How many literals a line of others has at most that is imported by whoever takes in what others made.
+const MOST_IMPORTED: usize = 2;
+
 /// The longest clause that a state which it closes shortens by a line of its own.
 const MOST_SHORTENED: usize = 12;
 
@@ -56,14 +59,13 @@ pub(crate) struct Engine {
     pub(crate) marks: Marks,
     /// A clause that is false at level 0.
     pub(crate) refuted: Option<u32>,
+    /// The literal that stays true for the next pair, and the level at which it does.
+    kept: Option<u32>,
+    kept_level: usize,
     /// Clauses that are watched from the next return to level 0 on.
     waiting: Vec<u32>,
     /// The clauses of the batch's lines.
     pub(crate) lines: Vec<u32>,
-    /// How many clauses the formula has, whose tags come first.
-    formula: u32,
-    /// The greatest tag of clauses of two literals on which a line needn't rest, so that it names a consequence in the place of a decision.
-    pub(crate) most_tag: u32,
 }
 
 /// Puts the literals' numbers in place of those in the list.
@@ -100,10 +102,10 @@ impl Engine {
             watches: Watches::new(alloc, variables)?,
             marks: Marks::new(alloc, variables)?,
             refuted: None,
+            kept: None,
+            kept_level: 0,
             waiting: Vec::new(alloc),
             lines: Vec::new(alloc),
-            formula: 0,
-            most_tag: u32::MAX,
         })
     }
 
@@ -120,13 +122,7 @@ impl Engine {
             fill(&mut codes, clause.literals())?;
             engine.take_in(number, &codes)?;
         }
-        engine.formula = number;
         Ok(engine)
-    }
-
-    /// From now on lines name no consequences that others needn't know: those by clauses of the formula alone.
-    pub(crate) fn write_for_others(&mut self) {
-        self.most_tag = self.formula;
     }
 
     /// Takes in a clause of this tag, at level 0. Where no place is left for it, it is left out.
@@ -227,6 +223,7 @@ impl Engine {
     /// Goes back to level 0, where the clauses that wait for that are watched. Answers whether no clause is false there.
     pub(crate) fn to_root(&mut self, alloc: Global) -> Result<bool, AllocError> {
         self.trail.back(0);
+        self.kept = None;
         self.attach_waiting(alloc)?;
         let conflict = self.propagate(alloc)?;
         Ok(conflict.is_none())
@@ -259,6 +256,11 @@ impl Engine {
             }
         }
         Ok(None)
+    }
+
+    /// Whether the literal is false at level 0.
+    pub(crate) fn is_excluded(&self, code: u32) -> bool {
+        self.trail.is_false(code) && self.trail.level_of(variable_of(code)) == 0
     }
 
     /// Whether each of these literals is false.
@@ -305,6 +307,24 @@ impl Engine {
         Ok(())
     }
 
+    /// Writes the line of a lemma by this conflict, which is watched from the next return to level 0 on, and tells others of it.
+    fn write_lemma(
+        &mut self,
+        alloc: Global,
+        others: &mut Others,
+        lemma: u64,
+        conflict: Conflict,
+        batch: &mut Batch,
+    ) -> Result<(), AllocError> {
+        if let Some(written) = self.write(alloc, conflict, batch)?
+            && written.is_new
+        {
+            self.waiting.push(written.clause)?;
+            others.tell(lemma, written.clause)?;
+        }
+        Ok(())
+    }
+
     /// A line of these literals, which is watched, where propagation derives it; answers whether it does. Ends at level 0.
     pub(crate) fn make_lemma(
         &mut self,
@@ -322,18 +342,54 @@ impl Engine {
         }
         let negations = negations(alloc, codes)?;
         let conflict = self.assume(alloc, &negations)?;
-        if let Some(conflict) = conflict
-            && let Some(written) = self.write(alloc, conflict, batch)?
-            && written.is_new
-        {
-            self.waiting.push(written.clause)?;
-            others.tell(lemma, written.clause)?;
+        if let Some(conflict) = conflict {
+            self.write_lemma(alloc, others, lemma, conflict, batch)?;
         }
         self.to_root(alloc)?;
         Ok(conflict.is_some())
     }
 
-    /// Takes in the line of others that has this lemma, at level 0, and answers whether there is one.
+    /// Makes two literals true, of which the first one stays so until the next return to level 0, for the next pair.
+    fn assume_pair(
+        &mut self,
+        alloc: Global,
+        first: u32,
+        second: u32,
+    ) -> Result<Option<Conflict>, AllocError> {
+        if self.kept != Some(first) {
+            self.to_root(alloc)?;
+            let conflict = self.assume_one(alloc, first)?;
+            if conflict.is_some() {
+                return Ok(conflict);
+            }
+            self.kept = Some(first);
+            self.kept_level = self.trail.level();
+        }
+        self.trail.back(self.kept_level);
+        self.assume_one(alloc, second)
+    }
+
+    /// A line that these two literals aren't both true, which is watched from the next return to level 0 on, where propagation derives it.
+    pub(crate) fn make_pair(
+        &mut self,
+        alloc: Global,
+        others: &mut Others,
+        first: u32,
+        second: u32,
+        batch: &mut Batch,
+    ) -> Result<(), AllocError> {
+        let lemma = lemma_of(alloc, &[negated(first), negated(second)])?;
+        if self.takes_lemma(alloc, others, lemma)? {
+            return Ok(());
+        }
+        match self.assume_pair(alloc, first, second)? {
+            Some(conflict) => self.write_lemma(alloc, others, lemma, conflict, batch),
+            None => Ok(()),
+        }
+    }
+
+    /// Takes in the line of others that has this lemma, which is watched from the next return to level 0 on, and answers whether there is one. A short one was
+    /// imported.
     fn takes_lemma(
         &mut self,
         alloc: Global,
@@ -344,8 +400,13 @@ impl Engine {
         let Some((number, clause)) = others.take_lemma(lemma) else {
             return Ok(false);
         };
+        if clause.literals().len() <= MOST_IMPORTED {
+            return Ok(true);
+        }
         fill(&mut codes, clause.literals())?;
-        self.take_in(number, &codes)?;
+        if let Some(place) = self.store.add(&codes, number, 0)? {
+            self.waiting.push(place)?;
+        }
         Ok(true)
     }
 }

@@ -34,18 +34,12 @@ struct Way {
 struct Values<'v> {
     store: &'v Store,
     trail: &'v Trail,
-    /// The greatest tag of clauses that may lead from one value to another alone.
-    most_tag: u32,
 }
 
 impl Values<'_> {
     /// The variable from whose value alone this one's follows, by a clause of two literals; none where that one has its value at level 0.
     fn single_cause(&self, variable: usize) -> Option<usize> {
-        let reason = self.trail.reason_of(variable);
-        if self.store.tag(reason) > self.most_tag {
-            return None;
-        }
-        let &[one, other] = self.store.literals(reason) else {
+        let &[one, other] = self.store.literals(self.trail.reason_of(variable)) else {
             return None;
         };
         let cause = if variable_of(one) == variable {
@@ -212,7 +206,6 @@ impl Engine {
         let values = Values {
             store: &self.store,
             trail: &self.trail,
-            most_tag: self.most_tag,
         };
         match conflict {
             Conflict::Clause(clause) => values.explain_clause(alloc, &mut self.marks, clause),

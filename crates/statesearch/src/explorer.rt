@@ -23,6 +23,9 @@ const MOST_IMPORTED: usize = 30;
 /// How many of the clauses that closed states with the same matched calls are tried.
 const MOST_NEAR: usize = 16;
 
+/// How often lemmas are made below one literal before its state is looked at anew.
+const MOST_ROUNDS: usize = 64;
+
 /// An odd number whose products are spread well.
 const MIXER: u64 = 0x9E37_79B9_7F4A_7C15;
 
@@ -154,15 +157,18 @@ impl<'e> Explorer<'e> {
         self.returned = 0;
         self.learnt_from = 0;
         self.learnt_to = 0;
-        if !self.others.is_empty() {
-            self.engine.write_for_others();
-        }
         self.drop_closed(alloc)
     }
 
-    /// Takes in what others closed and made, by clauses of the formula and then of these lines.
-    pub(crate) fn take_in(&mut self, lines: Lines, closings: &[Closing]) -> Result<(), AllocError> {
-        self.others.take_in(lines, closings)
+    /// Takes in what others closed and made, by clauses of the formula and then of the log's lines, of which these come next, from this place on.
+    pub(crate) fn take_in(
+        &mut self,
+        first: usize,
+        lines: Lines,
+        closings: &[Closing],
+    ) -> Result<(), AllocError> {
+        self.others.put_lines(first, lines)?;
+        self.others.take_in(closings)
     }
 
     /// The states that were closed in the last batch, whose first line has this number, and the lemmas that were made.
@@ -532,6 +538,7 @@ impl<'e> Explorer<'e> {
         let are_made = self.look_below(
             alloc,
             &state,
+            &assumptions,
             &literals,
             &mut branches,
             &mut states,
@@ -585,18 +592,40 @@ impl<'e> Explorer<'e> {
         Ok(Below::State(below))
     }
 
+    /// The same once no lemma is due there, unless that takes too many lines or rounds, or lemmas tell more of the state itself.
+    fn below_lemmas(
+        &mut self,
+        alloc: Global,
+        state: &State,
+        assumptions: &[u32],
+        literal: u32,
+        batch: &mut Batch,
+    ) -> Result<Below, AllocError> {
+        for _ in 0..MOST_ROUNDS {
+            match self.below(alloc, state, literal, batch)? {
+                Below::Lemmas => {}
+                below => return Ok(below),
+            }
+            if batch.lines.len() >= self.portion.lines || !self.stand_on(alloc, assumptions)? {
+                break;
+            }
+        }
+        Ok(Below::Lemmas)
+    }
+
     /// Adds what is below the literals, and answers whether lemmas were made, with the trail at level 0; else it stands as before.
     fn look_below(
         &mut self,
         alloc: Global,
         state: &State,
+        assumptions: &[u32],
         literals: &[u32],
         branches: &mut Vec<Branch>,
         states: &mut Vec<State>,
         batch: &mut Batch,
     ) -> Result<bool, AllocError> {
         for literal in literals {
-            let key = match self.below(alloc, state, *literal, batch)? {
+            let key = match self.below_lemmas(alloc, state, assumptions, *literal, batch)? {
                 Below::Lemmas => return Ok(true),
                 Below::Conflict => None,
                 Below::State(below) => {

@@ -4,7 +4,7 @@ use clauses::Clause;
 use pages::Lines;
 use std::alloc::{AllocError, Global};
 use std::collections::HashMap;
-use std::hash::{DefaultHasher, Hash, Hasher};
+use std::hash::{FoldHasher, Hash, Hasher};
 
 /// A state that a search closed, or a lemma that it made, and the clause by which it did.
 #[derive(Clone, Copy, PartialEq, Eq)]
@@ -24,9 +24,16 @@ pub(crate) struct Told {
 
 /// What tells a state with this key from nearly all others.
 pub(crate) fn hash_of(key: &[u32]) -> u64 {
-    let mut hasher = DefaultHasher::new();
+    let mut hasher = FoldHasher::default();
     key.hash(&mut hasher);
     hasher.finish()
+}
+
+/// Lines of the log, from this place on, from 0.
+#[derive(Drop)]
+struct Part {
+    first: usize,
+    lines: Lines,
 }
 
 /// What others closed, and the lines by which they did, and what this search closed in the last batch. Nothing of it is trusted: a clause that isn't the
@@ -36,7 +43,8 @@ pub(crate) struct Others {
     clauses: usize,
     numbers: HashMap<u64, u32>,
     pub(crate) told: Vec<Told>,
-    lines: Option<Lines>,
+    /// What is known of the log, in its order.
+    log: Vec<Part>,
 }
 
 impl Others {
@@ -46,16 +54,26 @@ impl Others {
             clauses,
             numbers: HashMap::new(alloc),
             told: Vec::new(alloc),
-            lines: None,
+            log: Vec::new(alloc),
         }
     }
 
-    /// Puts these states and lemmas in, whose clauses are those of the formula and then of the lines.
-    pub(crate) fn take_in(&mut self, lines: Lines, closings: &[Closing]) -> Result<(), AllocError> {
+    /// Puts these lines of the log in, from this place on, which come after those that are in.
+    pub(crate) fn put_lines(&mut self, first: usize, lines: Lines) -> Result<(), AllocError> {
+        if lines.len() > 0 {
+            self.log.push(Part { first, lines })?;
+        }
+        Ok(())
+    }
+
+    /// Puts these states and lemmas in, whose clauses are those of the formula and then of the lines. As long as there are none, no lines are kept.
+    pub(crate) fn take_in(&mut self, closings: &[Closing]) -> Result<(), AllocError> {
         for closing in closings {
             self.numbers.insert(closing.state, closing.number)?;
         }
-        self.lines = Some(lines);
+        if self.is_empty() {
+            self.log.clear();
+        }
         Ok(())
     }
 
@@ -84,7 +102,9 @@ impl Others {
     /// The line of this number.
     fn line(&self, number: u32) -> Option<&Clause> {
         let place = (number as usize).checked_sub(self.clauses)?.checked_sub(1)?;
-        let line = self.lines.as_ref()?.get(place)?;
+        let after = self.log.partition_point(|part| part.first <= place);
+        let part = self.log.get(after.checked_sub(1)?)?;
+        let line = part.lines.get(place.checked_sub(part.first)?)?;
         Some(line.clause())
     }
 

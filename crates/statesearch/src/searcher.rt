@@ -77,18 +77,24 @@ impl<'e> StateSearch<'e> {
         self.explorer.turn(number);
     }
 
-    /// Takes in which states other searches over the same program closed, and which lemmas they made, by clauses of the formula and then of these lines. A
-    /// state whose clause is false under what is assumed of it isn't closed once more, and what was to be done for it is dropped. A lemma isn't made once
-    /// more either: its line is taken in.
+    /// Takes in which states other searches over the same program closed, and which lemmas they made, by clauses of the formula and then of the lines of a
+    /// log. Of these the given ones stand from the given place on, counted from 0; where they were given before, the last ones count. A state whose clause
+    /// is false under what is assumed of it isn't closed once more, and what was to be done for it is dropped. A lemma isn't made once more either: its line
+    /// is taken in, unless it has two literals at most. Lines of others that have no more are to be imported before.
     ///
     /// Refused with [`SolveFault::Spent`] exactly where memory ran out before; never with [`SolveFault::Foreign`].
-    pub fn take_in(&mut self, lines: Lines, closings: &[Closing]) -> Result<(), SolveFault>
+    pub fn take_in(
+        &mut self,
+        first: usize,
+        lines: Lines,
+        closings: &[Closing],
+    ) -> Result<(), SolveFault>
         ensures { Informed self.old self.new result }
     {
         if self.is_spent {
             return Err(SolveFault::Spent);
         }
-        match self.explorer.take_in(lines, closings) {
+        match self.explorer.take_in(first, lines, closings) {
             Ok(()) => Ok(()),
             Err(_) => {
                 self.is_spent = true;

@@ -173,16 +173,16 @@ fn take(
     }
 }
 
-/// Hands a search, as a worker does, of the lines that it hasn't seen its own and those of one literal at most, and which states were closed meanwhile.
+/// Hands a search, as a worker does, of the lines that it hasn't seen its own and those of two literals at most, and which states were closed meanwhile.
 fn learn(
     searcher: &mut Searcher<'_>,
     shared: &Shared<'_>,
     alloc: Global,
 ) -> Result<(), AllocError> {
     import_new(searcher, shared, alloc)?;
-    searcher.lines = shared.lines.len();
-    let lines = lines_of(alloc, &shared.lines)?;
+    let lines = lines_of(alloc, shared.lines.get(searcher.lines..).unwrap_or(&[]))?;
     take_in_new(searcher, shared, lines)?;
+    searcher.lines = shared.lines.len();
     searcher.closed = shared.closed.len();
     Ok(())
 }
@@ -195,7 +195,7 @@ fn import_new(
     for place in searcher.lines..shared.lines.len() {
         let number = number_at(shared.encoded, place);
         let clause = shared.lines[place].clause();
-        let is_taken = clause.literals().len() <= 1 || searcher.own.contains(&place);
+        let is_taken = clause.literals().len() <= 2 || searcher.own.contains(&place);
         if is_taken && searcher.search.import(alloc, number, clause).is_err() {
             return Err(AllocError);
         }
@@ -209,7 +209,7 @@ fn take_in_new(
     lines: Lines,
 ) -> Result<(), AllocError> {
     let closed = shared.closed.get(searcher.closed..).unwrap_or(&[]);
-    match searcher.search.take_in(lines, closed) {
+    match searcher.search.take_in(searcher.lines, lines, closed) {
         Ok(()) => Ok(()),
         Err(_fault) => Err(AllocError),
     }

@@ -35,10 +35,6 @@ const STATES_FOR_A_LINE: usize = 16;
 /// may publish once more before they see that the log has room for no more.
 const MARGIN: u64 = 150_000;
 
-/// How many literals a line of others has at most that is taken in. What longer ones let follow tells states apart that differ in nothing else, so
-/// that there are far more of them.
-const MOST_LITERALS: usize = 1;
-
 /// How many lines the first turn of worker 0 takes.
 const FIRST_TURN: u64 = 4_000;
 
@@ -119,7 +115,8 @@ impl<'e> Exploration<'e> {
         }))
     }
 
-    /// Takes in the line at this place of the log, from 0, where it is one of its own or has at most one literal.
+    /// Takes in the line at this place of the log, from 0, where it is one of its own or has at most two literals: what longer ones let follow
+    /// tells states apart that differ in nothing else.
     pub(crate) fn import(
         &mut self,
         alloc: Global,
@@ -127,9 +124,15 @@ impl<'e> Exploration<'e> {
         number: u32,
         clause: &Clause,
     ) -> Result<(), Stop> {
-        if clause.literals().len() <= MOST_LITERALS || self.own.contains(&place) {
+        if clause.literals().len() <= SHORT || self.own.contains(&place) {
             self.search.import(alloc, number, clause)?;
         }
+        Ok(())
+    }
+
+    /// Keeps these lines of the log, which stand from this place on, from 0.
+    pub(crate) fn keep(&mut self, first: usize, lines: Lines) -> Result<(), Stop> {
+        self.search.take_in(first, lines, &[])?;
         Ok(())
     }
 
@@ -157,18 +160,19 @@ impl<'e> Exploration<'e> {
         Ok(found)
     }
 
-    /// Takes in which states other workers closed, by lines of the log, which are these.
+    /// Takes in these lines of the log, which stand from this place on, from 0, and which states other workers closed.
     fn take_in<S, G, R: Wait>(
         &mut self,
         rt: &R,
         alloc: Global,
         common: &Common<S, G>,
         worker: u32,
+        first: usize,
         lines: Lines,
     ) -> Result<(), Stop> {
         let (closings, seen) = common.closed.others(rt, alloc, worker, self.seen)?;
         self.has_others = self.has_others || !closings.is_empty();
-        self.search.take_in(lines, &closings)?;
+        self.search.take_in(first, lines, &closings)?;
         self.seen = seen;
         Ok(())
     }
@@ -285,10 +289,11 @@ impl Worker<'_> {
         seat: &mut S::Seat,
         worker: u32,
     ) -> Result<(), Stop> {
-        let lines = common.shared.fetch(rt, self.alloc, seat, 0)?;
-        self.import(&lines, 0, SHORT)?;
+        let first = self.seen();
+        let lines = common.shared.fetch(rt, self.alloc, seat, first)?;
+        self.import(&lines, first, SHORT)?;
         match &mut self.exploration {
-            Some(exploration) => exploration.take_in(rt, self.alloc, common, worker, lines),
+            Some(exploration) => exploration.take_in(rt, self.alloc, common, worker, first, lines),
             None => Ok(()),
         }
     }

@@ -2,7 +2,7 @@
 
 use pages::Lines;
 
-/// Lines of others with so many literals at most are always taken in, and longer ones not while sets of matched calls are searched over.
+/// Lines of others with so many literals at most are always taken in, and longer ones neither while sets of matched calls are searched over nor by that search.
 pub(crate) const SHORT: usize = 2;
 
 /// How many lines of others are taken in at a time, beside those short ones.

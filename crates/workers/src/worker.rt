@@ -7,7 +7,7 @@ use crate::common::Common;
 use crate::events::EventCount;
 use crate::exploring::Exploration;
 use crate::gate::{Gate, Searched};
-use crate::imports::longest;
+use crate::imports::{SHORT, longest};
 use crate::numbers::{line_number, line_place, number_of};
 use crate::probing::probing_order;
 use crate::source::Cubes;
@@ -42,7 +42,10 @@ enum Next {
 pub(crate) struct Worker<'e> {
     pub(crate) alloc: Global,
     encoded: &'e Encoded,
-    solver: Solver<'e>,
+    /// What learns below cubes, and with no cube, once it was needed.
+    solver: Option<Solver<'e>>,
+    /// Whether the match variables were probed.
+    is_probed: bool,
     /// The variables that cubes are split on, those that come first first.
     variables: Vec<u32>,
     /// How many lines of the log were seen.
@@ -91,6 +94,21 @@ fn put<C: Cubes>(cubes: &mut C, cube: u32) -> Result<(), Stop>
     }
 }
 
+/// A solver of this program's formula, which probes the match variables unless that was done before.
+fn solver_of<'e>(
+    alloc: Global,
+    encoded: &'e Encoded,
+    variables: &[u32],
+    is_probed: bool,
+) -> Result<Solver<'e>, AllocError> {
+    let probed = if is_probed {
+        Vec::new(alloc)
+    } else {
+        probing_order(alloc, encoded, variables)?
+    };
+    Solver::new(alloc, encoded.formula(), &probed)
+}
+
 impl<'e> Worker<'e> {
     pub(crate) fn new<S, G>(
         alloc: Global,
@@ -99,16 +117,11 @@ impl<'e> Worker<'e> {
     ) -> Result<Worker<'e>, AllocError> {
         let encoded = common.encoded;
         let variables = branching_variables(alloc, encoded)?;
-        let probed = if common.begun.is_probed {
-            Vec::new(alloc)
-        } else {
-            probing_order(alloc, encoded, &variables)?
-        };
-        let solver = Solver::new(alloc, encoded.formula(), &probed)?;
         Ok(Worker {
             alloc,
             encoded,
-            solver,
+            solver: None,
+            is_probed: common.begun.is_probed,
             variables,
             seen: 0,
             own: 0..0,
@@ -153,23 +166,66 @@ impl<'e> Worker<'e> {
         self.encoded.formula().len()
     }
 
+    /// The solver, which is made where it wasn't needed before.
+    fn solver(&mut self) -> Result<&mut Solver<'e>, AllocError> {
+        let solver = match self.solver.take() {
+            Some(solver) => solver,
+            None => solver_of(self.alloc, self.encoded, &self.variables, self.is_probed)?,
+        };
+        Ok(self.solver.insert(solver))
+    }
+
+    /// Has the solver, where there is one, take in the line at this place of the log, from 0, where that is one of its own or has at most so many literals.
+    fn teach(&mut self, place: usize, clause: &Clause, longest: usize) -> Result<(), Stop> {
+        let number = line_number(self.clauses(), place);
+        if let Some(solver) = &mut self.solver
+            && (clause.literals().len() <= longest || self.own.contains(&place))
+        {
+            solver.import(self.alloc, number, clause)?;
+        }
+        Ok(())
+    }
+
+    /// Has the solver take in of these lines, which are the first ones of the log, the short ones of those that this worker has seen.
+    fn teach_all(&mut self, lines: &Lines) -> Result<(), Stop> {
+        for place in 0..lines.len().min(self.seen) {
+            let Some(line) = lines.get(place) else {
+                unreachable!()
+            };
+            self.teach(place, line.clause(), SHORT)?;
+        }
+        Ok(())
+    }
+
+    /// Makes the solver where it wasn't needed before and still is, and has it take in the short lines that this worker has seen.
+    fn begin_learning<S: Share, R: Wait>(
+        &mut self,
+        rt: &R,
+        shared: &S,
+        seat: &mut S::Seat,
+    ) -> Result<(), Stop> {
+        if self.solver.is_some() || self.refuted.is_some() {
+            return Ok(());
+        }
+        self.solver()?;
+        let lines = shared.fetch(rt, self.alloc, seat, 0)?;
+        self.teach_all(&lines)
+    }
+
     /// Takes in the line at this place of the log, from 0, where it is one of the solver's own or has at most so many literals.
     fn import_line(&mut self, place: usize, clause: &Clause, longest: usize) -> Result<(), Stop> {
+        if clause.literals().is_empty() {
+            self.refuted = Some(line_number(self.clauses(), place));
+        }
+        self.teach(place, clause, longest)?;
         let number = line_number(self.clauses(), place);
-        let length = clause.literals().len();
-        if length == 0 {
-            self.refuted = Some(number);
-        }
-        if length <= longest || self.own.contains(&place) {
-            self.solver.import(self.alloc, number, clause)?;
-        }
         if let Some(exploration) = &mut self.exploration {
             exploration.import(self.alloc, place, number, clause)?;
         }
         Ok(())
     }
 
-    /// Takes in of these lines, the first of which stands at this place of the log, those that weren't seen: the solver's own, and of others those with
+    /// Takes in these lines, which weren't seen, and the first of which stands at this place of the log: the solver's own, and of others those with
     /// so many literals at most.
     pub(crate) fn import(
         &mut self,
@@ -177,21 +233,23 @@ impl<'e> Worker<'e> {
         first: usize,
         longest: usize,
     ) -> Result<(), Stop> {
-        for place in self.seen.saturating_sub(first)..lines.len() {
+        for place in 0..lines.len() {
             let Some(line) = lines.get(place) else {
                 unreachable!()
             };
             self.import_line(first.saturating_add(place), line.clause(), longest)?;
         }
-        self.seen = self.seen.max(first.saturating_add(lines.len()));
+        self.seen = first.saturating_add(lines.len());
         Ok(())
     }
 
     /// Searches below the path for at most so many conflicts, and at most those that are left. Answers how many were counted, too.
     pub(crate) fn learn(&mut self, path: &[Lit], most: u64) -> Result<(Found, u64), Stop> {
         let budget = self.left.min(most);
-        let found = self.solver.search(self.alloc, path, budget)?;
-        let conflicts = self.solver.conflicts();
+        let alloc = self.alloc;
+        let solver = self.solver()?;
+        let found = solver.search(alloc, path, budget)?;
+        let conflicts = solver.conflicts();
         self.left = self.left.saturating_sub(conflicts);
         Ok((found, conflicts))
     }
@@ -249,9 +307,10 @@ impl<'e> Worker<'e> {
 
     /// The variable to split a cube with this path on.
     fn branching(&self, path: &[Lit]) -> Option<u32> {
-        let active = most_active(&self.solver, path, &self.variables);
-        if active.is_some() {
-            return active;
+        if let Some(solver) = &self.solver
+            && let Some(active) = most_active(solver, path, &self.variables)
+        {
+            return Some(active);
         }
         branching_variable(path, &self.variables, self.encoded.formula().variables())
     }
@@ -290,8 +349,13 @@ impl<'e> Worker<'e> {
         shared: &S,
         seat: &mut S::Seat,
     ) -> Result<(), Stop> {
-        let lines = shared.fetch(rt, self.alloc, seat, self.seen)?;
-        self.import(&lines, self.seen, longest(&lines))
+        let first = self.seen;
+        let lines = shared.fetch(rt, self.alloc, seat, first)?;
+        self.import(&lines, first, longest(&lines))?;
+        if let Some(exploration) = &mut self.exploration {
+            exploration.keep(first, lines)?;
+        }
+        self.begin_learning(rt, shared, seat)
     }
 
     /// Hands on what a search below a cube with this path found.
