@@ -1,18 +1,16 @@
 //! Evidence from what a pool has.
 
-ghost use Rattle.std.specs.Prelude.{◌≡◌, ◌≤◌, IfOk, IsTrue, length};
-ghost use Rattle.std.specs.List.{list_all};
+ghost use Rattle.std.specs.Prelude.{◌≡◌, ◌≤◌, IfOk, length};
 ghost use Rattle.semantics.specs.Machine.{IsStuckRun};
 ghost use Rattle.refutations.specs.Derivations.{clauses_before};
 ghost use Rattle.refutations.specs.Refutations.{AreDerived, Accepts};
-ghost use Rattle.prooflog.specs.Refutations.{is_line_in_range};
 ghost use Rattle.trees.specs.Laws.{AreLeavesRefuted};
 ghost use Rattle.pool.specs.States.{IsTreeOf};
 
 use callorder::Program;
 use clauses::Formula;
 use pages::Log;
-use prooflog::{MakeRefutationFault, Refutation, Schedule, Version};
+use prooflog::{MakeRefutationFault, Refutation, Schedule, Version, are_in_range};
 use refutations::Line;
 use semantics::Step;
 use std::alloc::{AllocError, Global};
@@ -54,23 +52,6 @@ pub(crate) fn lines_of(alloc: Global, log: &Log) -> Result<Vec<Line>, AllocError
         lines.push(line.copy(alloc)?)?;
     }
     Ok(lines)
-}
-
-/// Whether the line's numbers are in range. Those of each line are, by its type; going over lines with this brings that out for all of them.
-fn is_in_range(line: &Line) -> bool
-    ensures same { result ≡ is_line_in_range line.now }
-    ensures always { IsTrue result }
-{
-    let _literals = line.literals();
-    let _hints = line.hints();
-    true
-}
-
-fn are_in_range(lines: &[Line]) -> bool
-    ensures same { result ≡ list_all is_line_in_range lines.now }
-    ensures always { IsTrue result }
-{
-    lines.iter().all(is_in_range)
 }
 
 /// The refutation of these lines and a tree all of whose leaves are closed by these clauses, which is within

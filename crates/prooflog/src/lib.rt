@@ -31,7 +31,7 @@ pub use formula_text::write_formula;
 pub use laws::{depths_are_of_the_tree, one_fault, one_value, text_has_no_fault};
 pub use reader::{read_evidence, read_evidence_in};
 pub use refutation::{
-    MOST_DEPTH, MOST_LINES, MOST_NODES, MakeRefutationFault, Refutation, Version,
+    MOST_DEPTH, MOST_LINES, MOST_NODES, MakeRefutationFault, Refutation, Version, are_in_range,
 };
 pub use schedule::Schedule;
 pub use step::{find_word, put_find};

@@ -106,8 +106,7 @@ fn are_shallow(alloc: Global, nodes: &[Node]) -> Result<bool, AllocError>
     Ok(true)
 }
 
-/// Whether the line's numbers are in range. Those of each line are, by its type; going over lines
-/// with this brings that out for all of them.
+/// Whether the line's numbers are in range. Those of each line are, by its type.
 fn is_in_range(line: &Line) -> bool
     ensures same { result ≡ is_line_in_range line.now }
     ensures always { IsTrue result }
@@ -115,6 +114,16 @@ fn is_in_range(line: &Line) -> bool
     let _literals = line.literals();
     let _hints = line.hints();
     true
+}
+
+/// Whether the numbers of all these lines are in range. Those of each line are, by its type; going
+/// over lines with this brings that out for all of them, and so a caller can show that
+/// `Refutation::make` doesn't refuse them.
+pub fn are_in_range(lines: &[Line]) -> bool
+    ensures same { result ≡ list_all is_line_in_range lines.now }
+    ensures always { IsTrue result }
+{
+    lines.iter().all(is_in_range)
 }
 
 impl Refutation {
@@ -140,7 +149,7 @@ impl Refutation {
         let Ok(shallow) = are_shallow(alloc, tree.nodes()) else {
             return Err(MakeRefutationFault::Memory);
         };
-        if !shallow || !lines.iter().all(is_in_range) {
+        if !shallow || !are_in_range(&lines) {
             return Err(MakeRefutationFault::TooLarge);
         }
         Ok(Refutation {
