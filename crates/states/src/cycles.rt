@@ -71,8 +71,8 @@ impl Ways {
         best
     }
 
-    fn take(&mut self, event: usize, step: &Step) {
-        let cost = self.cost(event).saturating_add(step.cost);
+    fn take(&mut self, trail: &Trail, event: usize, step: &Step) {
+        let cost = self.cost(event).saturating_add(step.cost(trail));
         if step.to == self.start && cost < self.back {
             self.back = cost;
             self.last = event;
@@ -83,14 +83,14 @@ impl Ways {
         }
     }
 
-    fn take_all(&mut self, event: usize, steps: &[Step]) {
+    fn take_all(&mut self, trail: &Trail, event: usize, steps: &[Step]) {
         put(self.is_done.as_mut_slice(), event, true);
         for step in steps {
-            self.take(event, step);
+            self.take(trail, event, step);
         }
     }
 
-    fn walk(&mut self, graph: &Graph) {
+    fn walk(&mut self, trail: &Trail, graph: &Graph) {
         for _ in 0..graph.len() {
             let Some(event) = self.nearest() else {
                 return;
@@ -98,7 +98,7 @@ impl Ways {
             if self.cost(event) >= self.back {
                 return;
             }
-            self.take_all(event, graph.steps(event));
+            self.take_all(trail, event, graph.steps(event));
         }
     }
 
@@ -122,6 +122,7 @@ impl Ways {
 /// A cheaper cycle than this one, through the event.
 fn cheaper(
     alloc: Global,
+    trail: &Trail,
     graph: &Graph,
     start: usize,
     best: Option<Cycle>,
@@ -132,7 +133,7 @@ fn cheaper(
     };
     let mut ways = Ways::new(alloc, graph.len(), start)?;
     ways.back = most;
-    ways.walk(graph);
+    ways.walk(trail, graph);
     if ways.back >= most {
         return Ok(best);
     }
@@ -157,7 +158,7 @@ pub fn find_cycle(
     }
     for start in 0..graph.len() {
         if graph.is_entered(start) {
-            best = cheaper(alloc, &graph, start, best)?;
+            best = cheaper(alloc, trail, &graph, start, best)?;
         }
     }
     Ok(best)

@@ -9,25 +9,104 @@ const ROOT_COST: u32 = 1;
 
 const OTHER_COST: u32 = 4;
 
-/// An event that comes later, and what that costs.
+/// An event that comes later, and the number of the literal that says so.
 #[derive(Clone, Copy)]
 pub(crate) struct Step {
     pub(crate) to: usize,
-    pub(crate) cost: u32,
+    code: u32,
+}
+
+/// A step, and the event that it is from.
+#[derive(Clone, Copy)]
+struct Edge {
+    from: usize,
+    step: Step,
 }
 
 /// For each event those that come later, and how many steps lead to it.
 #[derive(Drop)]
 pub(crate) struct Graph {
-    steps: Vec<Vec<Step>>,
+    /// Where the steps from each event start, and then where those from the last one end.
+    starts: Vec<usize>,
+    /// The steps, in the order of the events that they are from.
+    steps: Vec<Step>,
     entering: Vec<usize>,
 }
 
-fn cost_of(trail: &Trail, code: u32) -> u32 {
-    if trail.level_of(variable_of(code)) == 0 {
-        return ROOT_COST;
+impl Step {
+    /// What it costs.
+    pub(crate) fn cost(&self, trail: &Trail) -> u32 {
+        if trail.level_of(variable_of(self.code)) == 0 {
+            return ROOT_COST;
+        }
+        OTHER_COST
     }
-    OTHER_COST
+}
+
+/// What holds of the order of events.
+fn edges_of(alloc: Global, shape: &Shape<'_>, trail: &Trail) -> Result<Vec<Edge>, AllocError> {
+    let mut edges = Vec::new(alloc);
+    for place in 0..trail.len() {
+        let code = trail.literal(place);
+        if let Some((from, to)) = shape.order_of(code) {
+            let step = Step { to, code };
+            edges.push(Edge { from, step })?;
+        }
+    }
+    Ok(edges)
+}
+
+/// Counts one more at this place, and answers how many there were.
+fn count(counts: &mut [usize], place: usize) -> usize {
+    match counts.get_mut(place) {
+        Some(count) => {
+            let before = *count;
+            *count = before.saturating_add(1);
+            before
+        }
+        None => usize::MAX,
+    }
+}
+
+/// How many steps lead to each of so many events.
+fn entering(alloc: Global, events: usize, edges: &[Edge]) -> Result<Vec<usize>, AllocError> {
+    let mut counts = vec![in alloc; 0; events]?;
+    for edge in edges {
+        count(counts.as_mut_slice(), edge.step.to);
+    }
+    Ok(counts)
+}
+
+/// Puts in the place of each number the sum of those up to it.
+fn add_up(counts: &mut [usize]) {
+    let mut sum = 0usize;
+    for count in counts.iter_mut() {
+        sum = sum.saturating_add(*count);
+        *count = sum;
+    }
+}
+
+/// Where the steps from each of so many events start, and then where those from the last one end.
+fn starts(alloc: Global, events: usize, edges: &[Edge]) -> Result<Vec<usize>, AllocError> {
+    let mut counts = vec![in alloc; 0; events.saturating_add(1)]?;
+    for edge in edges {
+        count(counts.as_mut_slice(), edge.from.saturating_add(1));
+    }
+    add_up(counts.as_mut_slice());
+    Ok(counts)
+}
+
+/// The steps, in the order of the events that they are from, which start there.
+fn steps(alloc: Global, starts: &[usize], edges: &[Edge]) -> Result<Vec<Step>, AllocError> {
+    let mut next = starts.to_vec(alloc)?;
+    let mut steps = vec![in alloc; Step { to: 0, code: 0 }; edges.len()]?;
+    for edge in edges {
+        let place = count(next.as_mut_slice(), edge.from);
+        if let Some(entry) = steps.get_mut(place) {
+            *entry = edge.step;
+        }
+    }
+    Ok(steps)
 }
 
 /// One step fewer leads to the event; answers whether none is left.
@@ -41,50 +120,37 @@ fn take_step(entering: &mut [usize], event: usize) -> bool {
     }
 }
 
+/// The steps from an event, where all stand in this order and start there.
+fn steps_from<'s>(starts: &[usize], steps: &'s [Step], event: usize) -> &'s [Step] {
+    let start = starts.get(event).copied().unwrap_or(0);
+    let end = starts.get(event.saturating_add(1)).copied().unwrap_or(0);
+    match steps.get(start..end) {
+        Some(steps) => steps,
+        None => &[],
+    }
+}
+
 impl Graph {
-    fn empty(alloc: Global, events: usize) -> Result<Graph, AllocError> {
-        let mut steps = Vec::with_capacity(alloc, events)?;
-        for _ in 0..events {
-            steps.push(Vec::new(alloc))?;
-        }
-        Ok(Graph {
-            steps,
-            entering: vec![in alloc; 0; events]?,
-        })
-    }
-
-    fn add(&mut self, first: usize, second: usize, cost: u32) -> Result<(), AllocError> {
-        if let Some(list) = self.steps.get_mut(first) {
-            list.push(Step { to: second, cost })?;
-        }
-        if let Some(count) = self.entering.get_mut(second) {
-            *count = count.saturating_add(1);
-        }
-        Ok(())
-    }
-
     /// The graph of what holds.
     pub(crate) fn new(
         alloc: Global,
         shape: &Shape<'_>,
         trail: &Trail,
     ) -> Result<Graph, AllocError> {
-        let mut graph = Graph::empty(alloc, shape.events())?;
-        for place in 0..trail.len() {
-            let code = trail.literal(place);
-            if let Some((first, second)) = shape.order_of(code) {
-                graph.add(first, second, cost_of(trail, code))?;
-            }
-        }
-        Ok(graph)
+        let edges = edges_of(alloc, shape, trail)?;
+        let starts = starts(alloc, shape.events(), &edges)?;
+        let steps = steps(alloc, &starts, &edges)?;
+        let entering = entering(alloc, shape.events(), &edges)?;
+        Ok(Graph {
+            starts,
+            steps,
+            entering,
+        })
     }
 
     /// The steps from an event.
     pub(crate) fn steps(&self, event: usize) -> &[Step] {
-        match self.steps.get(event) {
-            Some(steps) => steps.as_slice(),
-            None => &[],
-        }
+        steps_from(&self.starts, &self.steps, event)
     }
 
     /// How many events there are.
@@ -109,10 +175,7 @@ impl Graph {
 
     /// Takes away the steps from the event.
     fn leave(&mut self, event: usize, free: &mut Vec<usize>) -> Result<(), AllocError> {
-        let Some(steps) = self.steps.get(event) else {
-            return Ok(());
-        };
-        for step in steps {
+        for step in steps_from(&self.starts, &self.steps, event) {
             if take_step(self.entering.as_mut_slice(), step.to) {
                 free.push(step.to)?;
             }

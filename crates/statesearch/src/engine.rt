@@ -11,10 +11,10 @@ use std::alloc::{AllocError, Global};
 use std::mem;
 
 /// The longest line that is watched.
-const MOST_WATCHED: usize = 30;
+pub(crate) const MOST_WATCHED: usize = 30;
 
-/// How many literals a line of others has at most that is imported by whoever takes in what others made.
-const MOST_IMPORTED: usize = 2;
+/// Whoever has a search take in what others made imports all lines of others with so many literals at most.
+pub const SHORT: usize = 2;
 
 /// The longest clause that a state which it closes shortens by a line of its own.
 const MOST_SHORTENED: usize = 12;
@@ -50,6 +50,15 @@ pub(crate) struct Written {
     pub(crate) is_new: bool,
 }
 
+/// A line of the batch.
+#[derive(Drop)]
+pub(crate) struct OwnLine {
+    /// The place of its clause in the store.
+    pub(crate) clause: u32,
+    /// The numbers of its literals, rising.
+    pub(crate) codes: Vec<u32>,
+}
+
 /// All that propagation knows.
 #[derive(Drop)]
 pub(crate) struct Engine {
@@ -64,8 +73,8 @@ pub(crate) struct Engine {
     kept_level: usize,
     /// Clauses that are watched from the next return to level 0 on.
     waiting: Vec<u32>,
-    /// The clauses of the batch's lines.
-    pub(crate) lines: Vec<u32>,
+    /// The batch's lines.
+    pub(crate) lines: Vec<OwnLine>,
 }
 
 /// Puts the literals' numbers in place of those in the list.
@@ -286,11 +295,16 @@ impl Engine {
         tags: &[u32],
         batch: &mut Batch,
     ) -> Result<Option<u32>, AllocError> {
-        let Some(tag) = add_line(alloc, batch, codes, tags)? else {
+        let mut sorted = codes.to_vec(alloc)?;
+        sorted.sort_unstable();
+        let Some(tag) = add_line(alloc, batch, &sorted, tags)? else {
             return Ok(None);
         };
         let place = self.store.add(codes, tag, 0)?;
-        self.lines.push(place.unwrap_or(NONE))?;
+        self.lines.push(OwnLine {
+            clause: place.unwrap_or(NONE),
+            codes: sorted,
+        })?;
         Ok(place)
     }
 
@@ -400,7 +414,7 @@ impl Engine {
         let Some((number, clause)) = others.take_lemma(lemma) else {
             return Ok(false);
         };
-        if clause.literals().len() <= MOST_IMPORTED {
+        if clause.literals().len() <= SHORT {
             return Ok(true);
         }
         fill(&mut codes, clause.literals())?;

@@ -3,7 +3,7 @@
 ghost use Rattle.std.specs.Prelude.{◌≤◌, vec_len};
 
 use crate::cutting::cut_cycle;
-use crate::engine::{Engine, fill};
+use crate::engine::{Engine, MOST_WATCHED, fill};
 use crate::lemmas::{Lemmas, Portion};
 use crate::others::{Closing, Others, hash_of};
 use crate::tasks::{Branch, Branching, Purpose, Task};
@@ -16,9 +16,6 @@ use propagation::OWN;
 use states::{Shape, State, choose, find_cycle, matched_part, read_off};
 use std::alloc::{AllocError, Global};
 use std::collections::HashMap;
-
-/// The longest clause of others that is taken in.
-const MOST_IMPORTED: usize = 30;
 
 /// How many of the clauses that closed states with the same matched calls are tried.
 const MOST_NEAR: usize = 16;
@@ -260,21 +257,13 @@ impl<'e> Explorer<'e> {
         Ok(true)
     }
 
-    /// The next line of the last batch, where it has these literals.
-    fn next_own(&self, alloc: Global, codes: &[u32]) -> Result<Option<u32>, AllocError> {
-        let Some(place) = self.engine.lines.get(self.returned) else {
-            return Ok(None);
-        };
-        let known = self.engine.store.literals(*place);
-        if known.len() != codes.len() {
-            return Ok(None);
+    /// The clause of the next line of the last batch, where that has these literals.
+    fn next_own(&self, codes: &[u32]) -> Option<u32> {
+        let line = self.engine.lines.get(self.returned)?;
+        if line.codes.as_slice() == codes {
+            return Some(line.clause);
         }
-        let mut known = known.to_vec(alloc)?;
-        known.sort_unstable();
-        if known.as_slice() == codes {
-            return Ok(Some(*place));
-        }
-        Ok(None)
+        None
     }
 
     /// Tells the learner a clause and its number.
@@ -317,10 +306,10 @@ impl<'e> Explorer<'e> {
         }
         let mut codes = Vec::new(alloc);
         fill(&mut codes, clause.literals())?;
-        if let Some(place) = self.next_own(alloc, &codes)? {
+        if let Some(place) = self.next_own(&codes) {
             return self.take_own(alloc, place, number, clause);
         }
-        if codes.len() > MOST_IMPORTED {
+        if codes.len() > MOST_WATCHED {
             return Ok(());
         }
         self.engine.to_root(alloc)?;
@@ -417,17 +406,25 @@ impl<'e> Explorer<'e> {
         Ok(true)
     }
 
-    /// Makes lemmas that are due, and answers whether there were any; then the trail is at level 0.
-    fn makes_lemmas(&mut self, alloc: Global, batch: &mut Batch) -> Result<bool, AllocError> {
-        if self.lemmas.make(
+    /// Makes lemmas that are due, or cuts a cycle, and answers whether there were any; then the trail is at level 0. Where nothing is due at the level that is
+    /// given, only what is above it is looked at, and no cycle is looked for, since that comes once the state there is visited.
+    fn makes_lemmas(
+        &mut self,
+        alloc: Global,
+        settled: Option<usize>,
+        batch: &mut Batch,
+    ) -> Result<bool, AllocError> {
+        let are_made = self.lemmas.make(
             alloc,
             &self.shape,
             &mut self.engine,
             &mut self.others,
             self.portion,
+            settled,
             batch,
-        )? {
-            return Ok(true);
+        )?;
+        if are_made || settled.is_some() {
+            return Ok(are_made);
         }
         self.cuts(alloc, batch)
     }
@@ -437,7 +434,7 @@ impl<'e> Explorer<'e> {
         if !self.engine.to_root(alloc)? {
             return Ok(());
         }
-        if self.makes_lemmas(alloc, batch)? {
+        if self.makes_lemmas(alloc, None, batch)? {
             return self.push(Task::Start);
         }
         let nothing = State::new(alloc, &self.shape)?;
@@ -488,7 +485,7 @@ impl<'e> Explorer<'e> {
         if let Some(clause) = self.near_clause(alloc, &key)? {
             return self.close_too(key, clause);
         }
-        if self.makes_lemmas(alloc, batch)? {
+        if self.makes_lemmas(alloc, None, batch)? {
             return self.push(Task::Visit(state));
         }
         let read = read_off(alloc, &self.shape, &self.engine.trail, &state)?;
@@ -570,21 +567,23 @@ impl<'e> Explorer<'e> {
         Ok(())
     }
 
-    /// What is below the literal.
+    /// What is below the literal. Where the state is settled, no lemma is due above it.
     fn below(
         &mut self,
         alloc: Global,
         state: &State,
         literal: u32,
+        is_settled: bool,
         batch: &mut Batch,
     ) -> Result<Below, AllocError> {
         let level = self.engine.trail.level();
+        let settled = if is_settled { Some(level) } else { None };
         let conflict = self.engine.decide(alloc, literal)?;
         if conflict.is_some() {
             self.engine.trail.back(level);
             return Ok(Below::Conflict);
         }
-        if self.makes_lemmas(alloc, batch)? {
+        if self.makes_lemmas(alloc, settled, batch)? {
             return Ok(Below::Lemmas);
         }
         let below = read_off(alloc, &self.shape, &self.engine.trail, state)?;
@@ -592,18 +591,20 @@ impl<'e> Explorer<'e> {
         Ok(Below::State(below))
     }
 
-    /// The same once no lemma is due there, unless that takes too many lines or rounds, or lemmas tell more of the state itself.
+    /// The same once no lemma is due there, unless that takes too many lines or rounds, or lemmas tell more of the state itself. Where lemmas are made, the state
+    /// isn't settled any more.
     fn below_lemmas(
         &mut self,
         alloc: Global,
         state: &State,
         assumptions: &[u32],
         literal: u32,
+        is_settled: &mut bool,
         batch: &mut Batch,
     ) -> Result<Below, AllocError> {
         for _ in 0..MOST_ROUNDS {
-            match self.below(alloc, state, literal, batch)? {
-                Below::Lemmas => {}
+            match self.below(alloc, state, literal, *is_settled, batch)? {
+                Below::Lemmas => *is_settled = false,
                 below => return Ok(below),
             }
             if batch.lines.len() >= self.portion.lines || !self.stand_on(alloc, assumptions)? {
@@ -624,8 +625,16 @@ impl<'e> Explorer<'e> {
         states: &mut Vec<State>,
         batch: &mut Batch,
     ) -> Result<bool, AllocError> {
+        let mut is_settled = true;
         for literal in literals {
-            let key = match self.below_lemmas(alloc, state, assumptions, *literal, batch)? {
+            let key = match self.below_lemmas(
+                alloc,
+                state,
+                assumptions,
+                *literal,
+                &mut is_settled,
+                batch,
+            )? {
                 Below::Lemmas => return Ok(true),
                 Below::Conflict => None,
                 Below::State(below) => {

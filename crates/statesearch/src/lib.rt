@@ -18,5 +18,6 @@ mod searcher;
 mod tasks;
 mod units;
 
+pub use engine::SHORT;
 pub use others::Closing;
 pub use searcher::StateSearch;

@@ -215,7 +215,8 @@ impl<'e> Explorer<'e> {
         tag: u32,
     ) -> Result<Option<u32>, AllocError> {
         if tag >= OWN {
-            return Ok(self.engine.lines.get((tag - OWN) as usize).copied());
+            let line = self.engine.lines.get((tag - OWN) as usize);
+            return Ok(line.map(|line| line.clause));
         }
         let Some(clause) = formula.clause(tag as usize) else {
             return Ok(None);

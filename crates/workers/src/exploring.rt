@@ -2,7 +2,6 @@
 
 use crate::common::{Common, Exploring};
 use crate::gate::{Gate, Searched};
-use crate::imports::SHORT;
 use crate::kept::KeptLines;
 use crate::numbers::{line_place, number_of};
 use crate::stop::Stop;
@@ -13,7 +12,7 @@ use clauses::Clause;
 use encode::Encoded;
 use pages::Lines;
 use pool::{MOST_LINES, Share, Why};
-use statesearch::StateSearch;
+use statesearch::{SHORT, StateSearch};
 use std::alloc::{AllocError, Global};
 use std::mem;
 use std::ops::Range;

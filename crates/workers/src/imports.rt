@@ -1,9 +1,7 @@
 //! Which lines of others a worker takes in.
 
 use pages::Lines;
-
-/// Lines of others with so many literals at most are always taken in, and longer ones neither while sets of matched calls are searched over nor by that search.
-pub(crate) const SHORT: usize = 2;
+use statesearch::SHORT;
 
 /// How many lines of others are taken in at a time, beside those short ones.
 const MOST_LINES: usize = 6_000;

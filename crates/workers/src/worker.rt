@@ -7,7 +7,7 @@ use crate::common::Common;
 use crate::events::EventCount;
 use crate::exploring::Exploration;
 use crate::gate::{Gate, Searched};
-use crate::imports::{SHORT, longest};
+use crate::imports::longest;
 use crate::numbers::{line_number, line_place, number_of};
 use crate::probing::probing_order;
 use crate::source::Cubes;
@@ -21,6 +21,7 @@ use encode::Encoded;
 use extract::schedule_of;
 use pages::Lines;
 use pool::{Share, SplitFault, Status, Why};
+use statesearch::SHORT;
 use std::alloc::{AllocError, Global};
 use std::mem;
 use std::ops::Range;
@@ -342,7 +343,8 @@ impl<'e> Worker<'e> {
         }
     }
 
-    /// Imports the solver's own and the shortest of the lines that the log has by now and this worker hasn't seen.
+    /// Imports the solver's own and the shortest of the lines that the log has by now and this worker hasn't seen. The solver is made before where it has seen
+    /// none, so that what the opening learnt is taken in.
     pub(crate) fn catch_up<S: Share, R: Wait>(
         &mut self,
         rt: &R,
@@ -350,6 +352,9 @@ impl<'e> Worker<'e> {
         seat: &mut S::Seat,
     ) -> Result<(), Stop> {
         let first = self.seen;
+        if first == 0 {
+            self.solver()?;
+        }
         let lines = shared.fetch(rt, self.alloc, seat, first)?;
         self.import(&lines, first, longest(&lines))?;
         if let Some(exploration) = &mut self.exploration {
