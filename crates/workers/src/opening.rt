@@ -17,6 +17,9 @@ const MOST_CONFLICTS: u64 = 4_000;
 /// How many of them before other workers begin, where there are some.
 const FIRST_CONFLICTS: u64 = 1_000;
 
+/// One more comes before them for so many clauses, since each of these workers makes tables of all clauses.
+const CLAUSES_FOR_A_CONFLICT: usize = 1_000;
+
 /// How many of them at a time once others have begun, since what they find meanwhile is seen after that alone.
 const CONFLICTS_AT_A_TIME: u64 = 250;
 
@@ -115,8 +118,20 @@ fn search_first<S: Share, G: Gate, R: Wait>(
     end
 }
 
+/// How many conflicts come before so many workers begin, where the formula has so many clauses.
+fn first_conflicts(clauses: usize, workers: u32) -> u64 {
+    if workers > 1 {
+        let more = clauses / CLAUSES_FOR_A_CONFLICT;
+        FIRST_CONFLICTS
+            .saturating_add(more as u64)
+            .min(MOST_CONFLICTS)
+    } else {
+        MOST_CONFLICTS
+    }
+}
+
 /// Searches the whole formula, with no cube, before so many workers begin: match variables are probed, and at most 4,000 conflicts are
-/// counted, and at most those of the budget; where there are several workers, at most 1,000 now, and the others by worker 0 when all have begun. Where that
+/// counted, and at most those of the budget; where there are several workers, at most 1,000 now and one for each 1,000 clauses, and the others by worker 0 when all have begun. Where that
 /// refutes the formula, these cubes are closed. What was learnt is published, so that workers need not probe again. The gate is called after the search, as if
 /// it were one of worker 0.
 pub fn open<S: Share, G: Gate, R: Wait>(
@@ -127,11 +142,7 @@ pub fn open<S: Share, G: Gate, R: Wait>(
     cubes: &[u32],
     workers: u32,
 ) -> Begun {
-    let most = if workers > 1 {
-        FIRST_CONFLICTS
-    } else {
-        MOST_CONFLICTS
-    };
+    let most = first_conflicts(common.encoded.formula().len(), workers);
     match search_first(rt, alloc, common, seat, cubes, most) {
         Ok(conflicts) => Begun {
             conflicts,
