@@ -32,12 +32,35 @@ pub fn judge_file(
     text: &str,
     report: &mut Report,
 ) -> Result<(), AllocError> {
-    let mut line: usize = 0;
-    for text in text.split("\ngiven ") {
-        if line > 0 {
-            judge_section(rt, alloc, Place { path, line }, text, report)?;
+    let mut line: usize = 1;
+    for (part, text) in text.split("\ngiven ").enumerate() {
+        match section_of(part, text) {
+            Some(section) => judge_section(rt, alloc, Place { path, line }, section, report)?,
+            None => judge_above(alloc, path, text, report)?,
         }
-        line = line.max(1).saturating_add(text.split('\n').count());
+        line = line.saturating_add(text.split('\n').count());
+    }
+    Ok(())
+}
+
+/// The section of this part of a file, from 0; the first part is one only where the file begins with it.
+fn section_of(part: usize, text: &str) -> Option<&str> {
+    if part > 0 {
+        return Some(text);
+    }
+    text.strip_prefix("given ")
+}
+
+/// Tells of each row that stands above the first section, in this text, that it belongs to none.
+fn judge_above(
+    alloc: Global,
+    path: &str,
+    text: &str,
+    report: &mut Report,
+) -> Result<(), AllocError> {
+    let calls = calls_of(alloc, Place { path, line: 0 }, text)?;
+    for call in &calls {
+        report.miss(call.place, &call.text, "a section", "none");
     }
     Ok(())
 }
