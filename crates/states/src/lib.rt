@@ -9,6 +9,7 @@
 mod choice;
 mod cycles;
 mod graph;
+mod key;
 mod reading;
 mod reality;
 mod shape;
@@ -16,6 +17,7 @@ mod state;
 
 pub use choice::choose;
 pub use cycles::{Cycle, find_cycle};
+pub use key::{Key, mixed};
 pub use reading::read_off;
 pub use shape::{PairShape, Shape};
-pub use state::{State, matched_part};
+pub use state::State;

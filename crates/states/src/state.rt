@@ -1,14 +1,12 @@
 //! What is known of the end of a stuck run.
 
+use crate::key::{Key, mixed};
 use crate::shape::{CallShape, PairShape, RankShape, Shape};
 use propagation::negated;
 use std::alloc::{AllocError, Global};
 
-/// How many numbers of a key tell what is known of a rank.
-const RANK_NUMBERS: usize = 3;
-
-/// The number that ends those of a key that tell which calls are matched.
-const KEY_END: u32 = u32::MAX;
+/// How many literals at most say how far a rank comes.
+const CODES_OF_A_RANK: usize = 3;
 
 /// What is known of a rank.
 #[derive(Clone, Copy)]
@@ -32,36 +30,35 @@ pub struct State {
     pub(crate) unsettled: Vec<usize>,
 }
 
-/// A number that is small enough for a key.
-fn number(value: usize) -> u32 {
-    u32::try_from(value).unwrap_or(u32::MAX)
-}
-
-fn push_ranks(key: &mut Vec<u32>, ranks: &[Progress]) -> Result<(), AllocError> {
+/// The hash of what has this hash and of how far these ranks come.
+fn mixed_ranks(hash: u64, ranks: &[Progress]) -> u64 {
+    let mut hash = hash;
     for rank in ranks {
-        key.push(number(rank.issued))?;
-        key.push(number(rank.end))?;
-        key.push(u32::from(rank.is_finished))?;
+        hash = mixed(hash, rank.issued as u64);
+        hash = mixed(hash, rank.end as u64);
+        hash = mixed(hash, u64::from(rank.is_finished));
     }
-    Ok(())
+    hash
 }
 
-/// The places at which it is true, behind their number.
-fn push_places(key: &mut Vec<u32>, is_so: &[bool]) -> Result<(), AllocError> {
+/// The hash of the places at which it is true.
+fn mixed_places(is_so: &[bool]) -> u64 {
+    let mut hash = 0u64;
     for place in 0..is_so.len() {
         if is_so[place] {
-            key.push(number(place))?;
+            hash = mixed(hash, place as u64);
         }
     }
-    key.push(KEY_END)?;
-    Ok(())
+    hash
 }
 
-fn push_numbers(key: &mut Vec<u32>, values: &[usize]) -> Result<(), AllocError> {
-    for value in values {
-        key.push(number(*value))?;
+/// The hash of what has this hash and of these numbers.
+fn mixed_numbers(hash: u64, numbers: &[usize]) -> u64 {
+    let mut hash = hash;
+    for number in numbers {
+        hash = mixed(hash, *number as u64);
     }
-    Ok(())
+    hash
 }
 
 fn push_issued(
@@ -122,18 +119,6 @@ fn push_kept(shape: &Shape<'_>, codes: &mut Vec<u32>, kept: &[usize]) -> Result<
     Ok(())
 }
 
-/// Those of the numbers that tell a state of the program that tell which calls are matched.
-pub fn matched_part(alloc: Global, shape: &Shape<'_>, key: &[u32]) -> Result<Vec<u32>, AllocError> {
-    let mut part = Vec::new(alloc);
-    for place in shape.ranks().len().saturating_mul(RANK_NUMBERS)..key.len() {
-        if key[place] == KEY_END {
-            break;
-        }
-        part.push(key[place])?;
-    }
-    Ok(part)
-}
-
 impl State {
     /// Nothing is known.
     pub fn new(alloc: Global, shape: &Shape<'_>) -> Result<State, AllocError> {
@@ -177,13 +162,12 @@ impl State {
         }
     }
 
-    /// Numbers that tell what is known: states of one program with the same ones have the same assumptions.
-    pub fn key(&self, alloc: Global) -> Result<Vec<u32>, AllocError> {
-        let mut key = Vec::new(alloc);
-        push_ranks(&mut key, &self.ranks)?;
-        push_places(&mut key, &self.is_matched)?;
-        push_numbers(&mut key, &self.kept)?;
-        Ok(key)
+    /// What tells what is known. States of one program with the same key have, but for chance, the same assumptions.
+    pub fn key(&self) -> Key {
+        let matched = mixed_places(&self.is_matched);
+        let ranks = mixed_ranks(matched, &self.ranks);
+        let state = mixed_numbers(ranks, &self.kept);
+        Key { state, matched }
     }
 
     /// Whether the rank surely goes on after the call.
@@ -226,7 +210,8 @@ impl State {
 
     /// The numbers of literals that say all this. That the forgotten pairs are among themselves is said by what isn't matched.
     pub fn assumptions(&self, alloc: Global, shape: &Shape<'_>) -> Result<Vec<u32>, AllocError> {
-        let mut codes = Vec::new(alloc);
+        let most = self.ranks.len().saturating_mul(CODES_OF_A_RANK);
+        let mut codes = Vec::with_capacity(alloc, most.saturating_add(self.kept.len()))?;
         push_issued(shape, &mut codes, &self.ranks)?;
         push_ends(shape, &mut codes, &self.ranks)?;
         push_kept(shape, &mut codes, &self.kept)?;

@@ -1,12 +1,13 @@
 //! What propagation knows, and how clauses come in.
 
-use crate::others::{Others, hash_of};
+use crate::others::Others;
 use batches::Batch;
 use clauses::{Formula, Lit};
 use propagation::{
     Marks, NONE, OWN, Store, Trail, Truth, Watches, add_line, code_of, negated, propagate,
     variable_of,
 };
+use states::mixed;
 use std::alloc::{AllocError, Global};
 use std::mem;
 
@@ -18,6 +19,9 @@ pub const SHORT: usize = 2;
 
 /// The longest clause that a state which it closes shortens by a line of its own.
 const MOST_SHORTENED: usize = 12;
+
+/// With what each literal of a lemma is mixed, so that lemmas have other hashes than states.
+const LEMMA: u64 = 0xD1B5_4A32_D192_ED03;
 
 /// What can't be.
 #[derive(Clone, Copy)]
@@ -80,6 +84,7 @@ pub(crate) struct Engine {
 /// Puts the literals' numbers in place of those in the list.
 pub(crate) fn fill(codes: &mut Vec<u32>, literals: &[Lit]) -> Result<(), AllocError> {
     codes.clear();
+    codes.reserve(literals.len())?;
     for literal in literals {
         codes.push(code_of(literal))?;
     }
@@ -95,11 +100,13 @@ fn negations(alloc: Global, codes: &[u32]) -> Result<Vec<u32>, AllocError> {
     Ok(negations)
 }
 
-/// What tells the lemma with these literals from nearly all others.
-fn lemma_of(alloc: Global, codes: &[u32]) -> Result<u64, AllocError> {
-    let mut sorted = codes.to_vec(alloc)?;
-    sorted.sort_unstable();
-    Ok(hash_of(&sorted))
+/// What tells the lemma with these literals, in whatever order, from nearly all others.
+fn lemma_of(codes: &[u32]) -> u64 {
+    let mut sum = 0u64;
+    for code in codes {
+        sum = sum.wrapping_add(mixed(LEMMA, u64::from(*code)));
+    }
+    sum
 }
 
 impl Engine {
@@ -350,7 +357,7 @@ impl Engine {
         if !self.to_root(alloc)? {
             return Ok(true);
         }
-        let lemma = lemma_of(alloc, codes)?;
+        let lemma = lemma_of(codes);
         if self.takes_lemma(alloc, others, lemma)? {
             return Ok(true);
         }
@@ -392,7 +399,7 @@ impl Engine {
         second: u32,
         batch: &mut Batch,
     ) -> Result<(), AllocError> {
-        let lemma = lemma_of(alloc, &[negated(first), negated(second)])?;
+        let lemma = lemma_of(&[negated(first), negated(second)]);
         if self.takes_lemma(alloc, others, lemma)? {
             return Ok(());
         }

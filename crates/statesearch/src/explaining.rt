@@ -5,6 +5,9 @@ use batches::Batch;
 use propagation::{Marks, NONE, Store, Trail, negated, variable_of};
 use std::alloc::{AllocError, Global};
 
+/// For how many places there is room at first.
+const FIRST_PLACES: usize = 64;
+
 /// The negations of what a conflict rests on, with the places of what stands on the way, rising; `roots` are those of them at level 0, where
 /// the way ends.
 #[derive(Drop)]
@@ -106,8 +109,8 @@ impl Values<'_> {
         falsified: Option<usize>,
     ) -> Result<Way, AllocError> {
         let mut way = Way {
-            causes: Vec::new(alloc),
-            places: Vec::new(alloc),
+            causes: Vec::with_capacity(alloc, FIRST_PLACES)?,
+            places: Vec::with_capacity(alloc, FIRST_PLACES)?,
             roots: Vec::new(alloc),
         };
         for place in (0..self.trail.len()).rev() {
@@ -142,7 +145,7 @@ impl Values<'_> {
             mut places,
             roots,
         } = way;
-        let mut literals = Vec::new(alloc);
+        let mut literals = Vec::with_capacity(alloc, causes.len().saturating_add(1))?;
         causes.sort_unstable();
         for _ in 0..self.trail.len() {
             let Some(cause) = causes.pop() else {
@@ -220,7 +223,7 @@ impl Engine {
         places: &[usize],
         conflict: Conflict,
     ) -> Result<Vec<u32>, AllocError> {
-        let mut tags = Vec::with_capacity(alloc, places.len())?;
+        let mut tags = Vec::with_capacity(alloc, places.len().saturating_add(1))?;
         for place in places {
             let reason = self
                 .trail

@@ -5,7 +5,7 @@ ghost use Rattle.std.specs.Prelude.{◌≤◌, vec_len};
 use crate::cutting::cut_cycle;
 use crate::engine::{Engine, MOST_WATCHED, fill};
 use crate::lemmas::{Lemmas, Portion};
-use crate::others::{Closing, Others, hash_of};
+use crate::others::{Closing, Others};
 use crate::tasks::{Branch, Branching, Purpose, Task};
 use batches::Batch;
 use cdcl::Solver;
@@ -13,7 +13,7 @@ use clauses::Clause;
 use encode::Encoded;
 use pages::Lines;
 use propagation::OWN;
-use states::{Shape, State, choose, find_cycle, matched_part, read_off};
+use states::{Key, Shape, State, choose, find_cycle, mixed, read_off};
 use std::alloc::{AllocError, Global};
 use std::collections::HashMap;
 
@@ -23,19 +23,17 @@ const MOST_NEAR: usize = 16;
 /// How often lemmas are made below one literal before its state is looked at anew.
 const MOST_ROUNDS: usize = 64;
 
-/// An odd number whose products are spread well.
-const MIXER: u64 = 0x9E37_79B9_7F4A_7C15;
-
 /// All that the search knows.
 #[derive(Drop)]
 pub(crate) struct Explorer<'e> {
     pub(crate) shape: Shape<'e>,
     pub(crate) engine: Engine,
     lemmas: Lemmas,
-    /// For each state that is closed the clause by which it is, by the numbers that tell the state.
-    table: HashMap<Vec<u32>, u32>,
-    /// The clauses that closed states with the same matched calls, by the numbers that tell these.
-    near: HashMap<Vec<u32>, Vec<u32>>,
+    /// For each state that is closed the clause by which it is, by its key's hash. Of two states with the same one the second isn't closed by the clause of
+    /// the first, which is seen where it isn't false, and then a clause is learnt.
+    table: HashMap<u64, u32>,
+    /// The clauses that closed states with the same matched calls, by the hash of these.
+    near: HashMap<u64, Vec<u32>>,
     /// What is left to do; the last one comes first.
     pub(crate) tasks: Vec<Task>,
     /// What learns where no rule helps, once it was needed.
@@ -53,14 +51,14 @@ pub(crate) struct Explorer<'e> {
     pub(crate) portion: Portion,
 }
 
-/// The place, of so many, at which a search of this turn begins below the state that these numbers tell: the first one at turn 0.
-fn first_of(turn: u32, key: &[u32], length: usize) -> usize
+/// The place, of so many, at which a search of this turn begins below the state with this key: the first one at turn 0.
+fn first_of(turn: u32, key: Key, length: usize) -> usize
     ensures { result ≤ length }
 {
     if turn == 0 {
         return 0;
     }
-    let mixed = (hash_of(key) ^ u64::from(turn)).wrapping_mul(MIXER) >> 33;
+    let mixed = mixed(key.state, u64::from(turn)) >> 33;
     (mixed as usize)
         .checked_rem(length)
         .unwrap_or(0)
@@ -194,7 +192,7 @@ impl<'e> Explorer<'e> {
         let Some((key, assumptions)) = self.tasks.get(place).and_then(Task::closing) else {
             return Ok(None);
         };
-        if self.others.closing(key).is_none() {
+        if self.others.closing(key.state).is_none() {
             return Ok(None);
         }
         Ok(Some(assumptions.to_vec(alloc)?))
@@ -209,23 +207,21 @@ impl<'e> Explorer<'e> {
         if !self.stand_on(alloc, &assumptions)? {
             return Ok(false);
         }
-        let Some(key) = self.key_at(alloc, place)? else {
+        let Some(key) = self.key_at(place) else {
             return Ok(false);
         };
-        if !self.take_over(alloc, &key)? {
-            self.others.forget(&key);
+        if !self.take_over(alloc, key)? {
+            self.others.forget(key.state);
             return Ok(false);
         }
         self.tasks.truncate(place);
         Ok(true)
     }
 
-    /// The numbers that tell the state that the task at this place is to close.
-    fn key_at(&self, alloc: Global, place: usize) -> Result<Option<Vec<u32>>, AllocError> {
-        match self.tasks.get(place).and_then(Task::closing) {
-            Some((key, _assumptions)) => Ok(Some(key.to_vec(alloc)?)),
-            None => Ok(None),
-        }
+    /// The key of the state that the task at this place is to close.
+    fn key_at(&self, place: usize) -> Option<Key> {
+        let (key, _assumptions) = self.tasks.get(place).and_then(Task::closing)?;
+        Some(key)
     }
 
     /// Drops the first task for a state that others have closed, and all that was to be done for it before.
@@ -238,11 +234,11 @@ impl<'e> Explorer<'e> {
         Ok(())
     }
 
-    /// Closes the state that these numbers tell, whose assumptions stand on the trail, by the clause of others that closes it, and answers whether there
+    /// Closes the state with this key, whose assumptions stand on the trail, by the clause of others that closes it, and answers whether there
     /// is one that is false. What others know may make one false that isn't so here.
-    fn take_over(&mut self, alloc: Global, key: &[u32]) -> Result<bool, AllocError> {
+    fn take_over(&mut self, alloc: Global, key: Key) -> Result<bool, AllocError> {
         let mut codes = Vec::new(alloc);
-        let Some((number, clause)) = self.others.closing(key) else {
+        let Some((number, clause)) = self.others.closing(key.state) else {
             return Ok(false);
         };
         fill(&mut codes, clause.literals())?;
@@ -253,7 +249,7 @@ impl<'e> Explorer<'e> {
             return Ok(false);
         };
         self.put_near(alloc, key, place)?;
-        self.table.insert(key.to_vec(alloc)?, place)?;
+        self.table.insert(key.state, place)?;
         Ok(true)
     }
 
@@ -316,34 +312,28 @@ impl<'e> Explorer<'e> {
         self.engine.take_in(number, &codes)
     }
 
-    /// The clause that closes the state which these numbers tell.
-    pub(crate) fn clause_of(&self, key: &[u32]) -> Option<u32> {
-        self.table.get(key).copied()
+    /// The clause that closes the state with this key.
+    pub(crate) fn clause_of(&self, key: Key) -> Option<u32> {
+        self.table.get(&key.state).copied()
     }
 
-    /// The state that these numbers tell is closed by this clause, which closed another one.
-    fn close_too(&mut self, key: Vec<u32>, clause: u32) -> Result<(), AllocError> {
-        self.others.tell(hash_of(&key), clause)?;
-        self.table.insert(key, clause)?;
+    /// The state with this key is closed by this clause, which closed another one.
+    fn close_too(&mut self, key: Key, clause: u32) -> Result<(), AllocError> {
+        self.others.tell(key.state, clause)?;
+        self.table.insert(key.state, clause)?;
         Ok(())
     }
 
-    /// This clause closes the state that these numbers tell, and maybe others with the same matched calls.
-    fn put_near(&mut self, alloc: Global, key: &[u32], clause: u32) -> Result<(), AllocError> {
-        let part = matched_part(alloc, &self.shape, key)?;
-        let clauses = self.near.entry(part)?.or_insert(Vec::new(alloc));
+    /// This clause closes the state with this key, and maybe others with the same matched calls.
+    fn put_near(&mut self, alloc: Global, key: Key, clause: u32) -> Result<(), AllocError> {
+        let clauses = self.near.entry(key.matched)?.or_insert(Vec::new(alloc));
         clauses.push(clause)?;
         Ok(())
     }
 
-    /// The state that these numbers tell is closed by this clause.
-    pub(crate) fn close(
-        &mut self,
-        alloc: Global,
-        key: Vec<u32>,
-        clause: u32,
-    ) -> Result<(), AllocError> {
-        self.put_near(alloc, &key, clause)?;
+    /// The state with this key is closed by this clause.
+    pub(crate) fn close(&mut self, alloc: Global, key: Key, clause: u32) -> Result<(), AllocError> {
+        self.put_near(alloc, key, clause)?;
         self.close_too(key, clause)
     }
 
@@ -359,12 +349,8 @@ impl<'e> Explorer<'e> {
     }
 
     /// A clause that closed a state with the same matched calls, and is false now.
-    fn near_clause(&self, alloc: Global, key: &[u32]) -> Result<Option<u32>, AllocError> {
-        let part = matched_part(alloc, &self.shape, key)?;
-        match self.near.get(&part) {
-            Some(clauses) => Ok(self.first_false(clauses)),
-            None => Ok(None),
-        }
+    fn near_clause(&self, key: Key) -> Option<u32> {
+        self.first_false(self.near.get(&key.matched)?)
     }
 
     /// Puts a task before all others.
@@ -451,8 +437,8 @@ impl<'e> Explorer<'e> {
         state: State,
         batch: &mut Batch,
     ) -> Result<(), AllocError> {
-        let key = state.key(alloc)?;
-        if self.clause_of(&key).is_some() {
+        let key = state.key();
+        if self.clause_of(key).is_some() {
             return Ok(());
         }
         self.visit_unknown(alloc, state, key, batch)
@@ -463,11 +449,11 @@ impl<'e> Explorer<'e> {
         &mut self,
         alloc: Global,
         state: State,
-        key: Vec<u32>,
+        key: Key,
         batch: &mut Batch,
     ) -> Result<(), AllocError> {
         let assumptions = state.assumptions(alloc, &self.shape)?;
-        if !self.stand_on(alloc, &assumptions)? || self.take_over(alloc, &key)? {
+        if !self.stand_on(alloc, &assumptions)? || self.take_over(alloc, key)? {
             return Ok(());
         }
         self.visit_open(alloc, state, key, assumptions, batch)
@@ -478,11 +464,11 @@ impl<'e> Explorer<'e> {
         &mut self,
         alloc: Global,
         state: State,
-        key: Vec<u32>,
+        key: Key,
         assumptions: Vec<u32>,
         batch: &mut Batch,
     ) -> Result<(), AllocError> {
-        if let Some(clause) = self.near_clause(alloc, &key)? {
+        if let Some(clause) = self.near_clause(key) {
             return self.close_too(key, clause);
         }
         if self.makes_lemmas(alloc, None, batch)? {
@@ -497,12 +483,12 @@ impl<'e> Explorer<'e> {
         &mut self,
         alloc: Global,
         read: State,
-        key: Vec<u32>,
+        key: Key,
         assumptions: Vec<u32>,
         batch: &mut Batch,
     ) -> Result<(), AllocError> {
-        let read_key = read.key(alloc)?;
-        if read_key.as_slice() != key.as_slice() {
+        let read_key = read.key();
+        if read_key != key {
             self.push(Task::Alias(key, read_key))?;
             return self.push(Task::Visit(read));
         }
@@ -510,7 +496,7 @@ impl<'e> Explorer<'e> {
     }
 
     /// Closes the first state by what closes the second.
-    pub(crate) fn alias(&mut self, key: Vec<u32>, other: &[u32]) -> Result<(), AllocError> {
+    pub(crate) fn alias(&mut self, key: Key, other: Key) -> Result<(), AllocError> {
         match self.clause_of(other) {
             Some(clause) => self.close_too(key, clause),
             None => Ok(()),
@@ -522,7 +508,7 @@ impl<'e> Explorer<'e> {
         &mut self,
         alloc: Global,
         state: State,
-        key: Vec<u32>,
+        key: Key,
         assumptions: Vec<u32>,
         batch: &mut Batch,
     ) -> Result<(), AllocError> {
@@ -544,7 +530,7 @@ impl<'e> Explorer<'e> {
         if are_made {
             return self.push(Task::Visit(state));
         }
-        let first = first_of(self.portion.turn, &key, states.len());
+        let first = first_of(self.portion.turn, key, states.len());
         self.push(Task::Finish(Branching {
             key,
             assumptions,
@@ -567,7 +553,7 @@ impl<'e> Explorer<'e> {
         Ok(())
     }
 
-    /// What is below the literal. Where the state is settled, no lemma is due above it.
+    /// What is below the literal. Where the state is settled, no lemma is due at it.
     fn below(
         &mut self,
         alloc: Global,
@@ -638,7 +624,7 @@ impl<'e> Explorer<'e> {
                 Below::Lemmas => return Ok(true),
                 Below::Conflict => None,
                 Below::State(below) => {
-                    let key = below.key(alloc)?;
+                    let key = below.key();
                     states.push(below)?;
                     Some(key)
                 }

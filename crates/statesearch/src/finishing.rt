@@ -4,6 +4,7 @@ use crate::engine::{Conflict, Written};
 use crate::explorer::Explorer;
 use crate::tasks::{Branch, Branching, Purpose, Task};
 use batches::Batch;
+use states::Key;
 use std::alloc::{AllocError, Global};
 
 /// What comes of a literal.
@@ -33,10 +34,7 @@ enum Against {
 impl<'e> Explorer<'e> {
     /// The clause of the state below the literal.
     fn clause_below(&self, branch: &Branch) -> Option<u32> {
-        match &branch.key {
-            Some(key) => self.clause_of(key),
-            None => None,
-        }
+        self.clause_of(branch.key?)
     }
 
     /// Makes the literal true, and answers which clause is false then.
@@ -219,7 +217,7 @@ impl<'e> Explorer<'e> {
     fn close_by(
         &mut self,
         alloc: Global,
-        key: Vec<u32>,
+        key: Key,
         assumptions: Vec<u32>,
         falsified: u32,
         batch: &mut Batch,

@@ -4,7 +4,6 @@ use clauses::Clause;
 use pages::Lines;
 use std::alloc::{AllocError, Global};
 use std::collections::HashMap;
-use std::hash::{FoldHasher, Hash, Hasher};
 
 /// A state that a search closed, or a lemma that it made, and the clause by which it did.
 #[derive(Clone, Copy, PartialEq, Eq)]
@@ -20,13 +19,6 @@ pub struct Closing {
 pub(crate) struct Told {
     pub(crate) state: u64,
     pub(crate) clause: u32,
-}
-
-/// What tells a state with this key from nearly all others.
-pub(crate) fn hash_of(key: &[u32]) -> u64 {
-    let mut hasher = FoldHasher::default();
-    key.hash(&mut hasher);
-    hasher.finish()
 }
 
 /// Lines of the log, from this place on, from 0.
@@ -88,9 +80,9 @@ impl Others {
         self.numbers.is_empty()
     }
 
-    /// Forgets that the state that these numbers tell is closed.
-    pub(crate) fn forget(&mut self, key: &[u32]) {
-        self.numbers.remove(&hash_of(key));
+    /// Forgets that the state that this number tells is closed.
+    pub(crate) fn forget(&mut self, state: u64) {
+        self.numbers.remove(&state);
     }
 
     /// The line of the lemma that this number tells, and its number. It is forgotten then.
@@ -108,12 +100,12 @@ impl Others {
         Some(line.clause())
     }
 
-    /// The line by which the state that these numbers tell is closed, and its number.
-    pub(crate) fn closing(&self, key: &[u32]) -> Option<(u32, &Clause)> {
+    /// The line by which the state that this number tells is closed, and its number.
+    pub(crate) fn closing(&self, state: u64) -> Option<(u32, &Clause)> {
         if self.is_empty() {
             return None;
         }
-        let number = *self.numbers.get(&hash_of(key))?;
+        let number = *self.numbers.get(&state)?;
         Some((number, self.line(number)?))
     }
 }

@@ -336,11 +336,11 @@ impl<'e> Explorer<'e> {
         batch: &mut Batch,
     ) -> Result<Option<Hint>, AllocError> {
         let assumptions = state.assumptions(alloc, &self.shape)?;
-        let key = state.key(alloc)?;
+        let key = state.key();
         if !self.stand_on(alloc, &assumptions)? {
             return Ok(None);
         }
-        let Some(clause) = self.clause_of(&key) else {
+        let Some(clause) = self.clause_of(key) else {
             return Ok(None);
         };
         if self.engine.trail.level() > 0 {
@@ -382,7 +382,7 @@ impl<'e> Explorer<'e> {
     ) -> Result<(), AllocError> {
         match task {
             Some(Task::Visit(state)) => self.visit(alloc, state, batch),
-            Some(Task::Alias(key, other)) => self.alias(key, &other),
+            Some(Task::Alias(key, other)) => self.alias(key, other),
             Some(Task::Finish(branching)) => self.finish(alloc, branching, batch),
             _ => self.start(alloc, batch),
         }

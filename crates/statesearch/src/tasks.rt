@@ -1,13 +1,13 @@
 //! What is left to do.
 
-use states::State;
+use states::{Key, State};
 
 /// A literal on which a state is branched.
 #[derive(Drop)]
 pub(crate) struct Branch {
     pub(crate) literal: u32,
-    /// Numbers that tell the state below it; none where there is none.
-    pub(crate) key: Option<Vec<u32>>,
+    /// What tells the state below it; none where there is none.
+    pub(crate) key: Option<Key>,
     /// The clause against it, once there is one.
     pub(crate) clause: Option<u32>,
 }
@@ -15,7 +15,7 @@ pub(crate) struct Branch {
 /// A state and the literals on which it is branched, of which one is true.
 #[derive(Drop)]
 pub(crate) struct Branching {
-    pub(crate) key: Vec<u32>,
+    pub(crate) key: Key,
     pub(crate) assumptions: Vec<u32>,
     pub(crate) branches: Vec<Branch>,
 }
@@ -23,8 +23,8 @@ pub(crate) struct Branching {
 /// What a clause is looked for.
 #[derive(Drop)]
 pub(crate) enum Purpose {
-    /// It closes the state that these numbers tell.
-    State(Vec<u32>),
+    /// It closes the state with this key.
+    State(Key),
     /// It is against the literal at this place of the branching that is finished next.
     Literal(usize),
     /// It closes the search.
@@ -39,7 +39,7 @@ pub(crate) enum Task {
     /// To close this state.
     Visit(State),
     /// To close the first state by what closes the second.
-    Alias(Vec<u32>, Vec<u32>),
+    Alias(Key, Key),
     /// To close a state below whose literals all states are closed.
     Finish(Branching),
     /// To learn a clause of negations of these literals.
@@ -49,13 +49,11 @@ pub(crate) enum Task {
 }
 
 impl Task {
-    /// The numbers that tell the state that it closes, and what is assumed of that, where it knows both.
-    pub(crate) fn closing(&self) -> Option<(&[u32], &[u32])> {
+    /// The key of the state that it closes, and what is assumed of that, where it knows both.
+    pub(crate) fn closing(&self) -> Option<(Key, &[u32])> {
         match self {
-            Task::Finish(branching) => {
-                Some((branching.key.as_slice(), branching.assumptions.as_slice()))
-            }
-            Task::Learn(codes, Purpose::State(key)) => Some((key.as_slice(), codes.as_slice())),
+            Task::Finish(branching) => { Some((branching.key, branching.assumptions.as_slice())) }
+            Task::Learn(codes, Purpose::State(key)) => Some((*key, codes.as_slice())),
             _ => None,
         }
     }
