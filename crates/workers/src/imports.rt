@@ -4,7 +4,7 @@ use pages::Lines;
 use statesearch::SHORT;
 
 /// How many lines of others are taken in at a time, beside those short ones.
-const MOST_LINES: usize = 6_000;
+const MOST_LINES: usize = 1_000;
 
 /// From this many literals on lengths aren't told apart.
 const LENGTHS: usize = 128;

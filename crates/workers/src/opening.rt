@@ -4,7 +4,7 @@ use crate::common::{Begun, Common};
 use crate::gate::{Gate, Searched};
 use crate::numbers::number_of;
 use crate::stop::Stop;
-use crate::worker::Worker;
+use crate::worker::{CONFLICTS_AT_A_TIME, Worker};
 use cdcl::Found;
 use pool::{Share, Why};
 use std::alloc::Global;
@@ -19,9 +19,6 @@ const FIRST_CONFLICTS: u64 = 1_000;
 
 /// One more comes before them for so many clauses, since each of these workers makes tables of all clauses.
 const CLAUSES_FOR_A_CONFLICT: usize = 1_000;
-
-/// How many of them at a time once others have begun, since what they find meanwhile is seen after that alone.
-const CONFLICTS_AT_A_TIME: u64 = 250;
 
 /// Closes these cubes by the clause of this number, which has no literals.
 fn close_all<S: Share, R: Wait>(

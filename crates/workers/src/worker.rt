@@ -27,8 +27,11 @@ use std::mem;
 use std::ops::Range;
 use std::sync::Wait;
 
-/// How many conflicts one search counts at most.
-const MOST_CONFLICTS: u64 = 2_000;
+/// How many conflicts one search counts at most, since what others find meanwhile is seen after that alone.
+pub(crate) const CONFLICTS_AT_A_TIME: u64 = 250;
+
+/// After so many conflicts a cube is split.
+const CONFLICTS_BELOW_A_CUBE: u64 = 2_000;
 
 /// What comes after a search below a cube.
 enum Next {
@@ -53,6 +56,8 @@ pub(crate) struct Worker<'e> {
     seen: usize,
     /// The places in the log of the lines that the solver learnt last.
     own: Range<usize>,
+    /// How many conflicts were counted below the cube that isn't done.
+    below: u64,
     /// How many conflicts may still be counted.
     pub(crate) left: u64,
     /// How many conflicts it counts with no cube before it searches otherwise.
@@ -126,6 +131,7 @@ impl<'e> Worker<'e> {
             variables,
             seen: 0,
             own: 0..0,
+            below: 0,
             left: common.left(worker),
             whole: common.whole(worker),
             exploration: None,
@@ -257,7 +263,8 @@ impl<'e> Worker<'e> {
 
     /// The same below a cube, which is a turn of that search.
     fn search(&mut self, path: &[Lit]) -> Result<(Found, u64), Stop> {
-        let (found, conflicts) = self.learn(path, MOST_CONFLICTS)?;
+        let (found, conflicts) = self.learn(path, CONFLICTS_AT_A_TIME)?;
+        self.below = self.below.saturating_add(conflicts);
         if let Some(exploration) = &mut self.exploration {
             exploration.count(conflicts);
         }
@@ -329,6 +336,9 @@ impl<'e> Worker<'e> {
     ) -> Result<Next, Stop>
         ensures { C.deques cubes.new ≡ C.deques cubes.old }
     {
+        if self.below < CONFLICTS_BELOW_A_CUBE {
+            return Ok(Next::Same);
+        }
         let Some(variable) = self.branching(path) else {
             return Ok(Next::Same);
         };
@@ -512,7 +522,10 @@ impl<'e> Worker<'e> {
             };
             pause = Backoff::new();
             current = match self.step(rt, common, seat, cubes, worker, cube)? {
-                Next::Another => None,
+                Next::Another => {
+                    self.below = 0;
+                    None
+                }
                 Next::Same => Some(cube),
             };
             common.events.advance();
