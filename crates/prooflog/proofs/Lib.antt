@@ -16,4 +16,4 @@ pub mod TreeDepths
 pub mod Writings
 mod FormulaTexts
 pub mod TrimLaws
-pub mod ChunkTexts
+pub mod PortionTexts

@@ -13,7 +13,9 @@ use Rattle.prooflog.specs.declared.evidence.Evidence.TheVariants.{Refutation}
 use Rattle.prooflog.specs.declared.refutation.Version.{Version}
 use Rattle.prooflog.specs.declared.refutation.Version.TheVariants.{One, Two}
 use Rattle.prooflog.specs.Refutations.{ClaimedRefutation, a_proof, the_tree, a_node, literal_word, item_line, items, IsRefutation}
+use Rattle.refutations.specs.declared.tree.Node.{Node}
 use Rattle.prooflog.specs.Grammar.{heading_line, refutation_line, IsEvidenceText}
+use Rattle.prooflog.specs.Portions.{front_text, lines_text, tree_text}
 
 -- ---- words
 
@@ -50,24 +52,38 @@ headings_text : (version : Version) (v c : ℕ) → ((((heading_line version ++ 
 headings_text One v c = ap (λ (t : List ℕ). heading_line One ++ (codes "refutation " ++ (t ++ 10 ∷ []))) (append_assoc (numeral v) (32 ∷ []) (numeral c))
 headings_text Two v c = ap (λ (t : List ℕ). heading_line Two ++ (codes "refutation " ++ (t ++ 10 ∷ []))) (append_assoc (numeral v) (32 ∷ []) (numeral c))
 
+-- the headings, one part of them after another
+pub front_written : (out : List ℕ) (version : Version) (v c : ℕ)
+    → (((((out ++ heading_line version) ++ codes "refutation ") ++ numeral v) ++ 32 ∷ []) ++ numeral c) ++ 10 ∷ [] ≡ out ++ (heading_line version ++ refutation_line v c)
+front_written out version v c =
+    let h : List ℕ = heading_line version in
+    let word : List ℕ = h ++ codes "refutation " in
+    let first : List ℕ = word ++ numeral v in
+    let space : List ℕ = first ++ 32 ∷ [] in
+    let second : List ℕ = space ++ numeral c in
+    ap (λ (t : List ℕ). (((t ++ numeral v) ++ 32 ∷ []) ++ numeral c) ++ 10 ∷ []) (append_assoc out h (codes "refutation "))
+    ∙ ap (λ (t : List ℕ). ((t ++ 32 ∷ []) ++ numeral c) ++ 10 ∷ []) (append_assoc out word (numeral v))
+    ∙ ap (λ (t : List ℕ). (t ++ numeral c) ++ 10 ∷ []) (append_assoc out first (32 ∷ []))
+    ∙ ap (λ (t : List ℕ). t ++ 10 ∷ []) (append_assoc out space (numeral c))
+    ∙ append_assoc out second (10 ∷ []) ∙ ap (λ (t : List ℕ). out ++ t) (headings_text version v c)
+
+-- the tree behind its line
+pub tree_written : (out : List ℕ) (nodes : List Node) → (out ++ (codes "tree" ++ 10 ∷ [])) ++ flat_map item_line (map a_node nodes) ≡ out ++ tree_text nodes
+tree_written out nodes =
+    append_assoc out (item_line the_tree) (flat_map item_line (map a_node nodes)) ∙ ap (λ (t : List ℕ). out ++ t) (sym (flat_map-cons item_line the_tree (map a_node nodes)))
+
 -- the text of a refutation
-pub refutation_text : (r : ClaimedRefutation) (out : List ℕ) → IsRefutation r
-    → out ≡ (((((((heading_line r.version ++ codes "refutation ") ++ numeral r.variables) ++ 32 ∷ []) ++ numeral r.clauses) ++ 10 ∷ []) ++ flat_map item_line (map a_proof r.lines)) ++ (codes "tree" ++ 10 ∷ [])) ++ flat_map item_line (map a_node r.nodes)
-    → IsEvidenceText out (Refutation r)
+pub refutation_text : (r : ClaimedRefutation) (out : List ℕ) → IsRefutation r → out ≡ (front_text r ++ lines_text r.lines) ++ tree_text r.nodes → IsEvidenceText out (Refutation r)
 refutation_text r out limits e =
     let heading : List ℕ = heading_line r.version in
-    let front : List ℕ = ((((heading ++ codes "refutation ") ++ numeral r.variables) ++ 32 ∷ []) ++ numeral r.clauses) ++ 10 ∷ [] in
     let second : List ℕ = refutation_line r.variables r.clauses in
-    let above : List ℕ = flat_map item_line (map a_proof r.lines) in
-    let below : List ℕ = flat_map item_line (map a_node r.nodes) in
-    let headings : front ≡ heading ++ second = headings_text r.version r.variables r.clauses in
-    let body : above ++ (item_line the_tree ++ below) ≡ flat_map (λ line. line) (map item_line (items r)) =
-    ap (λ (t : List ℕ). above ++ t) (sym (flat_map-cons item_line the_tree (map a_node r.nodes))) ∙ sym (flat_map-append item_line (map a_proof r.lines) (the_tree ∷ map a_node r.nodes))
-    ∙ sym (flat_map-map (λ line. line) item_line (items r)) in
+    let above : List ℕ = lines_text r.lines in
+    let below : List ℕ = tree_text r.nodes in
+    let body : above ++ below ≡ flat_map (λ line. line) (map item_line (items r)) =
+    sym (flat_map-append item_line (map a_proof r.lines) (the_tree ∷ map a_node r.nodes)) ∙ sym (flat_map-map (λ line. line) item_line (items r)) in
     record {
       limits = limits;
-      text = e ∙ append_assoc (front ++ above) (item_line the_tree) below ∙ append_assoc front above (item_line the_tree ++ below) ∙ (λ i. headings i ++ body i)
-          ∙ append_assoc heading second (flat_map (λ line. line) (map item_line (items r)))
+      text = e ∙ append_assoc (front_text r) above below ∙ append_assoc heading second (above ++ below) ∙ ap (λ (t : List ℕ). heading ++ (second ++ t)) body
           ∙ ap (λ (text : List ℕ). heading ++ text) (sym (flat_map-cons (λ line. line) second (map item_line (items r))))
           ∙ sym (flat_map-cons (λ line. line) heading (second ∷ map item_line (items r)));
     }

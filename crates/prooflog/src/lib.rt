@@ -9,18 +9,19 @@
 #![tactic(auto)]
 
 mod ahead;
-mod chunks;
 mod evidence;
 mod fault;
 mod formula_text;
 mod laws;
 mod node;
+mod portions;
 mod proof_line;
 mod reader;
 mod refutation;
 mod refutation_reader;
 mod schedule;
 mod step;
+mod text;
 mod trims;
 mod words;
 mod writer;
@@ -35,5 +36,6 @@ pub use refutation::{
 };
 pub use schedule::Schedule;
 pub use step::{find_word, put_find};
+pub use text::Text;
 pub use trims::{TrimFault, trim};
 pub use writer::{put_hints, put_literals, write_evidence, write_evidence_in};

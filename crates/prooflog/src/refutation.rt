@@ -193,6 +193,15 @@ impl Refutation {
         }
     }
 
+    /// The proof lines and the tree.
+    pub(crate) fn into_parts(self) -> (Vec<Line>, ProofTree)
+        ensures lines { result.0.items ≡ self.lines }
+        ensures tree { result.1 ≡ self.nodes }
+    {
+        let Refutation { lines, tree, .. } = self;
+        (lines, tree)
+    }
+
     /// Which rules it is held to.
     pub fn version(&self) -> Version
         ensures { result ≡ self.now.version }

@@ -7,17 +7,18 @@ ghost use Rattle.refutations.specs.Proofs.{ProofLine};
 ghost use Rattle.prooflog.specs.Steps.{step_line, written, IsSchedule};
 ghost use Rattle.prooflog.specs.Refutations.{literal_word, item_line, a_proof, a_node};
 ghost use Rattle.prooflog.specs.Grammar.{IsEvidenceText, heading_line};
-ghost use Rattle.prooflog.specs.Chunks.{AreChunks};
+ghost use Rattle.prooflog.specs.Portions.{front_text, tree_text};
 
-use crate::chunks::{Chunk, chunks_of, put_all};
 use crate::evidence::Evidence;
 use crate::node::put_node;
+use crate::portions::put_portions;
 use crate::refutation::{Refutation, Version};
 use crate::schedule::Schedule;
 use crate::step::{put_step, written};
+use crate::text::Text;
 use clauses::Lit;
 use plaintext::put_number;
-use refutations::{Line, Node};
+use refutations::{Line, Node, ProofTree};
 use semantics::Step;
 use std::alloc::{AllocError, Global};
 use std::thread::Threads;
@@ -117,26 +118,57 @@ fn put_heading(out: &mut Vec<u8>, version: Version) -> Result<(), AllocError>
     }
 }
 
-/// The text of the refutation, of whose lines these parts are written already.
-fn write_refutation(
-    alloc: Global,
-    refutation: &Refutation,
-    chunks: Vec<Option<Chunk>>,
-) -> Result<Vec<u8>, AllocError>
-    requires { AreChunks refutation.now.lines chunks.items }
+/// Writes what stands before the proof lines at the end.
+fn put_front(out: &mut Vec<u8>, refutation: &Refutation) -> Result<(), AllocError>
+    ensures { OnOk result (out.new.items ≡ out.old.items ++ front_text refutation.now) }
+{
+    put_heading(out, refutation.version())?;
+    out.extend_from_slice(b"refutation ")?;
+    put_number(out, refutation.variables())?;
+    out.push(b' ')?;
+    put_number(out, refutation.clauses())?;
+    out.push(b'\n')?;
+    Ok(())
+}
+
+/// Writes the tree, which stands behind the proof lines, at the end.
+fn put_tree(out: &mut Vec<u8>, tree: &ProofTree) -> Result<(), AllocError>
+    ensures { OnOk result (out.new.items ≡ out.old.items ++ tree_text tree.now) }
+{
+    out.extend_from_slice(b"tree\n")?;
+    put_nodes(out, tree.nodes())?;
+    Ok(())
+}
+
+/// The text of the refutation.
+fn write_refutation(alloc: Global, refutation: &Refutation) -> Result<Vec<u8>, AllocError>
     ensures { IfOk result (λ text. IsEvidenceText text.items (Evidence.Refutation refutation.now)) }
 {
     let mut out = Vec::new(alloc);
-    put_heading(&mut out, refutation.version())?;
-    out.extend_from_slice(b"refutation ")?;
-    put_number(&mut out, refutation.variables())?;
-    out.push(b' ')?;
-    put_number(&mut out, refutation.clauses())?;
-    out.push(b'\n')?;
-    put_all(&mut out, refutation.lines(), chunks)?;
-    out.extend_from_slice(b"tree\n")?;
-    put_nodes(&mut out, refutation.tree().nodes())?;
+    put_front(&mut out, refutation)?;
+    put_lines(&mut out, refutation.lines())?;
+    put_tree(&mut out, refutation.tree())?;
     Ok(out)
+}
+
+/// The text of the refutation, whose proof lines are written in so many portions.
+fn write_refutation_in<R: Threads + Sync>(
+    rt: &R,
+    alloc: Global,
+    refutation: Refutation,
+    parts: usize,
+) -> Result<Text, AllocError>
+    ensures { IfOk result (λ text. IsEvidenceText text (Evidence.Refutation refutation)) }
+{
+    let mut front = Vec::new(alloc);
+    put_front(&mut front, &refutation)?;
+    let mut text = Text::of(alloc, front);
+    let (lines, tree) = refutation.into_parts();
+    put_portions(rt, alloc, &mut text, lines, parts)?;
+    let mut end = Vec::new(alloc);
+    put_tree(&mut end, &tree)?;
+    text.push(end)?;
+    Ok(text)
 }
 
 /// The text of the evidence. The only error is want of memory.
@@ -144,29 +176,26 @@ pub fn write_evidence(alloc: Global, evidence: &Evidence) -> Result<Vec<u8>, All
     ensures { IfOk result (λ text. IsEvidenceText text.items evidence.now) }
 {
     match evidence {
-        Evidence::Refutation(refutation) => write_refutation(alloc, refutation, Vec::new(alloc)),
+        Evidence::Refutation(refutation) => write_refutation(alloc, refutation),
         Evidence::Schedule(schedule) => write_schedule(alloc, schedule),
     }
 }
 
-/// The same text, of which proof lines are written in so many parts, each in a thread of its own where one can be started. A part has more than a thousand
-/// lines; so there may be fewer, or none at all.
+/// The same text in parts, of which proof lines are written in so many portions, or in fewer, each in a thread of its own where one can be started.
+/// What is written is dropped there.
 pub fn write_evidence_in<R: Threads + Sync>(
     rt: &R,
     alloc: Global,
-    evidence: &Evidence,
+    evidence: Evidence,
     parts: usize,
-) -> Result<Vec<u8>, AllocError>
-    ensures { IfOk result (λ text. IsEvidenceText text.items evidence.now) }
+) -> Result<Text, AllocError>
+    ensures { IfOk result (λ text. IsEvidenceText text evidence) }
 {
-    if parts < 2 {
-        return write_evidence(alloc, evidence);
-    }
     match evidence {
-        Evidence::Refutation(refutation) => {
-            let chunks = chunks_of(rt, alloc, refutation.lines(), parts)?;
-            write_refutation(alloc, refutation, chunks)
+        Evidence::Refutation(refutation) => write_refutation_in(rt, alloc, refutation, parts),
+        Evidence::Schedule(schedule) => {
+            let text = write_schedule(alloc, &schedule)?;
+            Ok(Text::of(alloc, text))
         }
-        Evidence::Schedule(schedule) => write_schedule(alloc, schedule),
     }
 }

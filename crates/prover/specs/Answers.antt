@@ -56,8 +56,8 @@ HasNoFormulaText program reason = IsProgramReason program reason ⊎ ((p : MpiPr
 -- memory aside. A program is refused for a fault of its own text, or as one whose formula is beyond a limit, and never for want of memory. Where no
 -- answer is known, the reason is want of memory; or the text is a program's, whose formula is within the limits.
 abbrev pub Answers : List ℕ → Answer → Type 0
-Answers program (answers.NoDeadlock evidence) = IsNeverStuck program × Refutes program evidence.items
-Answers program (answers.Deadlock evidence) = Shows program evidence.items
+Answers program (answers.NoDeadlock evidence) = IsNeverStuck program × Refutes program evidence
+Answers program (answers.Deadlock evidence) = Shows program evidence
 Answers program (answers.Unknown why) = (why ≡ whys.Memory) ⊎ ((p : MpiProgram) × IsTextOf program p × HasFormula p)
 Answers program (answers.Refused reason) = HasNoFormulaText program reason × (reason ≢ reasons.Memory)
 

@@ -4,7 +4,6 @@ ghost use Rattle.std.specs.Prelude.{◌≡◌, ℕ, List, IfErr, IfNone, IfOk, I
 ghost use Rattle.callorder.specs.Programs.{MpiProgram};
 ghost use Rattle.callorder.specs.Resolving.{IsTextOf};
 ghost use Rattle.checker.specs.Verdicts.{HasFormula};
-ghost use Rattle.prooflog.specs.Grammar.{IsEvidenceText};
 ghost use Rattle.prover.specs.Answers.{Answers, FinishesIfUnknown, HasNoFormulaText};
 ghost use Rattle.formulas.specs.Numbering.{formula_of};
 ghost use Rattle.pool.specs.States.{IsUndecided};
@@ -17,54 +16,51 @@ use callorder::Program;
 use checker::{Reason, formula_of, program_of};
 use encode::Encoded;
 use pool::{AssembleFault, Pool, Why, schedule_of_run};
-use prooflog::{Evidence, TrimFault, trim, write_evidence, write_evidence_in};
+use prooflog::{Evidence, Refutation, Schedule, TrimFault, trim, write_evidence_in};
 use settings::Options;
 use std::alloc::{AllocError, Global};
 use std::sync::Wait;
 use std::thread::Threads;
 use workers::Gate;
 
-/// How many parts of an evidence each worker writes. Parts differ in length.
-const PARTS_OF_A_WORKER: u32 = 4;
-
-/// In how many parts an evidence is written.
+/// In how many portions an evidence is written: as many as there are workers, since more threads would take memory that wasn't used before.
 fn part_count(options: Options) -> usize {
-    match options.workers() {
-        1 => 1,
-        workers => workers.saturating_mul(PARTS_OF_A_WORKER) as usize,
+    options.workers() as usize
+}
+
+/// The answer of a refutation, for each program on which it is an evidence. It is written in so many portions.
+fn told_refutation<R: Threads + Sync>(
+    rt: &R,
+    alloc: Global,
+    refutation: Refutation,
+    parts: usize,
+) -> Answer
+    ensures { (p : MpiProgram) (text : List ℕ) → IsEvidenceOn p (Evidence.Refutation refutation) → IsTextOf text p → Answers text result }
+{
+    match write_evidence_in(rt, alloc, Evidence::Refutation(refutation), parts) {
+        Ok(text) => Answer::NoDeadlock(text),
+        Err(AllocError) => Answer::Unknown(Why::Memory),
     }
 }
 
-/// The answer of an evidence with this text, for each program on which it is one.
-fn told_by(evidence: &Evidence, text: Vec<u8>) -> Answer
-    requires { IsEvidenceText text.items evidence.now }
-    ensures answer { (p : MpiProgram) (text : List ℕ) → IsEvidenceOn p evidence.now → IsTextOf text p → Answers text result }
+/// The answer of a schedule, for each program on which it is an evidence.
+fn told_schedule<R: Threads + Sync>(rt: &R, alloc: Global, schedule: Schedule) -> Answer
+    ensures answer { (p : MpiProgram) (text : List ℕ) → IsEvidenceOn p (Evidence.Schedule schedule) → IsTextOf text p → Answers text result }
     ensures finishes { (budget : ℕ) (text : List ℕ) → FinishesIfUnknown budget text result }
+{
+    match write_evidence_in(rt, alloc, Evidence::Schedule(schedule), 1) {
+        Ok(text) => Answer::Deadlock(text),
+        Err(AllocError) => Answer::Unknown(Why::Memory),
+    }
+}
+
+/// The answer of an evidence, of which a refutation is written in so many portions.
+fn told<R: Threads + Sync>(rt: &R, alloc: Global, evidence: Evidence, parts: usize) -> Answer
+    ensures { (p : MpiProgram) (text : List ℕ) → IsEvidenceOn p evidence → IsTextOf text p → Answers text result }
 {
     match evidence {
-        Evidence::Schedule(_schedule) => Answer::Deadlock(text),
-        Evidence::Refutation(_refutation) => Answer::NoDeadlock(text),
-    }
-}
-
-/// The answer of an evidence.
-fn told(alloc: Global, evidence: &Evidence) -> Answer
-    ensures answer { (p : MpiProgram) (text : List ℕ) → IsEvidenceOn p evidence.now → IsTextOf text p → Answers text result }
-    ensures finishes { (budget : ℕ) (text : List ℕ) → FinishesIfUnknown budget text result }
-{
-    match write_evidence(alloc, evidence) {
-        Ok(text) => told_by(evidence, text),
-        Err(AllocError) => Answer::Unknown(Why::Memory),
-    }
-}
-
-/// The same of an evidence that is written in so many parts.
-fn told_in<R: Threads + Sync>(rt: &R, alloc: Global, evidence: &Evidence, parts: usize) -> Answer
-    ensures { (p : MpiProgram) (text : List ℕ) → IsEvidenceOn p evidence.now → IsTextOf text p → Answers text result }
-{
-    match write_evidence_in(rt, alloc, evidence, parts) {
-        Ok(text) => told_by(evidence, text),
-        Err(AllocError) => Answer::Unknown(Why::Memory),
+        Evidence::Refutation(refutation) => told_refutation(rt, alloc, refutation, parts),
+        Evidence::Schedule(schedule) => told_schedule(rt, alloc, schedule),
     }
 }
 
@@ -79,7 +75,7 @@ fn shorten(alloc: Global, evidence: &mut Evidence) -> Result<(), AllocError>
     }
 }
 
-/// The answer of what a pool assembled, which is written in so many parts. A reason for which a worker left may be noted.
+/// The answer of what a pool assembled, which is written in so many portions. A reason for which a worker left may be noted.
 fn told_trimmed<R: Threads + Sync>(
     rt: &R,
     alloc: Global,
@@ -90,7 +86,7 @@ fn told_trimmed<R: Threads + Sync>(
     ensures { (p : MpiProgram) (text : List ℕ) → HasFormula p → IsEvidenceOn p evidence → IsTextOf text p → Answers text result }
 {
     match shorten(alloc, &mut evidence) {
-        Ok(()) => told_in(rt, alloc, &evidence, parts),
+        Ok(()) => told(rt, alloc, evidence, parts),
         Err(AllocError) => Answer::Unknown(smallest_with(noted, Why::Memory)),
     }
 }
@@ -103,7 +99,7 @@ fn unnoted(was_short: bool) -> Why
 }
 
 /// What a pool says at the end of a search, in which memory may have been wanting. A leaf that is open for no reason that was noted counts
-/// as left. An evidence is written in so many parts.
+/// as left. An evidence is written in so many portions.
 fn answer_of<R: Threads + Sync>(
     rt: &R,
     alloc: Global,
@@ -124,7 +120,7 @@ fn answer_of<R: Threads + Sync>(
 }
 
 /// The answer of the walks, where one of them ends stuck or memory runs out.
-fn walked(alloc: Global, program: &Program) -> Option<Answer>
+fn walked<R: Threads + Sync>(rt: &R, alloc: Global, program: &Program) -> Option<Answer>
     ensures some { IfSome result (λ answer. (text : List ℕ) → IsTextOf text program.now → Answers text answer) }
     ensures finishes { IfSome result (λ answer. (budget : ℕ) (text : List ℕ) → FinishesIfUnknown budget text answer) }
     ensures none { IfNone result (HasFinishedRun program.now) }
@@ -132,7 +128,7 @@ fn walked(alloc: Global, program: &Program) -> Option<Answer>
     match stuck_walk(alloc, program) {
         Ok(Some(steps)) => {
             let schedule = schedule_of_run(program, steps);
-            Some(told(alloc, &Evidence::Schedule(schedule)))
+            Some(told_schedule(rt, alloc, schedule))
         }
         Ok(None) => None,
         Err(AllocError) => Some(Answer::Unknown(Why::Memory)),
@@ -193,7 +189,7 @@ fn answered<G: Gate + Sync, R: Threads + Wait + Sync>(
     if options.budget() == 0 {
         return searched(rt, alloc, program, options, gate);
     }
-    match walked(alloc, &program) {
+    match walked(rt, alloc, &program) {
         Some(answer) => Ok(answer),
         None => searched(rt, alloc, program, options, gate),
     }

@@ -1,6 +1,5 @@
 -- The laws of how a run ended.
-use Rattle.std.proofs.Common.{◌≡◌, ◌∙◌, ◌<◌, ◌⊎◌, arith, ap, inl, inr, refl, sym, subst, ℕ, List, Bool, true, false, Some, None, Option, option_map}
-use Rattle.std.specs.Io.KnownBytes.{Appends}
+use Rattle.std.proofs.Common.{◌≡◌, ◌∙◌, ◌<◌, ◌⊎◌, arith, ap, inl, inr, refl, sym, subst, ℕ, List, Bool, true, false, Some, None, Option}
 use Rattle.clap.specs.Words.{Text}
 use Rattle.clap.specs.declared.error.kind.ErrorKind.{ErrorKind}
 use Rattle.checker.specs.Verdicts.{Judges, Shows}

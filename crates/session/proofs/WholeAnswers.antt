@@ -37,8 +37,8 @@ large_no_formula read whole reason large all (inl is) = inl (large_program_reaso
 large_no_formula read whole reason large all (inr none) = absurd (no_program read none.0 large none.1)
 
 large_answer : (read whole : List ℕ) (a : Answer) → IsTooLarge read → IsTooLarge whole → Answers read a → Answers whole a
-large_answer read whole (answers.NoDeadlock evidence) large all is = absurd (none_refuted read evidence.items large is.1)
-large_answer read whole (answers.Deadlock evidence) large all is = absurd (none_shown read evidence.items large is)
+large_answer read whole (answers.NoDeadlock evidence) large all is = absurd (none_refuted read evidence large is.1)
+large_answer read whole (answers.Deadlock evidence) large all is = absurd (none_shown read evidence large is)
 large_answer read whole (answers.Unknown why) large all (inl memory) = inl memory
 large_answer read whole (answers.Unknown why) large all (inr within) = absurd (no_program read within.0 large within.1)
 large_answer read whole (answers.Refused reason) large all is = (large_no_formula read whole reason large all is.0, is.1)
@@ -113,8 +113,8 @@ none_found form program evidence text status large (inr hangs) = none_shown prog
 
 large_page : (form : Form) (read whole : List ℕ) (a : Answer) (text : List ℕ) (status : ℕ) → IsTooLarge read → IsTooLarge whole → IsAnswerPage form read a text status
     → IsAnswerPage form whole a text status
-large_page form read whole (answers.NoDeadlock evidence) text status large all is = absurd (none_found form read evidence.items text status large is)
-large_page form read whole (answers.Deadlock evidence) text status large all is = absurd (none_found form read evidence.items text status large is)
+large_page form read whole (answers.NoDeadlock evidence) text status large all is = absurd (none_found form read evidence text status large is)
+large_page form read whole (answers.Deadlock evidence) text status large all is = absurd (none_found form read evidence text status large is)
 large_page form read whole (answers.Unknown why) text status large all is = is
 large_page form read whole (answers.Refused reason) text status large all is = is
 

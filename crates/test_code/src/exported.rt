@@ -119,7 +119,7 @@ fn refutation(
 ) -> Result<Vec<u8>, Fail> {
     let options = Options::make(1, depth, 1_000_000).ok_or("options out of range")?;
     match prove(rt, alloc, program.as_bytes(), options, &Open) {
-        Answer::NoDeadlock(evidence) => Ok(evidence),
+        Answer::NoDeadlock(evidence) => Ok(evidence.joined(alloc)?),
         _ => Err(Fail::from("no refutation")),
     }
 }

@@ -4,6 +4,7 @@ mod pieces_at_once;
 mod recorded;
 mod telling;
 
+use prooflog::Text;
 use prover::{Answer, Gate, Options, Searches, Verdict, Why, prove, verdict};
 use std::alloc::Global;
 use std::sync::Wait;
@@ -85,8 +86,8 @@ fn shown_of<R: Threads + Wait + Sync, G: Gate + Sync>(
     gate: &G,
 ) -> &'static str {
     match prove(rt, alloc, text, options, gate) {
-        Answer::NoDeadlock(evidence) => shown_by(rt, alloc, text, evidence.as_slice()),
-        Answer::Deadlock(evidence) => shown_by(rt, alloc, text, evidence.as_slice()),
+        Answer::NoDeadlock(evidence) => shown_by(rt, alloc, text, &evidence),
+        Answer::Deadlock(evidence) => shown_by(rt, alloc, text, &evidence),
         Answer::Unknown(Why::Budget) => "unknown budget",
         Answer::Unknown(_) => "unknown",
         Answer::Refused(_reason) => "refused",
@@ -97,9 +98,12 @@ fn shown_by<R: Threads + Sync>(
     rt: &R,
     alloc: Global,
     text: &[u8],
-    evidence: &[u8],
+    evidence: &Text,
 ) -> &'static str {
-    match verdict(rt, alloc, text, evidence) {
+    let Ok(evidence) = evidence.joined(alloc) else {
+        return "memory";
+    };
+    match verdict(rt, alloc, text, &evidence) {
         Verdict::NoDeadlock => "no deadlock",
         Verdict::Deadlock => "deadlock",
         Verdict::Refused(_reason) => "refused evidence",

@@ -160,7 +160,10 @@ fn shown_by(
         Answer::NoDeadlock(evidence) => (evidence, Fate::NeverStuck, Verdict::NoDeadlock),
         _ => return None,
     };
-    if verdict(rt, alloc, text, evidence) == wanted {
+    let Ok(evidence) = evidence.joined(alloc) else {
+        return None;
+    };
+    if verdict(rt, alloc, text, &evidence) == wanted {
         return Some(fate);
     }
     None

@@ -7,11 +7,11 @@ use clauses::Lit;
 use cubes::CubeFault;
 use pieces::LinesFault;
 use prooflog::{
-    Evidence, EvidenceFault, TrimFault, read_evidence, read_evidence_in, trim, write_evidence,
-    write_evidence_in,
+    Evidence, EvidenceFault, Text, TrimFault, read_evidence, read_evidence_in, trim,
+    write_evidence, write_evidence_in,
 };
 use refutations::{LineFault, MakeLineFault, TreeFault};
-use std::alloc::AllocError;
+use std::alloc::{AllocError, Global};
 use std::thread::Threads;
 use std::{mem, str};
 use trees::SplitFault;
@@ -68,15 +68,18 @@ fn trim_whole(text: &str, given: &mut Given) {
 fn read_in<R: Threads + Sync>(rt: &R, words: &str, given: &mut Given) {
     let (parts, text) = words.split_once(' ').unwrap_or(("", words));
     let parts = number(parts, given) as usize;
-    let read = read_evidence_in(rt, given.alloc, text.as_bytes(), parts);
-    match &read {
+    match read_evidence_in(rt, given.alloc, text.as_bytes(), parts) {
         Ok(evidence) => {
             let written = write_evidence_in(rt, given.alloc, evidence, parts);
-            put_written(text, written, given);
+            put_written(text, joined(given.alloc, written), given);
         }
         Err(fault) => given.show(fault),
     }
-    mem::drop(read);
+}
+
+/// The text as one part.
+fn joined(alloc: Global, written: Result<Text, AllocError>) -> Result<Vec<u8>, AllocError> {
+    written?.joined(alloc)
 }
 
 /// The text of a fault that only want of memory brings about, and the size of a literal.

@@ -145,7 +145,7 @@ fn followed<R: Threads + Wait + Sync>(
 ) -> Result<Vec<u8>, Fail> {
     let text = text.replace(alloc, '/', "\n")?;
     match prove(rt, alloc, text.as_bytes(), options, counts) {
-        Answer::NoDeadlock(evidence) => Ok(evidence),
+        Answer::NoDeadlock(evidence) => Ok(evidence.joined(alloc)?),
         _ => Err(Fail::from("another answer")),
     }
 }
@@ -228,6 +228,7 @@ fn is_refuted<R: Threads + Wait + Clock + Sync>(
     let text = text.replace(alloc, '/', "\n")?;
     match prove_telling(rt, alloc, text.as_bytes(), options(4, 2, 1_000_000)?, told) {
         Answer::NoDeadlock(evidence) => {
+            let evidence = evidence.joined(alloc)?;
             Ok(verdict(rt, alloc, text.as_bytes(), &evidence) == Verdict::NoDeadlock)
         }
         _ => Ok(false),

@@ -56,24 +56,25 @@ unexported tells old new file program evidence (verdicts.Refused reason) other s
 pub returns-in-Ok-clause-page : goal.returns-in-Ok-clause-page
 returns-in-Ok-clause-page g c =
     let held = g.F.FileSet.held c.args.files.now in
-    let proof = c.deref-in-Ok.result.now in
+    let proof = c.in-Ok.proof.items in
     let (program, all_p, alike_p) = subst (StandsFor AreAlikePrograms (held c.args.program.now)) (sym c.deref.ensures.value) c.in_ok-program.ensures.program in
     let (evidence, all_e, alike_e) = subst (StandsFor AreAlikeEvidences (held c.args.evidence.now)) (sym c.deref-2.ensures.value) c.in_ok-program.ensures.evidence in
     page_written g.F.FileSet.tells_written held (g.F.FileSet.held c.read_both.new.files) (g.F.FileSet.held c.decided_page.new.files)
     c.args.program.now c.args.evidence.now c.args.out.now program evidence proof c.decided_page.result all_p all_e
     (whole_proof c.deref.result.now program c.deref-2.result.now evidence proof alike_p alike_e
-    (subst (Exports c.deref.result.now c.deref-2.result.now) (sym c.deref-in-Ok.ensures.value) c.in-Ok.ensures.proof)) c.decided_page.ensures.written c.decided_page.ensures.line
+    c.in-Ok.ensures.proof) (subst (λ (t : List ℕ). OnOk c.decided_page.result (IsWritten g.F.FileSet.tells_written (g.F.FileSet.held c.read_both.new.files) (g.F.FileSet.held c.decided_page.new.files) (Some c.args.out.now) t)) c.of-proof.ensures c.decided_page.ensures.written)
+    c.decided_page.ensures.line
 
 pub returns-in-Ok-clause-stop : goal.returns-in-Ok-clause-stop
 returns-in-Ok-clause-stop g c =
     let held = g.F.FileSet.held c.args.files.now in
-    let proof = c.deref-in-Ok.result.now in
+    let proof = c.in-Ok.proof.items in
     let (program, all_p, alike_p) = subst (StandsFor AreAlikePrograms (held c.args.program.now)) (sym c.deref.ensures.value) c.in_ok-program.ensures.program in
     let (evidence, all_e, alike_e) = subst (StandsFor AreAlikeEvidences (held c.args.evidence.now)) (sym c.deref-2.ensures.value) c.in_ok-program.ensures.evidence in
     stops_written (g.F.FileSet.reads c.args.files.now) held (g.F.FileSet.held c.read_both.new.files) (g.F.FileSet.held c.decided_page.new.files)
     c.args.program.now c.args.evidence.now c.args.out.now program evidence proof c.decided_page.result c.in_ok-program.ensures.same all_p all_e
     (whole_proof c.deref.result.now program c.deref-2.result.now evidence proof alike_p alike_e
-    (subst (Exports c.deref.result.now c.deref-2.result.now) (sym c.deref-in-Ok.ensures.value) c.in-Ok.ensures.proof)) c.decided_page.ensures.stop
+    c.in-Ok.ensures.proof) c.decided_page.ensures.stop
 
 pub returns-clause-page : goal.returns-clause-page
 returns-clause-page g c =

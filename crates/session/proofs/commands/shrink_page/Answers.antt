@@ -48,8 +48,7 @@ returns-in-Ok-clause-page g c =
     let smaller = c.in-Ok.shrunk.text.items in
     page_written g.F.FileSet.tells_written held between new c.args.program.now out whole smaller c.smaller_page.result
     c.in_ok-text.ensures.same all hangs (whole_shrunk c.deref.result.now whole smaller alike c.in-Ok.ensures.given c.in-Ok.ensures.shrunk)
-    (subst (λ (s : List ℕ). OnOk c.smaller_page.result (IsWritten g.F.FileSet.tells_written between new out s)) c.deref-in-Ok.ensures.value c.smaller_page.ensures.written)
-    (subst (λ (s : List ℕ). IfOk c.smaller_page.result (λ (p : Page). IsSmallerPage out s p.text.items)) c.deref-in-Ok.ensures.value c.smaller_page.ensures.page)
+    c.smaller_page.ensures.written c.smaller_page.ensures.page
     c.smaller_page.ensures.status
 
 pub returns-in-Ok-clause-stop : goal.returns-in-Ok-clause-stop

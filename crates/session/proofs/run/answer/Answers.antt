@@ -1,5 +1,5 @@
 -- A command ends by its page, by want of memory or by a file that failed.
-use Rattle.std.proofs.Common.{◌≡◌, IfErr, IfOk, ℕ, List, Bool, Result, Ok, Err, inl, inr, option_map, subst, false}
+use Rattle.std.proofs.Common.{IfErr, IfOk, ℕ, List, Bool, Result, Ok, Err, inl, inr, option_map, subst}
 use Rattle.std.specs.Prelude.{Option}
 use Rattle.session.specs.Endings.{Ends, Finishes}
 use Rattle.session.specs.Pages.{IsChecked, IsEither, IsEncoded, IsExplainFile, IsExplainPage, IsExported, IsExportFile, IsProveFile, IsProgram, IsProved, IsReplayed, IsMadeSmaller, IsShrinkFile, IsTrimFile, IsTrimmed, StopsBy, is_object}
