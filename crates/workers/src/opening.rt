@@ -127,10 +127,10 @@ fn first_conflicts(clauses: usize, workers: u32) -> u64 {
     }
 }
 
-/// Searches the whole formula, with no cube, before so many workers begin: match variables are probed, and at most 4,000 conflicts are
-/// counted, and at most those of the budget; where there are several workers, at most 1,000 now and one for each 1,000 clauses, and the others by worker 0 when all have begun. Where that
-/// refutes the formula, these cubes are closed. What was learnt is published, so that workers need not probe again. The gate is called after the search, as if
-/// it were one of worker 0.
+/// Searches the whole formula, with no cube, before so many workers begin: match variables are probed, and at most 4,000 conflicts are counted,
+/// and at most those of the budget; where there are several workers, at most 1,000 now and one for each 1,000 clauses, and the others by worker
+/// 0 when all have begun. Where that refutes the formula, these cubes are closed. What was learnt is published, so that workers need not probe
+/// again. The gate is called after the search, as if it were one of worker 0.
 pub fn open<S: Share, G: Gate, R: Wait>(
     rt: &R,
     alloc: Global,

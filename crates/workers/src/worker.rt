@@ -580,9 +580,10 @@ fn reason<S: Share, C: Cubes, G: Gate, R: Wait>(
 /// the two halves of a cube that took too long, and the schedule of an assignment that satisfies the formula. The gate is called before
 /// each cube, and after each search, with this number of the worker.
 ///
-/// A search counts at most 2,000 conflicts, and all of them at most as many as the budget; after each the cube is closed,
-/// split or, where the tree has no room, searched on. A cube is split on the match variable that took part in most conflicts of those that
-/// have no value below its path; where there is none, on the first variable that isn't on it, match variables first, in the branching order.
+/// A search counts at most 250 conflicts, and all of them at most as many as the budget. Once 2,000 were counted below a cube that isn't
+/// closed, it is split or, where the tree has no room, searched on. A cube is split on the match variable that took part in most conflicts of
+/// those that have no value below its path; where there is none, on the first variable that isn't on it, match variables first, in the
+/// branching order.
 ///
 /// Worker 0 begins with what the opening left to it: searches with no cube, of 250 conflicts at most each.
 ///
@@ -590,7 +591,7 @@ fn reason<S: Share, C: Cubes, G: Gate, R: Wait>(
 /// conflict of its budget: in turn with cubes, where a conflict counts as four lines, or as long as that search goes on. It tells the other workers
 /// which states it closed and which lemmas it made, and takes theirs over, so that all of them together search over the sets once. They write 600,000 lines
 /// at most; where the log has room for no more than what is left of these, it searches below no cube. Where the log has an empty clause, each cube is
-/// closed by it. Of the lines of others a worker takes in the shortest, up to 6,000 after each search, and all with at most two literals; these alone
+/// closed by it. Of the lines of others a worker takes in the shortest, up to 1,000 after each search, and all with at most two literals; these alone
 /// as long as it searches below no cube.
 ///
 /// The worker leaves with no reason once a schedule was found or no leaf is open, or, without a cube, once another worker left for a
