@@ -7,7 +7,7 @@ use cdcl::{Found, SolveFault};
 use encode::Encoded;
 use pages::Lines;
 use refutations::Line;
-use statesearch::{Closing, StateSearch};
+use statesearch::{Closing, SHORT, StateSearch};
 use std::alloc::{AllocError, Global};
 use std::mem;
 use std::ops::Range;
@@ -195,7 +195,7 @@ fn import_new(
     for place in searcher.lines..shared.lines.len() {
         let number = number_at(shared.encoded, place);
         let clause = shared.lines[place].clause();
-        let is_taken = clause.literals().len() <= 2 || searcher.own.contains(&place);
+        let is_taken = clause.literals().len() <= SHORT || searcher.own.contains(&place);
         if is_taken && searcher.search.import(alloc, number, clause).is_err() {
             return Err(AllocError);
         }
