@@ -1,6 +1,6 @@
 //! What is known of the end of a stuck run.
 
-use crate::key::{Key, mixed};
+use crate::key::{Key, NOTHING, mixed};
 use crate::shape::{CallShape, PairShape, RankShape, Shape};
 use propagation::negated;
 use std::alloc::{AllocError, Global};
@@ -41,15 +41,16 @@ fn mixed_ranks(hash: u64, ranks: &[Progress]) -> u64 {
     hash
 }
 
-/// The hash of the places at which it is true.
+/// The hash of the places at which it is true. The number at its end is none of a place,
+/// so that what is mixed in behind it can't be taken for one.
 fn mixed_places(is_so: &[bool]) -> u64 {
-    let mut hash = 0u64;
+    let mut hash = NOTHING;
     for place in 0..is_so.len() {
         if is_so[place] {
             hash = mixed(hash, place as u64);
         }
     }
-    hash
+    mixed(hash, u64::MAX)
 }
 
 /// The hash of what has this hash and of these numbers.
