@@ -2,6 +2,7 @@
 
 ghost use Rattle.std.specs.Prelude.{◌≤◌, vec_len};
 
+use crate::claims::Claims;
 use crate::cutting::cut_cycle;
 use crate::engine::{Engine, MOST_WATCHED, fill};
 use crate::lemmas::{Lemmas, Portion};
@@ -47,6 +48,8 @@ pub(crate) struct Explorer<'e> {
     leaves_cycles: bool,
     /// What searches tell each other.
     others: Others,
+    /// Which states searches are closing, where they tell each other.
+    claims: Option<&'e Claims>,
     /// Which lemmas it makes first. Its turn tells, too, which state below another one is visited first.
     pub(crate) portion: Portion,
 }
@@ -120,12 +123,14 @@ impl<'e> Explorer<'e> {
             returned: 0,
             leaves_cycles: false,
             others: Others::new(alloc, encoded.formula().len()),
+            claims: None,
             portion: Portion { turn: 0, lines: 0 },
         })
     }
 
-    /// Has the search of this number begin elsewhere than others.
-    pub(crate) fn turn(&mut self, number: u32) {
+    /// Has the search of this number begin elsewhere than others that have these claims.
+    pub(crate) fn share(&mut self, claims: &'e Claims, number: u32) {
+        self.claims = Some(claims);
         self.portion.turn = number;
     }
 
@@ -430,18 +435,47 @@ impl<'e> Explorer<'e> {
         self.push(Task::Visit(again))
     }
 
-    /// Branches the state, unless it is closed already or meets a conflict at once, as what leads to it then does too.
+    /// Whether another search is closing the state with this key; else this one is from now on.
+    fn is_taken(&self, key: Key) -> bool {
+        match self.claims {
+            Some(claims) => claims.is_taken(key, self.portion.turn),
+            None => false,
+        }
+    }
+
+    /// How many states are to be closed first.
+    fn visits(&self) -> usize {
+        let mut count = 0usize;
+        for task in self.tasks.iter().rev() {
+            if !task.is_visit() {
+                break;
+            }
+            count = count.saturating_add(1);
+        }
+        count
+    }
+
+    /// Puts the state behind all others that are to be closed below the same one.
+    fn put_last(&mut self, state: State) -> Result<(), AllocError> {
+        let place = self.tasks.len().saturating_sub(self.visits());
+        self.tasks.insert(place, Task::VisitLast(state))?;
+        Ok(())
+    }
+
+    /// Branches the state, unless it is closed already or meets a conflict at once, as what leads to it then does too. One that another search is closing comes
+    /// last, unless it has to be now.
     pub(crate) fn visit(
         &mut self,
         alloc: Global,
         state: State,
+        is_last: bool,
         batch: &mut Batch,
     ) -> Result<(), AllocError> {
         let key = state.key();
         if self.clause_of(key).is_some() {
             return Ok(());
         }
-        self.visit_unknown(alloc, state, key, batch)
+        self.visit_unknown(alloc, state, key, is_last, batch)
     }
 
     /// Branches a state with this key, which wasn't closed, unless others did or it meets a conflict at once.
@@ -450,8 +484,12 @@ impl<'e> Explorer<'e> {
         alloc: Global,
         state: State,
         key: Key,
+        is_last: bool,
         batch: &mut Batch,
     ) -> Result<(), AllocError> {
+        if self.others.closing(key.state).is_none() && self.is_taken(key) && !is_last {
+            return self.put_last(state);
+        }
         let assumptions = state.assumptions(alloc, &self.shape)?;
         if !self.stand_on(alloc, &assumptions)? || self.take_over(alloc, key)? {
             return Ok(());

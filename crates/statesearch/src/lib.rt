@@ -5,6 +5,7 @@
 //! search may answer. Nothing is promised of the lines of a batch: whoever takes them checks them.
 #![tactic(auto)]
 
+mod claims;
 mod cutting;
 mod engine;
 mod explaining;
@@ -18,6 +19,7 @@ mod searcher;
 mod tasks;
 mod units;
 
+pub use claims::Claims;
 pub use engine::SHORT;
 pub use others::Closing;
 pub use searcher::StateSearch;

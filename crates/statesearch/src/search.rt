@@ -381,7 +381,8 @@ impl<'e> Explorer<'e> {
         batch: &mut Batch,
     ) -> Result<(), AllocError> {
         match task {
-            Some(Task::Visit(state)) => self.visit(alloc, state, batch),
+            Some(Task::Visit(state)) => self.visit(alloc, state, false, batch),
+            Some(Task::VisitLast(state)) => self.visit(alloc, state, true, batch),
             Some(Task::Alias(key, other)) => self.alias(key, other),
             Some(Task::Finish(branching)) => self.finish(alloc, branching, batch),
             _ => self.start(alloc, batch),

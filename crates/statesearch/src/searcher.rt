@@ -4,6 +4,7 @@ ghost use Rattle.std.specs.Prelude.{◌≡◌, IfOk};
 ghost use Rattle.clauses.specs.Clauses.{is_within};
 ghost use Rattle.statesearch.specs.Answers.{Searched, Imported, Started, Informed};
 
+use crate::claims::Claims;
 use crate::explorer::Explorer;
 use crate::others::Closing;
 use crate::search::{Counted, Ending};
@@ -70,11 +71,12 @@ impl<'e> StateSearch<'e> {
         }
     }
 
-    /// Has searches of different numbers over the same program begin elsewhere, so that each closes states that the others need.
-    pub fn turn(&mut self, number: u32)
+    /// Has searches of different numbers, from 0 and below 64, over the same program begin elsewhere, so that each closes states that the others need.
+    /// They tell each other by these claims which state each is closing.
+    pub fn share(&mut self, claims: &'e Claims, number: u32)
         ensures { self.new ≡ self.old }
     {
-        self.explorer.turn(number);
+        self.explorer.share(claims, number);
     }
 
     /// Takes in which states other searches over the same program closed, and which lemmas they made, by clauses of the formula and then of the lines of a

@@ -38,6 +38,8 @@ pub(crate) enum Task {
     Start,
     /// To close this state.
     Visit(State),
+    /// The same where another search was closing it, once nothing else is left to do below the same state.
+    VisitLast(State),
     /// To close the first state by what closes the second.
     Alias(Key, Key),
     /// To close a state below whose literals all states are closed.
@@ -49,6 +51,11 @@ pub(crate) enum Task {
 }
 
 impl Task {
+    /// Whether it is to close a state that wasn't looked at.
+    pub(crate) fn is_visit(&self) -> bool {
+        matches!(self, Task::Visit(_) | Task::VisitLast(_))
+    }
+
     /// The key of the state that it closes, and what is assumed of that, where it knows both.
     pub(crate) fn closing(&self) -> Option<(Key, &[u32])> {
         match self {

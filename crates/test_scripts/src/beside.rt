@@ -7,7 +7,7 @@ use cdcl::{Found, SolveFault};
 use encode::Encoded;
 use pages::Lines;
 use refutations::Line;
-use statesearch::{Closing, SHORT, StateSearch};
+use statesearch::{Claims, Closing, SHORT, StateSearch};
 use std::alloc::{AllocError, Global};
 use std::mem;
 use std::ops::Range;
@@ -33,8 +33,9 @@ struct Shared<'e> {
 /// are no more lines than so many then.
 pub fn beside(encoded: &Encoded, words: &str, given: &mut Given) {
     let (count, words) = cut_number(words, given);
+    let claims = Claims::new(given.alloc);
     let mut searchers = Vec::new(given.alloc);
-    begin(encoded, count, &mut searchers, given);
+    begin(encoded, &claims, count, &mut searchers, given);
     if !given.is_refused() {
         search_all(encoded, searchers.as_mut_slice(), words, given);
     }
@@ -43,29 +44,31 @@ pub fn beside(encoded: &Encoded, words: &str, given: &mut Given) {
 
 fn begin<'e>(
     encoded: &'e Encoded,
+    claims: &'e Claims,
     count: u32,
     searchers: &mut Vec<Searcher<'e>>,
     given: &mut Given,
 ) {
     for number in 0..count {
-        begin_one(encoded, number, searchers, given);
+        begin_one(encoded, claims, number, searchers, given);
     }
 }
 
 fn begin_one<'e>(
     encoded: &'e Encoded,
+    claims: &'e Claims,
     number: u32,
     searchers: &mut Vec<Searcher<'e>>,
     given: &mut Given,
 ) {
     match StateSearch::new(given.alloc, encoded) {
-        Ok(search) => add(searchers, begun(search, number), given),
+        Ok(search) => add(searchers, begun(search, claims, number), given),
         Err(_error) => given.refuse("memory"),
     }
 }
 
-fn begun(mut search: StateSearch<'_>, number: u32) -> Searcher<'_> {
-    search.turn(number);
+fn begun<'e>(mut search: StateSearch<'e>, claims: &'e Claims, number: u32) -> Searcher<'e> {
+    search.share(claims, number);
     Searcher {
         search,
         lines: 0,

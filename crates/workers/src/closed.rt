@@ -1,6 +1,6 @@
 //! Which states the searches over sets of matched calls have closed, and which lemmas they made.
 
-use statesearch::Closing;
+use statesearch::{Claims, Closing};
 use std::alloc::{AllocError, Global};
 use std::sync::{Mutex, Wait};
 
@@ -11,10 +11,12 @@ struct Entry {
     closing: Closing,
 }
 
-/// The states that any worker's search over sets of matched calls has closed, and the lemmas that it has made, in the order in which that was told.
+/// The states that any worker's search over sets of matched calls has closed, and the lemmas that it has made, in the order in which that was told, and the
+/// states that each is closing.
 #[derive(Drop)]
 pub struct ClosedStates {
     entries: Mutex<Vec<Entry>>,
+    pub(crate) claims: Claims,
 }
 
 impl ClosedStates {
@@ -22,6 +24,7 @@ impl ClosedStates {
     pub fn new(alloc: Global) -> ClosedStates {
         ClosedStates {
             entries: Mutex::new(Vec::new(alloc)),
+            claims: Claims::new(alloc),
         }
     }
 

@@ -9,7 +9,6 @@ use crate::worker::Worker;
 use batches::Batch;
 use cdcl::Found;
 use clauses::Clause;
-use encode::Encoded;
 use pages::Lines;
 use pool::{MOST_LINES, Share, Why};
 use statesearch::{SHORT, StateSearch};
@@ -93,21 +92,20 @@ pub(crate) struct Exploration<'e> {
 }
 
 impl<'e> Exploration<'e> {
-    /// The exploration of a worker that explores so; none where it doesn't.
-    pub(crate) fn make(
+    /// The exploration of the worker of this number, from 0; none where none explores.
+    pub(crate) fn make<S, G>(
         alloc: Global,
-        encoded: &'e Encoded,
-        exploring: Exploring,
+        common: &Common<'e, S, G>,
         worker: u32,
     ) -> Result<Option<Exploration<'e>>, AllocError> {
-        if exploring == Exploring::Never {
+        if common.exploring == Exploring::Never {
             return Ok(None);
         }
-        let mut search = StateSearch::new(alloc, encoded)?;
-        search.turn(worker);
+        let mut search = StateSearch::new(alloc, common.encoded)?;
+        search.share(&common.closed.claims, worker);
         Ok(Some(Exploration {
             search,
-            turns: Turns::new(exploring != Exploring::InTurn, worker),
+            turns: Turns::new(common.exploring != Exploring::InTurn, worker),
             own: 0..0,
             seen: 0,
             has_others: false,

@@ -145,7 +145,7 @@ impl<'e> Worker<'e> {
         common: &Common<'e, S, G>,
         worker: u32,
     ) -> Result<(), AllocError> {
-        self.exploration = Exploration::make(self.alloc, common.encoded, common.exploring, worker)?;
+        self.exploration = Exploration::make(self.alloc, common, worker)?;
         Ok(())
     }
 
