@@ -245,6 +245,19 @@ impl Engine {
         Ok(conflict.is_none())
     }
 
+    /// Makes those of these literals true that have no value at level 0, and lets nothing follow.
+    pub(crate) fn suppose(&mut self, codes: &[u32]) -> Result<(), AllocError> {
+        self.trail.back(0);
+        self.kept = None;
+        self.trail.open_level()?;
+        for code in codes {
+            if self.trail.is_unset(*code) {
+                self.trail.assign(*code, NONE);
+            }
+        }
+        Ok(())
+    }
+
     /// Makes the literal true.
     fn assume_one(&mut self, alloc: Global, code: u32) -> Result<Option<Conflict>, AllocError> {
         if self.trail.is_true(code) {

@@ -258,6 +258,20 @@ impl<'e> Explorer<'e> {
         Ok(true)
     }
 
+    /// The same where that clause is false under the assumptions alone, as most are, so that nothing has to follow from them.
+    fn takes_over(
+        &mut self,
+        alloc: Global,
+        key: Key,
+        assumptions: &[u32],
+    ) -> Result<bool, AllocError> {
+        if self.others.closing(key.state).is_none() {
+            return Ok(false);
+        }
+        self.engine.suppose(assumptions)?;
+        self.take_over(alloc, key)
+    }
+
     /// The clause of the next line of the last batch, where that has these literals.
     fn next_own(&self, codes: &[u32]) -> Option<u32> {
         let line = self.engine.lines.get(self.returned)?;
@@ -491,7 +505,10 @@ impl<'e> Explorer<'e> {
             return self.put_last(state);
         }
         let assumptions = state.assumptions(alloc, &self.shape)?;
-        if !self.stand_on(alloc, &assumptions)? || self.take_over(alloc, key)? {
+        if self.takes_over(alloc, key, &assumptions)?
+            || !self.stand_on(alloc, &assumptions)?
+            || self.take_over(alloc, key)?
+        {
             return Ok(());
         }
         self.visit_open(alloc, state, key, assumptions, batch)
