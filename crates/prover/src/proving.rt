@@ -206,7 +206,7 @@ fn answered<G: Gate + Sync, R: Threads + Wait + Sync>(
 /// Walks come first, before any formula is made, if the budget is above 0: runs that go on until no step is enabled. They differ in whether they
 /// buffer, whether they match or issue first, and which rank and which match comes first, and then for each rank one holds it back as long
 /// as it can. Where none ends stuck, the whole formula is searched for at most 4,000 conflicts, which count for worker 0; where there are several
-/// workers, all but the first 1,000, and one for each 1,000 clauses, beside them. Then as many workers as the options say search the cubes of the
+/// workers, all but the first 500, and one for each 1,000 clauses, beside them. Then as many workers as the options say search the cubes of the
 /// tree that `split` gives at the depth of the options, each with the budget of the options and in a thread of its own where one can be started.
 /// Cube k of the first tree, from 0 in the order of its nodes, goes to worker k modulo their number; a worker without cubes takes another's. Each
 /// searches over sets of matched calls, too, in turn with cubes; these sets are shared. Who refutes the formula first closes all cubes. The options

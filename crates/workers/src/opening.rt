@@ -15,7 +15,7 @@ use std::sync::Wait;
 const MOST_CONFLICTS: u64 = 4_000;
 
 /// How many of them before other workers begin, where there are some.
-const FIRST_CONFLICTS: u64 = 1_000;
+const FIRST_CONFLICTS: u64 = 500;
 
 /// One more comes before them for so many clauses, since each of these workers makes tables of all clauses.
 const CLAUSES_FOR_A_CONFLICT: usize = 1_000;
@@ -128,7 +128,7 @@ fn first_conflicts(clauses: usize, workers: u32) -> u64 {
 }
 
 /// Searches the whole formula, with no cube, before so many workers begin: match variables are probed, and at most 4,000 conflicts are counted,
-/// and at most those of the budget; where there are several workers, at most 1,000 now and one for each 1,000 clauses, and the others by worker
+/// and at most those of the budget; where there are several workers, at most 500 now and one for each 1,000 clauses, and the others by worker
 /// 0 when all have begun. Where that refutes the formula, these cubes are closed. What was learnt is published, so that workers need not probe
 /// again. The gate is called after the search, as if it were one of worker 0.
 pub fn open<S: Share, G: Gate, R: Wait>(
