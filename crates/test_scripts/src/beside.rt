@@ -30,14 +30,14 @@ struct Shared<'e> {
 }
 
 /// Has so many searches take turns with this budget, each of a turn of its own, until one closes the program: `COUNT BUDGET MOST`. Tells whether there
-/// are no more lines than so many then.
-pub fn beside(encoded: &Encoded, words: &str, given: &mut Given) {
+/// are no more lines than so many then. The first one may take one turn alone and leave.
+pub fn beside(encoded: &Encoded, words: &str, leaves: bool, given: &mut Given) {
     let (count, words) = cut_number(words, given);
     let claims = Claims::new(given.alloc);
     let mut searchers = Vec::new(given.alloc);
     begin(encoded, &claims, count, &mut searchers, given);
     if !given.is_refused() {
-        search_all(encoded, searchers.as_mut_slice(), words, given);
+        search_all(encoded, searchers.as_mut_slice(), words, leaves, given);
     }
     mem::drop(searchers);
 }
@@ -78,7 +78,13 @@ fn begun<'e>(mut search: StateSearch<'e>, claims: &'e Claims, number: u32) -> Se
 }
 
 /// Has the searches take turns: `BUDGET MOST`.
-fn search_all(encoded: &Encoded, searchers: &mut [Searcher<'_>], words: &str, given: &mut Given) {
+fn search_all(
+    encoded: &Encoded,
+    searchers: &mut [Searcher<'_>],
+    words: &str,
+    leaves: bool,
+    given: &mut Given,
+) {
     let (budget, words) = cut_number(words, given);
     let (most, _) = cut_number(words, given);
     let mut shared = Shared {
@@ -86,7 +92,7 @@ fn search_all(encoded: &Encoded, searchers: &mut [Searcher<'_>], words: &str, gi
         lines: Vec::new(given.alloc),
         closed: Vec::new(given.alloc),
     };
-    let is_closed = go_on(searchers, &mut shared, u64::from(budget), given);
+    let is_closed = go_on(searchers, &mut shared, u64::from(budget), leaves, given);
     put_end(is_closed, shared.lines.len(), most as usize, given);
     mem::drop(shared);
 }
@@ -108,24 +114,29 @@ fn go_on(
     searchers: &mut [Searcher<'_>],
     shared: &mut Shared<'_>,
     budget: u64,
+    leaves: bool,
     given: &mut Given,
 ) -> bool {
+    let mut first = 0usize;
     for _ in 0..1_000 {
-        if go_round(searchers, shared, budget, given) {
+        if go_round(searchers, first, shared, budget, given) {
             return true;
         }
+        first = usize::from(leaves);
     }
     false
 }
 
+/// Has each from this place on take a turn.
 fn go_round(
     searchers: &mut [Searcher<'_>],
+    first: usize,
     shared: &mut Shared<'_>,
     budget: u64,
     given: &mut Given,
 ) -> bool {
-    for searcher in searchers.iter_mut() {
-        if take_turn(searcher, shared, budget, given) {
+    for (place, searcher) in searchers.iter_mut().enumerate() {
+        if place >= first && take_turn(searcher, shared, budget, given) {
             return true;
         }
     }

@@ -141,7 +141,8 @@ fn judge_by<'f>(
 impl Subject for Searches<'_> {
     fn answer(&mut self, name: &str, words: &str, given: &mut Given) {
         match name {
-            "beside" => search_beside(self.encoded, words, given),
+            "beside" => search_beside(self.encoded, words, false, given),
+            "beside_one_that_left" => search_beside(self.encoded, words, true, given),
             "conflicts" => given.show(self.search.counted()),
             "lines" => given.number(self.lines.len()),
             "import" => import(&mut self.search, words, given),
@@ -154,9 +155,9 @@ impl Subject for Searches<'_> {
     }
 }
 
-fn search_beside(encoded: Option<&Encoded>, words: &str, given: &mut Given) {
+fn search_beside(encoded: Option<&Encoded>, words: &str, leaves: bool, given: &mut Given) {
     match encoded {
-        Some(encoded) => beside(encoded, words, given),
+        Some(encoded) => beside(encoded, words, leaves, given),
         None => given.refuse("not made: no program"),
     }
 }
