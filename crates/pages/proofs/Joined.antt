@@ -4,6 +4,7 @@ use Rattle.std.specs.Option.{option_map}
 use Rattle.std.specs.Slice.{IsItemAt}
 use Rattle.std.proofs.lemmas.Option.{slice_get_past, slice_get_read}
 use Rattle.std.proofs.Math.Seq.{drop-append-add}
+use Rattle.std.proofs.lemmas.Grind.{flat_map-append}
 use Rattle.std.proofs.lemmas.List.{drop-drop}
 use Rattle.std.specs.List.{slice_get}
 use Rattle.pages.specs.Pages.{joined, AreFull, IsPaged}
@@ -99,3 +100,29 @@ pub drop-after_pages : {X : Type 0} (size place : ℕ) (pages : List (List X)) (
 drop-after_pages {X} size place pages last full le =
     let e : length (joined pages) + (place - length pages * size) ≡ place = omega (arith, length-joined size pages full) in
     sym (drop-append-add (joined pages) last (place - length pages * size)) ∙ ap (λ n. drop n (joined pages ++ last)) e
+
+-- a list of pages with which another one begins is no longer
+pub pages_within : {X : Type 0} (pages others : List (List X)) (last other_last more : List X) → AreFull 64 pages → AreFull 64 others → length other_last < 64 → joined others ++ other_last ≡ (joined pages ++ last) ++ more → length pages ≤ length others
+pages_within pages others last other_last more full other_full few e =
+    let a = length-paged 64 others other_last other_full in
+    let b = length-paged 64 pages last full in
+    let c = length-append (joined pages ++ last) more in
+    let d = ap length e in
+    omega (arith, a, b, c, d, few)
+
+-- its pages with those of the other one behind them, and the other one's last lines, are the other one
+pub goes_on : {X : Type 0} (size : ℕ) (pages others : List (List X)) (last other_last more : List X) → AreFull size pages → AreFull size others → length pages ≤ length others → joined others ++ other_last ≡ (joined pages ++ last) ++ more
+    → joined (pages ++ drop (length pages) others) ++ other_last ≡ joined others ++ other_last
+goes_on {X} size pages others last other_last more full other_full within e =
+    let long : length (joined pages) + 0 ≡ length pages * size = omega (arith, length-joined size pages full) in
+    let behind : last ++ more ≡ joined (drop (length pages) others) ++ other_last =
+    sym (drop-append-add (joined pages) (last ++ more) 0)
+    ∙ ap (λ (l : List X). drop (length (joined pages) + 0) l) (sym (append_assoc (joined pages) last more) ∙ sym e)
+    ∙ ap (λ n. drop n (joined others ++ other_last)) long
+    ∙ drop-pages size (length pages) others other_last other_full within
+    in
+    ap (λ (l : List X). l ++ other_last) (flat_map-append (λ (page : List X). page) pages (drop (length pages) others))
+    ∙ append_assoc (joined pages) (joined (drop (length pages) others)) other_last
+    ∙ ap (λ (l : List X). joined pages ++ l) (sym behind)
+    ∙ sym (append_assoc (joined pages) last more)
+    ∙ sym e

@@ -152,6 +152,20 @@ impl Log {
         Ok(lines)
     }
 
+    /// Has this log, with which another one begins, go on as that one does. Full pages are shared, so this takes time in proportion to those that are
+    /// new; at most 63 lines are copied. Where memory runs out, it stays as it was.
+    pub fn catch_up(&mut self, alloc: Global, other: &Log) -> Result<(), AllocError>
+        requires { other.now ≡ self.old ++ drop (length self.old) other.now }
+        ensures caught_up { OnOk result (self.new ≡ other.now) }
+        ensures unchanged { OnErr result (self.new ≡ self.old) }
+    {
+        let mut pages = shared(alloc, &other.pages, self.pages.len())?;
+        let last = copied(alloc, &other.last, 0)?;
+        self.pages.append(&mut pages)?;
+        self.last = last;
+        Ok(())
+    }
+
     /// The lines after the first `from` ones, as they are now. Full pages are shared, so this takes
     /// time in proportion to the pages; at most 63 lines are copied.
     pub fn after(&self, alloc: Global, from: usize) -> Result<Lines, AllocError>
