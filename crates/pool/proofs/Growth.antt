@@ -9,6 +9,7 @@ use Rattle.semantics.specs.declared.state.Step.{Step}
 use Rattle.pool.specs.declared.entry.Deed.{Deed}
 use Rattle.pool.specs.declared.entry.Deed.TheVariants.{Publish, Fetch, Close, Split, Found, Leave}
 use Rattle.pool.specs.declared.entry.Item.{Item}
+use Rattle.pool.specs.Moves.{ToldStands}
 use Rattle.pool.specs.Growth.{first_place, Tells, IsFetchAfter, LogsGrow, BasesRise, RunsLoseNothing}
 use Rattle.pool.specs.States.{Held, IsReply, IsStep, IsRun, next_number, after, after_deed, after_all}
 
@@ -123,7 +124,7 @@ stands_after formula h (Found count given) lines steps first place line same rep
 stands_after formula h (Leave why) lines steps first place line same reply begins past there = no_place first begins
 
 -- what stands in the log a fetch from there or before tells
-told_now : (formula : Conjunction) (h : Held) (item : Item) (place from : ℕ) (line : ProofLine) → IsStep h item → slice_get h.log place ≡ Some line → IsFetchAfter from item → from ≤ place → Tells formula item place line
+pub told_now : (formula : Conjunction) (h : Held) (item : Item) (place from : ℕ) (line : ProofLine) → IsStep h item → slice_get h.log place ≡ Some line → IsFetchAfter from item → from ≤ place → Tells formula item place line
 told_now formula h item place from line step stands is past =
     let reply = subst (λ (d : Deed). IsReply h d item.lines item.steps) is.1 step in
     record {
@@ -158,3 +159,26 @@ nothing_lost formula h (item ∷ items) (suc i) (suc j) one later place from lin
 
 pub lose_nothing : RunsLoseNothing
 lose_nothing h items run i j one later place from line low first second tells is past = nothing_lost h.formula h items i j one later place from line refl run low first second tells is past
+
+told_stands_in : (formula : Conjunction) (h : Held) (items : List Item) (one : Item) (i place : ℕ) (line : ProofLine) → h.formula ≡ formula → IsRun h items → slice_get items i ≡ Some one → Tells formula one place line → slice_get (after_all h items).log place ≡ Some line
+told_stands_in formula h [] one i place line same run there tells = absurd (let told : ◌≡◌ {A = Option Item} None (Some one) = there in cc)
+told_stands_in formula h (item ∷ items) one zero place line same run there tells =
+    let here : item ≡ one = cc in
+    let t : Tells formula item place line = subst (λ (x : Item). Tells formula x place line) (sym here) tells in
+    let stands = stands_after formula h item.entry.deed item.lines item.steps t.first place line same run.0 t.begins t.past t.there in
+    stays (after h item) (after_all (after h item) items) place line (grows (after h item) items) stands
+told_stands_in formula h (item ∷ items) one (suc i) place line same run there tells =
+    let kept = (grows_once h item.entry.deed item.lines item.steps).1 in
+    told_stands_in formula (after h item) items one i place line (kept ∙ same) run.1 there tells
+
+pub told_stands : ToldStands
+told_stands h items one i place line run there tells = told_stands_in h.formula h items one i place line refl run there tells
+
+-- a list that has each item of another one at the same place begins with it
+pub begins_with : {X : Type 0} (view log : List X) → ((place : ℕ) (x : X) → slice_get view place ≡ Some x → slice_get log place ≡ Some x) → log ≡ view ++ drop (length view) log
+begins_with [] log all = refl
+begins_with (x ∷ view) [] all = absurd (let found = all 0 x refl in cc)
+begins_with (x ∷ view) (y ∷ log) all =
+    let first : ◌≡◌ {A = Option _} (Some y) (Some x) = all 0 x refl in
+    let same : y ≡ x = cc in
+    ap (λ z. z ∷ log) same ∙ ap (λ l. x ∷ l) (begins_with view log (λ place z found. all (suc place) z found))

@@ -7,6 +7,7 @@ pub mod Hints
 pub mod Histories
 pub mod Legal
 pub mod Limits
+pub mod Moves
 pub mod OpenLeaves
 pub mod Sizes
 pub mod SmallestReasons

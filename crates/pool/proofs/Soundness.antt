@@ -176,5 +176,12 @@ published_ok h f log slice batch base one two three four derive =
     (subst (λ (l : List ProofLine). DeriveAfter h.formula l (resolved_lines base slice)) two
     (subst (λ (x : Conjunction). DeriveAfter x log (resolved_lines base slice)) one derive)))
 
+pub known_ok : (h : Held) (f : Conjunction) (log : List ProofLine) (slice batch : List BatchLine) (base : ℕ) → f ≡ h.formula → log ≡ h.log → slice ≡ batch → base ≡ next_number h → DeriveAfter h.formula h.log (resolved_lines (next_number h) batch) → DeriveAfter f log (resolved_lines base slice)
+known_ok h f log slice batch base one two three four derive =
+    subst (λ (x : Conjunction). DeriveAfter x log (resolved_lines base slice)) (sym one)
+    (subst (λ (l : List ProofLine). DeriveAfter h.formula l (resolved_lines base slice)) (sym two)
+    (subst (λ (b : List BatchLine). DeriveAfter h.formula h.log (resolved_lines base b)) (sym three)
+    (subst (λ (b : ℕ). DeriveAfter h.formula h.log (resolved_lines b batch)) (sym four) derive)))
+
 pub lines_count : (base : ℕ) (slice batch : List BatchLine) → slice ≡ batch → length (resolved_lines base slice) ≡ length batch
 lines_count base slice batch e = length-map slice (resolved base) ∙ ap length e

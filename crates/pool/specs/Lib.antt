@@ -3,6 +3,7 @@ pub mod Counts
 pub mod Growth
 pub mod Laws
 pub mod Ledgers
+pub mod Moves
 pub mod Reasons
 pub mod Refusals
 pub mod Replies

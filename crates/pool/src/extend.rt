@@ -1,6 +1,6 @@
 //! The check of a batch.
 
-ghost use Rattle.std.specs.Prelude.{◌≡◌, ◌+◌, ◌++◌, ◌≤◌, IfErr, IfNone, IfOk, IfSome, OnErr, OnOk, length, map, false};
+ghost use Rattle.std.specs.Prelude.{◌≡◌, ◌+◌, ◌++◌, ◌≤◌, IfErr, IfNone, IfOk, IfSome, OnErr, OnOk, IsTrue, length, map, false};
 ghost use Rattle.refutations.specs.Derivations.{Derives};
 ghost use Rattle.refutations.specs.Proofs.{are_numbers};
 ghost use Rattle.pool.specs.Replies.{resolved, resolved_hint, resolved_lines, DeriveAfter};
@@ -17,7 +17,7 @@ use std::alloc::{AllocError, Global};
 pub const MOST_LINES: usize = 1_000_000;
 
 /// How many lines a batch has at most, so that each of them has a number that a line can hold as a hint.
-const LONGEST_BATCH: usize = 2_000_000_000;
+pub(crate) const LONGEST_BATCH: usize = 2_000_000_000;
 
 /// The number of what a hint names; a number that no line can hold where it doesn't fit.
 fn resolved_hint(base: u32, hint: Hint) -> u32
@@ -76,7 +76,7 @@ fn checked_line(
 }
 
 /// The lines of a batch, each of which derives from the formula, the log and the lines before it.
-fn checked_lines(
+pub(crate) fn checked_lines(
     alloc: Global,
     known: &mut PartialAssignment,
     formula: &Formula,
@@ -109,7 +109,49 @@ fn checked_lines(
     Ok(lines)
 }
 
-/// Appends the lines of a batch whose first line has this number, all or none. A batch of more than
+/// The lines of a batch whose first line has this number.
+fn all_resolved(alloc: Global, base: u32, batch: &[BatchLine]) -> Result<Vec<Line>, AllocError>
+    ensures { IfOk result (λ lines. lines.items ≡ resolved_lines base batch.now) }
+{
+    let mut lines = Vec::with_capacity(alloc, batch.len())?;
+    for line in batch {
+        let made = resolved_line(alloc, base, line)?;
+        let Some(line) = made else {
+            return Err(AllocError);
+        };
+        lines.push(line)?;
+    }
+    Ok(lines)
+}
+
+/// The same where they derive, each from the formula, the log and the lines before it. Those that are known to do aren't checked again.
+fn derived_lines(
+    alloc: Global,
+    known: &mut PartialAssignment,
+    formula: &Formula,
+    log: &Log,
+    base: u32,
+    batch: &[BatchLine],
+    is_known: bool,
+) -> Result<Vec<Line>, PublishFault>
+    requires size { length known.old ≡ formula.now.variables + 1 }
+    requires few { length formula.now.clauses + length log.now + length batch.now ≤ 2147483647 }
+    requires known { IsTrue is_known → DeriveAfter formula.now log.now (resolved_lines base batch.now) }
+    ensures lines { IfOk result (λ lines. lines.items ≡ resolved_lines base batch.now) }
+    ensures derive { IfOk result (λ _. DeriveAfter formula.now log.now (resolved_lines base batch.now)) }
+    ensures stopped { IfErr result (IsStopped formula.now log.now (resolved_lines base batch.now)) }
+    ensures size { length known.new ≡ length known.old }
+{
+    if !is_known {
+        return checked_lines(alloc, known, formula, log, base, batch);
+    }
+    match all_resolved(alloc, base, batch) {
+        Ok(lines) => Ok(lines),
+        Err(AllocError) => Err(PublishFault::Memory),
+    }
+}
+
+/// Appends the lines of a batch whose first line has this number, all or none. Lines that are known to derive aren't checked. A batch of more than
 /// [`LONGEST_BATCH`] lines is refused as want of memory, which comes long before.
 pub(crate) fn extend(
     alloc: Global,
@@ -118,10 +160,12 @@ pub(crate) fn extend(
     log: &mut Log,
     base: u32,
     batch: &[BatchLine],
+    is_known: bool,
 ) -> Result<(), PublishFault>
     requires size { length known.old ≡ formula.now.variables + 1 }
     requires few_clauses { length formula.now.clauses ≤ 4000000 }
     requires few_lines { length log.old ≤ MOST_LINES }
+    requires known { IsTrue is_known → DeriveAfter formula.now log.old (resolved_lines base batch.now) }
     ensures reply { IsExtended formula.now log.old (resolved_lines base batch.now) result }
     ensures ok { OnOk result (log.new ≡ log.old ++ resolved_lines base batch.now) }
     ensures err { OnErr result (log.new ≡ log.old) }
@@ -130,7 +174,7 @@ pub(crate) fn extend(
     if batch.len() > LONGEST_BATCH {
         return Err(PublishFault::Memory);
     }
-    let lines = match checked_lines(alloc, known, formula, log, base, batch) {
+    let lines = match derived_lines(alloc, known, formula, log, base, batch, is_known) {
         Ok(lines) => lines,
         Err(PublishFault::NotDerived(place)) => return Err(PublishFault::NotDerived(place)),
         Err(_) => return Err(PublishFault::Memory),

@@ -9,6 +9,7 @@ ghost use Rattle.pool.specs.Counts.{open_count};
 ghost use Rattle.pool.specs.Reasons.{IsSmallest};
 ghost use Rattle.pool.specs.States.{opening, noted, with_places, next_number, first_of, leave_item, IsOpen, IsClosedBy, IsVariable, IsPublished, published, IsFetched, fetched, IsClosed, closed, IsSplit, after_split, IsFound, after_found, IsTreeOf, IsAssembled, IsUndecided, IsSound};
 ghost use Rattle.pool.specs.Refusals.{IsSplitFault};
+ghost use Rattle.pool.specs.Replies.{resolved_lines, DeriveAfter};
 ghost use Rattle.refutations.specs.Refutations.{Accepts};
 ghost use Rattle.semantics.specs.Machine.{IsStuckRun};
 
@@ -209,15 +210,14 @@ impl Pool {
         self.encoded.formula()
     }
 
-    /// The program with its formula.
-    pub fn encoded(&self) -> &Encoded
-        ensures program { result.now.program ≡ self.now.held.program }
-        ensures formula { result.now.formula ≡ self.now.held.formula }
+    /// The lines so far.
+    pub fn log(&self) -> &Log
+        ensures { result.now ≡ self.now.held.log }
     {
-        &self.encoded
+        &self.log
     }
 
-    /// The same for whoever reads it while others have the pool. It isn't copied. The only error is want of memory.
+    /// The program with its formula, for whoever reads it while others have the pool. It isn't copied. The only error is want of memory.
     pub fn lend_encoded(&self) -> Result<Arc<Encoded>, AllocError>
         ensures program { IfOk result (λ lent. (arc_value lent).program ≡ self.now.held.program) }
         ensures formula { IfOk result (λ lent. (arc_value lent).formula ≡ self.now.held.formula) }
@@ -379,6 +379,34 @@ impl Pool {
         ensures reply { IsPublished self.old.held batch.now.lines.items result }
         ensures pool { self.new ≡ published self.old worker batch.now.lines.items result }
     {
+        self.publish_as(alloc, worker, batch, false)
+    }
+
+    /// The same of a batch whose lines are known to derive, behind the log as it is now. They aren't checked again.
+    pub fn publish_known(
+        &mut self,
+        alloc: Global,
+        worker: u32,
+        batch: &Batch,
+    ) -> Result<u32, PublishFault>
+        requires { DeriveAfter self.old.held.formula self.old.held.log (resolved_lines (next_number self.old.held) batch.now.lines.items) }
+        ensures reply { IsPublished self.old.held batch.now.lines.items result }
+        ensures pool { self.new ≡ published self.old worker batch.now.lines.items result }
+    {
+        self.publish_as(alloc, worker, batch, true)
+    }
+
+    fn publish_as(
+        &mut self,
+        alloc: Global,
+        worker: u32,
+        batch: &Batch,
+        is_known: bool,
+    ) -> Result<u32, PublishFault>
+        requires { IsTrue is_known → DeriveAfter self.old.held.formula self.old.held.log (resolved_lines (next_number self.old.held) batch.now.lines.items) }
+        ensures reply { IsPublished self.old.held batch.now.lines.items result }
+        ensures pool { self.new ≡ published self.old worker batch.now.lines.items result }
+    {
         if self.ledger.reserve().is_err() {
             return Err(PublishFault::Memory);
         }
@@ -386,7 +414,15 @@ impl Pool {
         let count = batch.lines.len();
         let formula = self.encoded.formula();
         let lines = batch.lines.as_slice();
-        match extend(alloc, &mut self.known, formula, &mut self.log, base, lines) {
+        match extend(
+            alloc,
+            &mut self.known,
+            formula,
+            &mut self.log,
+            base,
+            lines,
+            is_known,
+        ) {
             Ok(()) => {
                 self.ledger.note(worker, Deed::Publish(count, Ok(base)));
                 Ok(base)

@@ -2,6 +2,7 @@
 
 ghost use Rattle.pool.specs.Laws.{LeavesCover, ClosedPoolsRefute, RunsStaySound, RunsAreLegal};
 ghost use Rattle.pool.specs.Growth.{LogsGrow, BasesRise, RunsLoseNothing};
+ghost use Rattle.pool.specs.Moves.{BatchesMove, ToldStands};
 
 /// The leaves of a pool's tree cover all assignments: each makes all literals of one leaf's path true,
 /// and those of no other.
@@ -38,4 +39,15 @@ pub fn bases_rise()
 /// In a run of calls an accepted fetch, whoever makes it, lacks no line past its start that was published or told before it.
 pub fn runs_lose_nothing()
     ensures { RunsLoseNothing }
+{}
+
+/// Lines that derive behind a log derive behind any longer one, with the numbers of the batch's own lines moved, where each other number that they name
+/// stands before the batch.
+pub fn batches_move()
+    ensures { BatchesMove }
+{}
+
+/// After a run of calls each line that one of them published or was told stands in the log, at that place.
+pub fn told_stands()
+    ensures { ToldStands }
 {}

@@ -12,6 +12,7 @@ mod entry;
 mod events;
 mod extend;
 mod keep;
+mod known;
 mod laws;
 mod ledger;
 mod share;
@@ -24,9 +25,10 @@ pub use entry::{
 pub use events::{Event, Reply, run};
 pub use extend::MOST_LINES;
 pub use keep::{Pool, Status};
+pub use known::are_derived;
 pub use laws::{
-    bases_rise, closed_pools_refute, leaves_cover, logs_grow, runs_are_legal, runs_lose_nothing,
-    runs_stay_sound,
+    bases_rise, batches_move, closed_pools_refute, leaves_cover, logs_grow, runs_are_legal,
+    runs_lose_nothing, runs_stay_sound, told_stands,
 };
 pub use share::Share;
 pub use why::{Why, smaller};

@@ -1,0 +1,36 @@
+-- What becomes of a batch that was derived from a log, where the log has more lines by then.
+use Rattle.std.specs.Prelude.{◌≡◌, ℕ, ◌+◌, ◌++◌, Bool, true, nat_lt, List, length, IsTrue, Some, slice_get}
+use Rattle.std.specs.List.{list_all}
+use Rattle.batches.specs.declared.BatchLine.{BatchLine}
+use Rattle.batches.specs.declared.Hint.{Hint}
+use Rattle.batches.specs.declared.Hint.TheVariants.{Known, Own}
+use Rattle.clauses.specs.Clauses.{Conjunction}
+use Rattle.refutations.specs.Proofs.{ProofLine}
+use Rattle.pool.specs.declared.entry.Item.{Item}
+use Rattle.pool.specs.Growth.{Tells}
+use Rattle.pool.specs.Replies.{resolved_lines, DeriveAfter}
+use Rattle.pool.specs.States.{Held, IsRun, after_all}
+
+-- the hint names one of the batch's own lines, or a clause with a smaller number than its first line
+abbrev pub is_earlier : ℕ → Hint → Bool
+is_earlier base (Known number) = nat_lt number base
+is_earlier base (Own place) = true
+
+abbrev pub are_earlier : ℕ → List BatchLine → Bool
+are_earlier base batch = list_all (λ (line : BatchLine). list_all (is_earlier base) line.hints.items) batch
+
+-- the number of the line after these
+abbrev pub number_after : Conjunction → List ProofLine → ℕ
+number_after f log = length f.clauses + length log + 1
+
+-- lines that derive behind a log derive behind any longer one, with their own numbers moved, unless they name numbers past the log
+abbrev pub BatchesMove : Type 0
+BatchesMove =
+    (f : Conjunction) (log more : List ProofLine) (batch : List BatchLine) → IsTrue (are_earlier (number_after f log) batch)
+    → DeriveAfter f log (resolved_lines (number_after f log) batch) → DeriveAfter f (log ++ more) (resolved_lines (number_after f (log ++ more)) batch)
+
+-- after a run of calls each line that one of them published or was told stands in the log
+abbrev pub ToldStands : Type 0
+ToldStands =
+    (h : Held) (items : List Item) (one : Item) (i place : ℕ) (line : ProofLine) → IsRun h items → slice_get items i ≡ Some one → Tells h.formula one place line
+    → slice_get (after_all h items).log place ≡ Some line
