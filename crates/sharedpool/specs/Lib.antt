@@ -2,4 +2,5 @@ pub mod Laws
 pub mod Leaves
 pub mod Nothing
 pub mod Seats
+pub mod Told
 pub mod Views

@@ -1,19 +1,21 @@
 //! What the lock holds: the pool, and the pass that knows all items.
 
-ghost use Rattle.std.specs.Prelude.{◌≡◌, ◌==◌, ◌≤◌, ◌<◌, ℕ, [], false, Err, IsOk, OnOk, OnErr, length};
+ghost use Rattle.std.specs.Prelude.{◌≡◌, ◌⊎◌, ◌==◌, ◌≤◌, ◌<◌, ◌++◌, ℕ, [], drop, false, Err, IsOk, IsTrue, OnOk, OnErr, length};
 ghost use Rattle.std.specs.List.{count_by};
-ghost use Rattle.pool.specs.States.{noted, with_places, leave_item, IsLegal, IsSound, IsPublished, IsFetched, IsClosed, IsSplit, IsFound};
+ghost use Rattle.pool.specs.Replies.{resolved_lines, DeriveAfter};
+ghost use Rattle.pool.specs.States.{next_number, published, noted, with_places, leave_item, IsLegal, IsSound, IsPublished, IsFetched, IsClosed, IsSplit, IsFound};
 ghost use Rattle.crossbeam_utils.specs.Seq.{cell_view};
 ghost use Rattle.sharedpool.specs.Leaves.{has_left, has_entry, places_after};
 ghost use Rattle.sharedpool.specs.Views.{knower, items_of};
 ghost use Rattle.sharedpool.specs.Seats.{HoldsOver, IsRefusedOver, told_publish, told_fetch, told_close, told_split, told_found, told_leave};
+ghost use Rattle.sharedpool.specs.Told.{IsTold, IsDerivedFrom};
 
 use crate::note::{match_lists, note};
 use crate::room::{Cell, Given, Room, Token};
-use crate::seat::Seat;
+use crate::seat::Ticket;
 use batches::Batch;
 use clauses::Lit;
-use pages::Lines;
+use pages::{Lines, Log};
 use pool::{
     AssembleFault, CloseFault, Deed, Entry, FetchFault, FoundFault, PathFault, Pool, PublishFault,
     SplitFault, Status, Why,
@@ -67,6 +69,45 @@ fn leave_pool(pool: &mut Pool, worker: u32, why: Option<Why>) -> Result<(), Allo
         pool.leave(worker, why)
     } else {
         pool.leave_kept(worker, why)
+    }
+}
+
+/// A batch, which isn't checked again where it is known to derive.
+fn publish_in(
+    pool: &mut Pool,
+    alloc: Global,
+    worker: u32,
+    batch: &Batch,
+    is_known: bool,
+) -> Result<u32, PublishFault>
+    requires { IsTrue is_known → DeriveAfter pool.old.held.formula pool.old.held.log (resolved_lines (next_number pool.old.held) batch.now.lines.items) }
+    ensures reply { IsPublished pool.old.held batch.now.lines.items result }
+    ensures pool { pool.new ≡ published pool.old worker batch.now.lines.items result }
+{
+    if is_known {
+        pool.publish_known(alloc, worker, batch)
+    } else {
+        pool.publish(alloc, worker, batch)
+    }
+}
+
+/// After a fetch from among the lines that a seat was told, or from their end, has them go on as the log does. Where memory is wanting they stay as they
+/// were: batches are checked under the lock then.
+fn catch_up(
+    alloc: Global,
+    pool: &Pool,
+    view: &mut Log,
+    from: usize,
+    reply: &Result<Lines, FetchFault>,
+)
+    requires { pool.now.held.log ≡ view.old ++ drop (length view.old) pool.now.held.log }
+    ensures { (view.new ≡ view.old) ⊎ (IsOk reply.now × (from ≤ length view.old) × (view.new ≡ pool.now.held.log)) }
+{
+    if reply.is_err() || from > view.len() {
+        return;
+    }
+    match view.catch_up(alloc, pool.log()) {
+        Ok(()) | Err(AllocError) => {}
     }
 }
 
@@ -142,22 +183,27 @@ impl<B: Room> Locked<B> {
         self.pool.assemble(alloc)
     }
 
-    /// A batch by the worker of this seat.
+    /// A batch by the worker of this seat. It isn't checked again where it is known to derive from lines that the seat was told.
     pub(crate) fn publish<R: Wait>(
         &mut self,
         rt: &R,
         alloc: Global,
         cell: &Cell,
-        seat: &mut Seat<B>,
+        seat: &mut Ticket<B>,
+        view: &Log,
+        is_derived: bool,
         batch: &Batch,
     ) -> Result<u32, PublishFault>
-        requires { cell.now.table.shared.table_id ≡ B.table }
+        requires room { cell.now.table.shared.table_id ≡ B.table }
+        requires told { IsTold B.opening.formula seat.old.mine view.now }
+        requires derived { IsTrue is_derived → IsDerivedFrom B.opening.formula view.now batch.now.lines.items }
         ensures seat { seat.new ≡ told_publish seat.old batch.now.lines.items result }
         ensures reply { (result ≡ Err PublishFault.Memory → ⊥) → HoldsOver B.opening seat.old (λ h. IsPublished h batch.now.lines.items result) }
         ensures not_derived { (place : ℕ) → result ≡ Err (PublishFault.NotDerived place) → IsRefusedOver B.opening.formula seat.old.mine batch.now.lines.items place }
     {
+        self.match_seat(rt, cell, seat);
         let worker = seat.worker;
-        let reply = self.pool.publish(alloc, worker, batch);
+        let reply = publish_in(&mut self.pool, alloc, worker, batch, is_derived);
         if let Err(PublishFault::Memory) = &reply {
             return Err(PublishFault::Memory);
         }
@@ -167,16 +213,20 @@ impl<B: Room> Locked<B> {
         reply
     }
 
-    /// A fetch by the worker of this seat.
+    /// A fetch by the worker of this seat, after which the seat has all lines of the log, unless some between are missing or memory is
+    /// wanting.
     pub(crate) fn fetch<R: Wait>(
         &mut self,
         rt: &R,
         alloc: Global,
         cell: &Cell,
-        seat: &mut Seat<B>,
+        seat: &mut Ticket<B>,
+        view: &mut Log,
         from: usize,
     ) -> Result<Lines, FetchFault>
-        requires { cell.now.table.shared.table_id ≡ B.table }
+        requires room { cell.now.table.shared.table_id ≡ B.table }
+        requires told { IsTold B.opening.formula seat.old.mine view.old }
+        ensures told { IsTold B.opening.formula seat.new.mine view.new }
         ensures seat { seat.new ≡ told_fetch seat.old from result }
         ensures reply { (result ≡ Err FetchFault.Memory → ⊥) → HoldsOver B.opening seat.old (λ h. IsFetched h from result) }
     {
@@ -188,6 +238,7 @@ impl<B: Room> Locked<B> {
         let keeper = &mut self.keeper;
         let pass = &mut seat.pass;
         note::<Brand, _, _, R>(rt, cell, keeper, pass, worker, &from, &reply);
+        catch_up(alloc, &self.pool, view, from, &reply);
         reply
     }
 
@@ -196,7 +247,7 @@ impl<B: Room> Locked<B> {
         &mut self,
         rt: &R,
         cell: &Cell,
-        seat: &mut Seat<B>,
+        seat: &mut Ticket<B>,
         leaf: u32,
         number: u32,
     ) -> Result<(), CloseFault>
@@ -222,7 +273,7 @@ impl<B: Room> Locked<B> {
         rt: &R,
         alloc: Global,
         cell: &Cell,
-        seat: &mut Seat<B>,
+        seat: &mut Ticket<B>,
         leaf: u32,
         variable: u32,
     ) -> Result<(u32, u32), SplitFault>
@@ -248,7 +299,7 @@ impl<B: Room> Locked<B> {
         rt: &R,
         alloc: Global,
         cell: &Cell,
-        seat: &mut Seat<B>,
+        seat: &mut Ticket<B>,
         steps: Vec<Step>,
     ) -> Result<(), FoundFault>
         requires { cell.now.table.shared.table_id ≡ B.table }
@@ -264,7 +315,7 @@ impl<B: Room> Locked<B> {
         rt: &R,
         alloc: Global,
         cell: &Cell,
-        seat: &mut Seat<B>,
+        seat: &mut Ticket<B>,
         steps: Vec<Step>,
     ) -> Result<(), FoundFault>
         requires cell { cell.now.table.shared.table_id ≡ B.table }
@@ -284,7 +335,7 @@ impl<B: Room> Locked<B> {
     }
 
     /// Compares the seat's list with all items.
-    fn match_seat<R: Wait>(&mut self, rt: &R, cell: &Cell, seat: &mut Seat<B>)
+    fn match_seat<R: Wait>(&mut self, rt: &R, cell: &Cell, seat: &mut Ticket<B>)
         requires { cell.now.table.shared.table_id ≡ B.table }
         ensures same { self.new ≡ self.old }
         ensures seat { seat.new ≡ seat.old }
@@ -299,7 +350,7 @@ impl<B: Room> Locked<B> {
         &mut self,
         rt: &R,
         cell: &Cell,
-        seat: &mut Seat<B>,
+        seat: &mut Ticket<B>,
         why: Option<Why>,
     ) -> Result<(), AllocError>
         requires { cell.now.table.shared.table_id ≡ B.table }

@@ -1,23 +1,31 @@
 //! The seat of one worker.
 
-ghost use Rattle.std.specs.Prelude.{◌≡◌, ◌<◌, ◌∷◌, true};
+ghost use Rattle.std.specs.Prelude.{◌≡◌, ◌≤◌, ◌<◌, ◌+◌, ◌∷◌, [], IfOk, IsTrue, length, true};
 ghost use Rattle.crossbeam_utils.specs.Seq.{cell_view};
+ghost use Rattle.sharedpool.specs.Seats.{IsSeat};
+ghost use Rattle.sharedpool.specs.Told.{IsDerivedFrom};
 ghost use Rattle.sharedpool.specs.Views.{taker, items_of, AllBelow, AreDifferent};
 
 use crate::passes::{join, take_back};
 use crate::room::{Cell, Room, Token};
+use batches::Batch;
+use clauses::Formula;
+use pages::Log;
+use pool::{MOST_LINES, are_derived};
+use refutations::PartialAssignment;
+use std::alloc::{AllocError, Global};
 use std::marker::{Model, PhantomData};
 use std::sync::Wait;
 
-/// What a worker makes its calls with: its number, and, for contracts, the items of its calls in order.
+/// The worker's number, and the pass that knows the items of its calls.
 #[derive(Drop)]
-pub struct Seat<B: Room> {
+pub(crate) struct Ticket<B: Room> {
     pub(crate) worker: u32,
     pub(crate) pass: Token,
     pub(crate) room: PhantomData<B>,
 }
 
-impl<B: Room> Model for Seat<B> {
+impl<B: Room> Model for Ticket<B> {
     ghost use Rattle.crossbeam_utils.specs.Seq.{cell_view};
     ghost use Rattle.sharedpool.specs.Seats.{Chair, IsSeat};
 
@@ -28,12 +36,75 @@ impl<B: Room> Model for Seat<B> {
     ghost invariant = { λ s. IsSeat B.table s.worker s.pass };
 }
 
+/// What a worker makes its calls with: its number, and, for contracts, the items of its calls in order.
+///
+/// It has the lines that the fetches with it told, too, so that a batch is checked over them before the lock is taken.
+#[derive(Drop)]
+pub struct Seat<B: Room> {
+    pub(crate) ticket: Ticket<B>,
+    pub(crate) view: Log,
+    pub(crate) known: PartialAssignment,
+}
+
+impl<B: Room> Model for Seat<B> {
+    ghost use Rattle.std.specs.Prelude.{◌≡◌, ◌+◌, length};
+    ghost use Rattle.sharedpool.specs.Seats.{Chair};
+    ghost use Rattle.sharedpool.specs.Told.{IsTold};
+
+    ghost Value = { Chair };
+
+    ghost view = { λ s. s.ticket };
+
+    ghost invariant = { λ s. IsTold B.opening.formula s.ticket.mine s.view × (length s.known ≡ B.opening.formula.variables + 1) };
+}
+
+/// Whether the lines of a batch derive from those that a seat was told. Where memory runs out it isn't known.
+pub(crate) fn is_derived(
+    alloc: Global,
+    known: &mut PartialAssignment,
+    formula: &Formula,
+    view: &Log,
+    batch: &Batch,
+) -> bool
+    requires size { length known.old ≡ formula.now.variables + 1 }
+    requires few_clauses { length formula.now.clauses ≤ 4000000 }
+    ensures derived { IsTrue result → IsDerivedFrom formula.now view.now batch.now.lines.items }
+    ensures size { length known.new ≡ length known.old }
+{
+    view.len() <= MOST_LINES && are_derived(alloc, known, formula, view, batch.lines.as_slice())
+}
+
 impl<B: Room> Seat<B> {
+    /// A seat for this worker, with which no call was made.
+    pub(crate) fn new(
+        alloc: Global,
+        formula: &Formula,
+        worker: u32,
+        pass: Token,
+    ) -> Result<Self, AllocError>
+        requires formula { formula.now ≡ B.opening.formula }
+        requires pass { IsSeat B.table worker pass }
+        requires fresh { (cell_view pass).mine ≡ [] }
+        ensures worker { IfOk result (λ seat. seat.worker ≡ worker) }
+        ensures fresh { IfOk result (λ seat. seat.mine ≡ []) }
+    {
+        let known = PartialAssignment::new(alloc, formula.variables())?;
+        Ok(Seat {
+            ticket: Ticket {
+                worker,
+                pass,
+                room: PhantomData,
+            },
+            view: Log::new(alloc),
+            known,
+        })
+    }
+
     /// The worker's number, from 0.
     pub fn worker(&self) -> u32
         ensures { result ≡ self.now.worker }
     {
-        self.worker
+        self.ticket.worker
     }
 
     /// Gives the seat back to the keeper.
@@ -48,12 +119,8 @@ impl<B: Room> Seat<B> {
         ensures others { AllBelow (cell_view keeper.old).workers (cell_view keeper.old).all }
         ensures different { AreDifferent (self.worker ∷ (cell_view keeper.old).taken) }
     {
-        let Seat {
-            worker: _,
-            pass,
-            room: _,
-        } = self;
-        join(cell, keeper, pass);
+        let Seat { ticket, .. } = self;
+        join(cell, keeper, ticket.pass);
         take_back(rt, cell, keeper);
     }
 }

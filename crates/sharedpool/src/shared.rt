@@ -2,6 +2,7 @@
 
 ghost use Rattle.std.specs.Prelude.{◌≡◌, ◌≢◌, ◌↔◌, ◌≤◌, ◌<◌, ◌+◌, ℕ, All, Err, IfErr, IfOk, IsOk, OnOk, OnErr, IsTrue, false, [], length, map};
 ghost use Rattle.std.specs.List.{range_with_len};
+ghost use Rattle.std.specs.Arc.{arc_value};
 ghost use Rattle.crossbeam_utils.specs.Seq.{cell_view};
 ghost use Rattle.semantics.specs.Machine.{IsStuckRun};
 ghost use Rattle.pool.specs.States.{with_places, IsPublished, IsFetched, IsClosed, IsSplit, IsFound};
@@ -12,9 +13,10 @@ ghost use Rattle.sharedpool.specs.Seats.{AreNumbered, workers_of, HoldsOver, IsF
 use crate::locked::Locked;
 use crate::passes::take_seat;
 use crate::room::{Cell, Room, Token};
-use crate::seat::Seat;
+use crate::seat::{Seat, is_derived};
 use batches::Batch;
-use clauses::Lit;
+use clauses::{Formula, Lit};
+use encode::Encoded;
 use pages::Lines;
 use pool::{
     AssembleFault, CloseFault, FetchFault, FoundFault, PathFault, Pool, PublishFault, Share,
@@ -23,15 +25,16 @@ use pool::{
 use prooflog::Evidence;
 use semantics::Step;
 use std::alloc::{AllocError, Global};
-use std::marker::PhantomData;
-use std::sync::{Mutex, Wait};
+use std::sync::{Arc, Mutex, Wait};
 use thiserror::Error;
 
 /// A pool under one lock, which workers call with their seats.
 #[derive(Drop)]
 pub struct SharedPool<B: Room> {
+    encoded: Arc<Encoded>,
     cell: Cell,
     lock: Mutex<Locked<B>>,
+    ghost lent: { (arc_value encoded).formula ≡ B.opening.formula },
     ghost tied: { cell.table.shared.table_id ≡ B.table },
 }
 
@@ -57,10 +60,12 @@ pub fn open_room(alloc: Global) -> Result<(Cell, Token), AllocError>
 fn make_seats<B: Room>(
     alloc: Global,
     cell: &Cell,
+    formula: &Formula,
     mut keeper: Token,
     workers: u32,
 ) -> Result<(Token, Vec<Seat<B>>), AllocError>
-    requires { (cell.now.table.shared.table_id ≡ B.table) × (keeper.table_id ≡ B.table) × (cell_view keeper ≡ knower 0 []) }
+    requires room { (cell.now.table.shared.table_id ≡ B.table) × (keeper.table_id ≡ B.table) × (cell_view keeper ≡ knower 0 []) }
+    requires formula { formula.now ≡ B.opening.formula }
     ensures keeper { IfOk result (λ r. (r.0.table_id ≡ B.table) × (cell_view r.0 ≡ knower workers [])) }
     ensures many { IfOk result (λ r. length r.1.items ≡ workers) }
     ensures numbered { IfOk result (λ r. AreNumbered r.1.items) }
@@ -70,11 +75,7 @@ fn make_seats<B: Room>(
     for worker in 0..workers {
         seats.reserve(1)?;
         let pass = take_seat(cell, &mut keeper);
-        seats.push_reserved(Seat {
-            worker,
-            pass,
-            room: PhantomData,
-        });
+        seats.push_reserved(Seat::new(alloc, formula, worker, pass)?);
     }
     Ok((keeper, seats))
 }
@@ -87,7 +88,8 @@ fn seats_with_places<B: Room>(
     keeper: Token,
     workers: u32,
 ) -> Result<(Token, Vec<Seat<B>>), AllocError>
-    requires { (cell.now.table.shared.table_id ≡ B.table) × (keeper.table_id ≡ B.table) × (cell_view keeper ≡ knower 0 []) }
+    requires room { (cell.now.table.shared.table_id ≡ B.table) × (keeper.table_id ≡ B.table) × (cell_view keeper ≡ knower 0 []) }
+    requires formula { pool.old.held.formula ≡ B.opening.formula }
     ensures places { OnOk result (pool.new ≡ with_places pool.old (pool.old.places + workers)) }
     ensures keeper { IfOk result (λ r. (r.0.table_id ≡ B.table) × (cell_view r.0 ≡ knower workers [])) }
     ensures many { IfOk result (λ r. length r.1.items ≡ workers) }
@@ -95,7 +97,7 @@ fn seats_with_places<B: Room>(
     ensures empty { IfOk result (λ r. All (λ seat. seat.mine ≡ []) r.1.items) }
 {
     pool.keep_places(workers as usize)?;
-    make_seats(alloc, cell, keeper, workers)
+    make_seats(alloc, cell, pool.formula(), keeper, workers)
 }
 
 /// How many entries each worker has.
@@ -146,10 +148,16 @@ impl<B: Room> SharedPool<B> {
         ensures numbered { IfOk result (λ r. AreNumbered r.1.items) }
         ensures empty { IfOk result (λ r. All (λ seat. seat.mine ≡ []) r.1.items) }
     {
+        let encoded = pool.lend_encoded()?;
         match seats_with_places(alloc, &cell, &mut pool, keeper, workers) {
             Ok((keeper, seats)) => {
                 let lock = Mutex::new(Locked::new(pool, workers, keeper));
-                Ok((SharedPool { cell, lock }, seats))
+                let shared = SharedPool {
+                    encoded,
+                    cell,
+                    lock,
+                };
+                Ok((shared, seats))
             }
             Err(AllocError) => Err(AllocError),
         }
@@ -170,16 +178,30 @@ impl<B: Room> SharedPool<B> {
         ensures missing { IfErr result (λ r. (r.0 ≡ FinishFault.Missing) ↔ (length seats.items ≢ B.workers)) }
         ensures back { IfErr result (λ r. r.2 ≡ seats) }
     {
-        let SharedPool { cell, lock } = self;
+        let SharedPool {
+            encoded,
+            cell,
+            lock,
+        } = self;
         let locked = lock.into_inner();
         let workers = locked.workers();
         if seats.len() != workers as usize {
             let lock = Mutex::new(locked);
-            return Err((FinishFault::Missing, SharedPool { cell, lock }, seats));
+            let shared = SharedPool {
+                encoded,
+                cell,
+                lock,
+            };
+            return Err((FinishFault::Missing, shared, seats));
         }
         let Ok(counts) = counts(alloc, &locked, workers) else {
             let lock = Mutex::new(locked);
-            return Err((FinishFault::Memory, SharedPool { cell, lock }, seats));
+            let shared = SharedPool {
+                encoded,
+                cell,
+                lock,
+            };
+            return Err((FinishFault::Memory, shared, seats));
         };
         let (pool, keeper) = locked.into_parts();
         take_all_back(rt, &cell, keeper, seats);
@@ -201,9 +223,11 @@ impl<B: Room> Share for SharedPool<B> {
         ensures reply { (result ≡ Err PublishFault.Memory → ⊥) → HoldsOver B.opening seat.old (λ h. IsPublished h batch.now.lines.items result) }
         ensures not_derived { (place : ℕ) → result ≡ Err (PublishFault.NotDerived place) → IsRefusedOver B.opening.formula seat.old.mine batch.now.lines.items place }
     {
-        self.lock
-            .lock(rt)
-            .publish(rt, alloc, &self.cell, seat, batch)
+        let formula = self.encoded.formula();
+        let is_derived = is_derived(alloc, &mut seat.known, formula, &seat.view, batch);
+        let mut locked = self.lock.lock(rt);
+        let ticket = &mut seat.ticket;
+        locked.publish(rt, alloc, &self.cell, ticket, &seat.view, is_derived, batch)
     }
 
     fn fetch<R: Wait>(
@@ -216,7 +240,14 @@ impl<B: Room> Share for SharedPool<B> {
         ensures seat { seat.new ≡ told_fetch seat.old from result }
         ensures reply { (result ≡ Err FetchFault.Memory → ⊥) → HoldsOver B.opening seat.old (λ h. IsFetched h from result) }
     {
-        self.lock.lock(rt).fetch(rt, alloc, &self.cell, seat, from)
+        self.lock.lock(rt).fetch(
+            rt,
+            alloc,
+            &self.cell,
+            &mut seat.ticket,
+            &mut seat.view,
+            from,
+        )
     }
 
     fn close<R: Wait>(
@@ -229,7 +260,9 @@ impl<B: Room> Share for SharedPool<B> {
         ensures seat { seat.new ≡ told_close seat.old leaf number result }
         ensures reply { (result ≡ Err CloseFault.Memory → ⊥) → HoldsOver B.opening seat.old (λ h. IsClosed h leaf number result) }
     {
-        self.lock.lock(rt).close(rt, &self.cell, seat, leaf, number)
+        self.lock
+            .lock(rt)
+            .close(rt, &self.cell, &mut seat.ticket, leaf, number)
     }
 
     fn split_leaf<R: Wait>(
@@ -245,7 +278,7 @@ impl<B: Room> Share for SharedPool<B> {
     {
         self.lock
             .lock(rt)
-            .split_leaf(rt, alloc, &self.cell, seat, leaf, variable)
+            .split_leaf(rt, alloc, &self.cell, &mut seat.ticket, leaf, variable)
     }
 
     fn found<R: Wait>(
@@ -260,7 +293,9 @@ impl<B: Room> Share for SharedPool<B> {
         ensures stuck { OnOk result (IsStuckRun B.opening.program steps.items) }
         ensures not_stuck { result ≡ Err FoundFault.NotStuck → IsStuckRun B.opening.program steps.items → ⊥ }
     {
-        self.lock.lock(rt).found(rt, alloc, &self.cell, seat, steps)
+        self.lock
+            .lock(rt)
+            .found(rt, alloc, &self.cell, &mut seat.ticket, steps)
     }
 
     /// As [`Pool::leave`]; the first leave with a seat asks for no memory, and is answered.
@@ -269,7 +304,9 @@ impl<B: Room> Share for SharedPool<B> {
         ensures err { OnErr result (seat.new ≡ seat.old) }
         ensures first { has_left seat.old.mine ≡ false → IsOk result }
     {
-        self.lock.lock(rt).leave(rt, &self.cell, seat, why)
+        self.lock
+            .lock(rt)
+            .leave(rt, &self.cell, &mut seat.ticket, why)
     }
 
     fn status<R: Wait>(&self, rt: &R) -> Status {

@@ -1,0 +1,136 @@
+-- What a seat was told stands in the log, and is told by whatever its list becomes.
+use Rattle.std.proofs.Common.{◌≡◌, ℕ, zero, suc, ◌+◌, ◌<◌, ◌≤◌, ◌==◌, Bool, true, false, true≢false, if◌then◌else◌, List, [], ◌∷◌, ◌++◌, length, drop, Option, Result, Some, None, slice_get, Ok, Err, inl, inr, ◌⊎◌, ⊎_elim, refl, sym, ap, ◌∙◌, subst, arith}
+use Rattle.std.specs.Prelude.{IsOk, OnOk, OnErr}
+use Rattle.std.proofs.lemmas.Bool.{cases_lt}
+use Rattle.std.proofs.lemmas.Option.{slice_get_within}
+use Rattle.crossbeam_utils.specs.Seq.{cell_view}
+use Rattle.atomic_table.specs.Seated.{TableId}
+use Rattle.batches.specs.declared.BatchLine.{BatchLine}
+use Rattle.clauses.specs.Clauses.{Conjunction}
+use Rattle.pages.proofs.Joined.{slice_get-front, slice_get-back}
+use Rattle.refutations.specs.Proofs.{ProofLine}
+use Rattle.semantics.specs.declared.state.Step.{Step}
+use Rattle.pool.specs.declared.entry.Item.{Item}
+use Rattle.pool.specs.declared.entry.PublishFault.{PublishFault}
+use Rattle.pool.specs.declared.entry.FetchFault.{FetchFault}
+use Rattle.pool.specs.declared.entry.CloseFault.{CloseFault}
+use Rattle.pool.specs.declared.entry.SplitFault.{SplitFault}
+use Rattle.pool.specs.declared.entry.FoundFault.{FoundFault}
+use Rattle.pool.specs.declared.entry.PublishFault.TheVariants as publish
+use Rattle.pool.specs.declared.entry.FetchFault.TheVariants as fetch
+use Rattle.pool.specs.declared.entry.CloseFault.TheVariants as close
+use Rattle.pool.specs.declared.entry.SplitFault.TheVariants as split
+use Rattle.pool.specs.declared.entry.FoundFault.TheVariants as found
+use Rattle.pool.specs.declared.why.Why.{Why}
+use Rattle.pool.specs.Growth.{Tells}
+use Rattle.pool.specs.Replies.{resolved_lines, DeriveAfter}
+use Rattle.pool.specs.Moves.{number_after}
+use Rattle.pool.specs.States.{Held, Kept, IsStep, IsRun, IsFetched, after_all, next_number, fetch_item, fetched}
+use Rattle.pool.proofs.Growth.{same_formula, told_now, told_stands, begins_with}
+use Rattle.pool.proofs.Moves.{batches_move}
+use Rattle.sharedpool.specs.Views.{items_of}
+use Rattle.sharedpool.specs.Seats.{Token, Chair, IsLocked, told_publish, told_close, told_split, told_found, told_leave}
+use Rattle.sharedpool.specs.Told.{IsTold, IsDerivedFrom}
+
+-- ---- a longer list
+
+pub told_more : (f : Conjunction) (mine more : List Item) (view : List ProofLine) → IsTold f mine view → IsTold f (mine ++ more) view
+told_more f mine more view told place line there =
+    let t = told place line there in
+    (t.0, t.1, slice_get-front mine more t.0 (slice_get_within mine t.0 t.1 t.2) ∙ t.2, t.3)
+
+pub told_published : (f : Conjunction) (seat : Chair) (batch : List BatchLine) (reply : Result ℕ PublishFault) (view : List ProofLine) → IsTold f seat.mine view → IsTold f (told_publish seat batch reply).mine view
+told_published f seat batch (Ok base) view told = told_more f seat.mine _ view told
+told_published f seat batch (Err publish.Memory) view told = told
+told_published f seat batch (Err (publish.NotDerived place)) view told = told_more f seat.mine _ view told
+told_published f seat batch (Err publish.Full) view told = told_more f seat.mine _ view told
+
+pub told_closed : (f : Conjunction) (seat : Chair) (leaf number : ℕ) (reply : Result (Unit {0}) CloseFault) (view : List ProofLine) → IsTold f seat.mine view → IsTold f (told_close seat leaf number reply).mine view
+told_closed f seat leaf number (Ok _) view told = told_more f seat.mine _ view told
+told_closed f seat leaf number (Err close.Memory) view told = told
+told_closed f seat leaf number (Err close.NotOpen) view told = told_more f seat.mine _ view told
+told_closed f seat leaf number (Err close.NotRefuted) view told = told_more f seat.mine _ view told
+
+pub told_parted : (f : Conjunction) (seat : Chair) (leaf variable : ℕ) (reply : Result (ℕ × ℕ) SplitFault) (view : List ProofLine) → IsTold f seat.mine view → IsTold f (told_split seat leaf variable reply).mine view
+told_parted f seat leaf variable (Ok nodes) view told = told_more f seat.mine _ view told
+told_parted f seat leaf variable (Err split.Memory) view told = told
+told_parted f seat leaf variable (Err split.NotOpen) view told = told_more f seat.mine _ view told
+told_parted f seat leaf variable (Err split.Full) view told = told_more f seat.mine _ view told
+told_parted f seat leaf variable (Err split.NoVariable) view told = told_more f seat.mine _ view told
+
+pub told_stuck : (f : Conjunction) (seat : Chair) (steps : List Step) (reply : Result (Unit {0}) FoundFault) (view : List ProofLine) → IsTold f seat.mine view → IsTold f (told_found seat steps reply).mine view
+told_stuck f seat steps (Ok _) view told = told_more f seat.mine _ view told
+told_stuck f seat steps (Err found.Memory) view told = told
+told_stuck f seat steps (Err found.NotStuck) view told = told_more f seat.mine _ view told
+
+pub told_left : (f : Conjunction) (seat after : Chair) (why : Option Why) {E : Type 0} (reply : Result (Unit {0}) E) (view : List ProofLine) → OnOk reply (after ≡ told_leave seat why) → OnErr reply (after ≡ seat)
+    → IsTold f seat.mine view → IsTold f after.mine view
+told_left f seat after why (Ok _) view left same told = subst (λ (s : Chair). IsTold f s.mine view) (sym left) (told_more f seat.mine _ view told)
+told_left f seat after why (Err _) view left same told = subst (λ (s : Chair). IsTold f s.mine view) (sym same) told
+
+-- ---- the log
+
+in_all : (b : Bool) (x : Item) (mine items : List Item) (i : ℕ) (item : Item) → ((k : ℕ) → slice_get mine k ≡ Some item → (j : ℕ) × (slice_get items j ≡ Some item))
+    → slice_get (if b then x ∷ mine else mine) i ≡ Some item → (j : ℕ) × (slice_get (x ∷ items) j ≡ Some item)
+in_all true x mine items zero item rest there = (0, there)
+in_all true x mine items (suc i) item rest there = let r = rest i there in (suc r.0, r.1)
+in_all false x mine items i item rest there = let r = rest i there in (suc r.0, r.1)
+
+-- a worker's item is one of all items
+item_of_all : (worker : ℕ) (items : List Item) (i : ℕ) (item : Item) → slice_get (items_of worker items) i ≡ Some item → (j : ℕ) × (slice_get items j ≡ Some item)
+item_of_all worker [] i item there = absurd (let told : ◌≡◌ {A = Option Item} None (Some item) = there in cc)
+item_of_all worker (x ∷ items) i item there = in_all (x.entry.worker == worker) x (items_of worker items) items i item (λ k at. item_of_all worker items k item at) there
+
+-- the log begins with what a seat was told
+pub log_begins : (table : TableId) (opening : Held) (pool : Kept) (workers : ℕ) (keeper : Token) (worker : ℕ) (mine : List Item) (view : List ProofLine) → IsLocked table opening pool workers keeper
+    → mine ≡ items_of worker (cell_view keeper).all → IsTold opening.formula mine view → pool.held.log ≡ view ++ drop (length view) pool.held.log
+log_begins table opening pool workers keeper worker mine view locked is told =
+    begins_with view pool.held.log (λ place line there.
+    let t = told place line there in
+    let found = item_of_all worker (cell_view keeper).all t.0 t.1 (ap (λ (l : List Item). slice_get l t.0) (sym is) ∙ t.2) in
+    ap (λ (h : Held). slice_get h.log place) locked.legal.ends ∙ told_stands opening (cell_view keeper).all t.1 found.0 place line locked.legal.run found.1 t.3)
+
+-- a batch that derives from what a seat was told derives from the log
+pub derived_behind : (table : TableId) (opening : Held) (pool : Kept) (workers : ℕ) (keeper : Token) (worker : ℕ) (mine : List Item) (view : List ProofLine) (batch : List BatchLine) → IsLocked table opening pool workers keeper
+    → mine ≡ items_of worker (cell_view keeper).all → IsTold opening.formula mine view → IsDerivedFrom opening.formula view batch
+    → DeriveAfter pool.held.formula pool.held.log (resolved_lines (next_number pool.held) batch)
+derived_behind table opening pool workers keeper worker mine view batch locked is told derived =
+    let begins = log_begins table opening pool workers keeper worker mine view locked is told in
+    let same : pool.held.formula ≡ opening.formula = ap (λ (h : Held). h.formula) locked.legal.ends ∙ same_formula opening (cell_view keeper).all in
+    let moved = batches_move opening.formula view (drop (length view) pool.held.log) batch derived.0 derived.1 in
+    subst (λ (f : Conjunction). DeriveAfter f pool.held.log (resolved_lines (number_after f pool.held.log) batch)) (sym same)
+    (subst (λ (l : List ProofLine). DeriveAfter opening.formula l (resolved_lines (number_after opening.formula l) batch)) (sym begins) moved)
+
+-- a fetch from what a seat was told, or from its end, tells the rest of the log
+pub told_rest : (f : Conjunction) (h : Held) (mine : List Item) (worker from : ℕ) (lines view : List ProofLine) → IsTold f mine view → from ≤ length view → IsStep h (fetch_item worker from (Ok lines))
+    → h.log ≡ view ++ drop (length view) h.log → IsTold f (mine ++ fetch_item worker from (Ok lines) ∷ []) h.log
+told_rest f h mine worker from lines view told low step begins place line there =
+    let item : Item = fetch_item worker from (Ok lines) in
+    ⊎_elim
+    (λ (before : place < from).
+    let inside : place < length view = omega (arith, low, before) in
+    told_more f mine (item ∷ []) view told place line (sym (slice_get-front view (drop (length view) h.log) place inside) ∙ ap (λ (l : List ProofLine). slice_get l place) (sym begins) ∙ there))
+    (λ (past : from ≤ place).
+    (length mine + 0, item, slice_get-back mine (item ∷ []) 0, told_now f h item place from line step there (length lines, refl) past))
+    (cases_lt place from)
+
+told_ok : (f : Conjunction) (h : Held) (mine : List Item) (worker from : ℕ) (reply : Result (List ProofLine) FetchFault) (view : List ProofLine) → IsTold f mine view → IsFetched h from reply
+    → h.log ≡ view ++ drop (length view) h.log → IsOk reply → from ≤ length view → IsTold f (mine ++ fetch_item worker from reply ∷ []) h.log
+told_ok f h mine worker from (Ok lines) view told reply begins ok low = told_rest f h mine worker from lines view told low (reply.0, reply.1, refl) begins
+told_ok f h mine worker from (Err fault) view told reply begins ok low = absurd (true≢false (sym ok))
+
+-- what a seat was told after a fetch, whether it caught up or not
+pub told_fetched : (f : Conjunction) (h : Held) (mine : List Item) (worker from : ℕ) (reply : Result (List ProofLine) FetchFault) (view after : List ProofLine) → IsTold f mine view → IsFetched h from reply
+    → h.log ≡ view ++ drop (length view) h.log → (after ≡ view) ⊎ (IsOk reply × (from ≤ length view) × (after ≡ h.log)) → IsTold f (mine ++ fetch_item worker from reply ∷ []) after
+told_fetched f h mine worker from reply view after told is begins moved =
+    let Now : List ProofLine → Type 0 = λ l. IsTold f (mine ++ fetch_item worker from reply ∷ []) l in
+    ⊎_elim
+    (λ (same : after ≡ view). subst Now (sym same) (told_more f mine (fetch_item worker from reply ∷ []) view told))
+    (λ (caught : IsOk reply × (from ≤ length view) × (after ≡ h.log)). subst Now (sym caught.2) (told_ok f h mine worker from reply view told is begins caught.0 caught.1))
+    moved
+
+-- a fetch leaves the log as it is
+pub same_log : (k : Kept) (worker from : ℕ) (reply : Result (List ProofLine) FetchFault) → (fetched k worker from reply).held.log ≡ k.held.log
+same_log k worker from (Ok lines) = refl
+same_log k worker from (Err fetch.Memory) = refl
+same_log k worker from (Err fetch.PastEnd) = refl

@@ -1,0 +1,18 @@
+-- What a seat knows of the log.
+use Rattle.std.specs.Prelude.{◌≡◌, ℕ, List, IsTrue, Some, slice_get}
+use Rattle.batches.specs.declared.BatchLine.{BatchLine}
+use Rattle.clauses.specs.Clauses.{Conjunction}
+use Rattle.refutations.specs.Proofs.{ProofLine}
+use Rattle.pool.specs.declared.entry.Item.{Item}
+use Rattle.pool.specs.Growth.{Tells}
+use Rattle.pool.specs.Moves.{are_earlier, number_after}
+use Rattle.pool.specs.Replies.{resolved_lines, DeriveAfter}
+
+-- each line of the view was published or told by one of these items
+abbrev pub IsTold : Conjunction → List Item → List ProofLine → Type 0
+IsTold formula mine view = (place : ℕ) (line : ProofLine) → slice_get view place ≡ Some line → (i : ℕ) × (item : Item) × (slice_get mine i ≡ Some item) × Tells formula item place line
+
+-- the lines of a batch derive behind these, each from what stands before it, and name nothing else
+abbrev pub IsDerivedFrom : Conjunction → List ProofLine → List BatchLine → Type 0
+IsDerivedFrom formula view batch =
+    IsTrue (are_earlier (number_after formula view) batch) × DeriveAfter formula view (resolved_lines (number_after formula view) batch)
