@@ -24,6 +24,7 @@ impl Subject for Pages {
     fn answer(&mut self, name: &str, words: &str, given: &mut Given) {
         match name {
             "append" => append(&mut self.log, words, given),
+            "caught_up" => put_caught_up(&mut self.log, words, given),
             "hold" => hold(&self.log, &mut self.held, words, given),
             "held" => put_taken(&self.held, given),
             "after" => put_after(&self.log, words, given),
@@ -88,6 +89,21 @@ fn append(log: &mut Log, word: &str, given: &mut Given) {
     match log.append(given.alloc, lines) {
         Ok(()) => given.number(log.len()),
         Err(_error) => given.refuse("memory"),
+    }
+}
+
+/// Appends so many lines, and writes what a log has that caught up with this one before and after.
+fn put_caught_up(log: &mut Log, word: &str, given: &mut Given) {
+    let alloc = given.alloc;
+    let lines = numbered(next(log), word, given);
+    let mut view = Log::new(alloc);
+    let caught_up = view.catch_up(alloc, log).is_ok()
+        && log.append(alloc, lines).is_ok()
+        && view.catch_up(alloc, log).is_ok();
+    if caught_up {
+        put_told(&view, given);
+    } else {
+        given.refuse("memory");
     }
 }
 

@@ -1,6 +1,8 @@
 //! A pool's calls: by the pool itself, by one `run`, and under a lock by two workers with their seats.
-ghost use Rattle.std.specs.Prelude.{◌≡◌, IfSome, [], length};
+ghost use Rattle.std.specs.Prelude.{◌≡◌, IfSome, IsTrue, [], length};
 ghost use Rattle.crossbeam_utils.specs.Seq.{cell_view};
+ghost use Rattle.pool.specs.Replies.{resolved_lines, DeriveAfter};
+ghost use Rattle.pool.specs.States.{next_number};
 ghost use Rattle.sharedpool.specs.Views.{knower};
 
 use crate::encodings::encoded;
@@ -8,9 +10,11 @@ use crate::given::{Given, Show, add, put_all, tell};
 use crate::reading::{cut, event, number, why_of};
 use crate::report::{Call, Report};
 use crate::scripts::{Section, Subject, judge_calls};
+use batches::Batch;
 use clauses::LARGEST_VARIABLE;
 use encode::Encoded;
-use pool::{Event, Pool, Reply, Share, Status, run};
+use pool::{Event, Pool, Reply, Share, Status, are_derived, run};
+use refutations::PartialAssignment;
 use sharedpool::{Cell, Room, SharedPool, Token, open_room};
 use std::alloc::{AllocError, Global};
 use std::marker::Brand;
@@ -105,6 +109,7 @@ fn called(pool: &mut Pool, kept: &mut Reply, name: &str, words: &str, given: &mu
         "history" => given.number(pool.history().len()),
         "path" => put_path(pool, words, given),
         "evidence" => put_evidence(pool, given),
+        "publish_derived" => publish_derived(pool, words, given),
         "keep_places" => keep_places(pool, words, given),
         "leave_kept" => leave_kept(pool, words, given),
         _ => make(pool, kept, name, words, given),
@@ -115,6 +120,32 @@ fn put_evidence(pool: &Pool, given: &mut Given) {
     let reply = pool.assemble(given.alloc);
     tell(&reply, given);
     mem::drop(reply);
+}
+
+/// Publishes a batch that was derived from the whole log before.
+fn publish_derived(pool: &mut Pool, words: &str, given: &mut Given) {
+    match event("publish", words, given) {
+        Some(Event::Publish { worker, batch }) => {
+            if is_derived(given.alloc, pool, &batch) {
+                tell(&pool.publish_known(given.alloc, worker, &batch), given);
+            } else {
+                given.put("not derived");
+            }
+            mem::drop(batch);
+        }
+        other => mem::drop(other),
+    }
+}
+
+fn is_derived(alloc: Global, pool: &Pool, batch: &Batch) -> bool
+    ensures { IsTrue result → DeriveAfter pool.now.held.formula pool.now.held.log (resolved_lines (next_number pool.now.held) batch.now.lines.items) }
+{
+    let _history = pool.history();
+    let formula = pool.formula();
+    match PartialAssignment::new(alloc, formula.variables()) {
+        Ok(mut known) => are_derived(alloc, &mut known, formula, pool.log(), &batch.lines),
+        Err(AllocError) => false,
+    }
 }
 
 /// Makes a worker's call.
