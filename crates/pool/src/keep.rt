@@ -382,21 +382,8 @@ impl Pool {
         self.publish_as(alloc, worker, batch, false)
     }
 
-    /// The same of a batch whose lines are known to derive, behind the log as it is now. They aren't checked again.
-    pub fn publish_known(
-        &mut self,
-        alloc: Global,
-        worker: u32,
-        batch: &Batch,
-    ) -> Result<u32, PublishFault>
-        requires { DeriveAfter self.old.held.formula self.old.held.log (resolved_lines (next_number self.old.held) batch.now.lines.items) }
-        ensures reply { IsPublished self.old.held batch.now.lines.items result }
-        ensures pool { self.new ≡ published self.old worker batch.now.lines.items result }
-    {
-        self.publish_as(alloc, worker, batch, true)
-    }
-
-    fn publish_as(
+    /// The same of a batch whose lines aren't checked where they are known to derive behind the log as it is now.
+    pub fn publish_as(
         &mut self,
         alloc: Global,
         worker: u32,

@@ -1,5 +1,7 @@
 //! Values of variables, in the order in which they came.
 
+ghost use Rattle.std.specs.Prelude.{◌≤◌};
+
 use crate::codes::{NONE, negated, number_at, variable_of};
 use crate::moves::Moves;
 use std::alloc::{AllocError, Global};
@@ -200,13 +202,17 @@ impl Trail {
         put(self.values.as_mut_slice(), negated(code), Truth::Open);
     }
 
-    fn shorten(&mut self, length: usize) {
+    /// Takes back all from this place on. Of what stays, what wasn't propagated yet still is to be.
+    fn shorten(&mut self, length: usize)
+        ensures { self.new.head ≤ self.old.head }
+    {
+        let head = self.head.min(length);
         for place in length..self.top {
             let code = number_at(&self.literals, place);
             self.unassign(code);
         }
         self.top = length;
-        self.head = length;
+        self.head = head;
     }
 
     /// How many literals were true when the level above this one began, which is how many stay where all above this one are taken back. None
@@ -215,8 +221,10 @@ impl Trail {
         self.limits.get(level).copied()
     }
 
-    /// Takes back all levels above this one.
-    pub fn back(&mut self, level: usize) {
+    /// Takes back all levels above this one. Of what stays, what wasn't propagated yet still is to be.
+    pub fn back(&mut self, level: usize)
+        ensures { self.new.head ≤ self.old.head }
+    {
         if let Some(length) = self.length_at(level) {
             self.limits.truncate(level);
             self.shorten(length);

@@ -2,8 +2,7 @@
 
 ghost use Rattle.std.specs.Prelude.{◌≡◌, ◌⊎◌, ◌==◌, ◌≤◌, ◌<◌, ◌++◌, ℕ, [], drop, false, Err, IsOk, IsTrue, OnOk, OnErr, length};
 ghost use Rattle.std.specs.List.{count_by};
-ghost use Rattle.pool.specs.Replies.{resolved_lines, DeriveAfter};
-ghost use Rattle.pool.specs.States.{next_number, published, noted, with_places, leave_item, IsLegal, IsSound, IsPublished, IsFetched, IsClosed, IsSplit, IsFound};
+ghost use Rattle.pool.specs.States.{noted, with_places, leave_item, IsLegal, IsSound, IsPublished, IsFetched, IsClosed, IsSplit, IsFound};
 ghost use Rattle.crossbeam_utils.specs.Seq.{cell_view};
 ghost use Rattle.sharedpool.specs.Leaves.{has_left, has_entry, places_after};
 ghost use Rattle.sharedpool.specs.Views.{knower, items_of};
@@ -69,25 +68,6 @@ fn leave_pool(pool: &mut Pool, worker: u32, why: Option<Why>) -> Result<(), Allo
         pool.leave(worker, why)
     } else {
         pool.leave_kept(worker, why)
-    }
-}
-
-/// A batch, which isn't checked again where it is known to derive.
-fn publish_in(
-    pool: &mut Pool,
-    alloc: Global,
-    worker: u32,
-    batch: &Batch,
-    is_known: bool,
-) -> Result<u32, PublishFault>
-    requires { IsTrue is_known → DeriveAfter pool.old.held.formula pool.old.held.log (resolved_lines (next_number pool.old.held) batch.now.lines.items) }
-    ensures reply { IsPublished pool.old.held batch.now.lines.items result }
-    ensures pool { pool.new ≡ published pool.old worker batch.now.lines.items result }
-{
-    if is_known {
-        pool.publish_known(alloc, worker, batch)
-    } else {
-        pool.publish(alloc, worker, batch)
     }
 }
 
@@ -203,7 +183,7 @@ impl<B: Room> Locked<B> {
     {
         self.match_seat(rt, cell, seat);
         let worker = seat.worker;
-        let reply = publish_in(&mut self.pool, alloc, worker, batch, is_derived);
+        let reply = self.pool.publish_as(alloc, worker, batch, is_derived);
         if let Err(PublishFault::Memory) = &reply {
             return Err(PublishFault::Memory);
         }

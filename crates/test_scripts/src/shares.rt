@@ -127,7 +127,7 @@ fn publish_derived(pool: &mut Pool, words: &str, given: &mut Given) {
     match event("publish", words, given) {
         Some(Event::Publish { worker, batch }) => {
             if is_derived(given.alloc, pool, &batch) {
-                tell(&pool.publish_known(given.alloc, worker, &batch), given);
+                tell(&pool.publish_as(given.alloc, worker, &batch, true), given);
             } else {
                 given.put("not derived");
             }

@@ -13,17 +13,17 @@ note-requires g c = ready _ _ _ _ _ _ _ _ _ c.requires.room c.self.invariant c.s
 
 pub invariant_of-self-2 : goal.invariant_of-self-2
 invariant_of-self-2 g c =
-    let answered : c.publish_in-reply.result ≡ Err Memory → ⊥ = λ e. search rules in
-    let reply = c.publish_in-reply.ensures in
+    let answered : c.publish_as-reply.result ≡ Err Memory → ⊥ = λ e. search rules in
+    let reply = c.publish_as-reply.ensures in
     locked_more _ _ _ _ _ _ _ _ _ _ c.self.invariant c.note.ensures
-    (reply.pool ∙ publish_noted c.self.inside.pool c.seat.inside.worker c.args.batch.now.lines.items c.publish_in-reply.result answered)
-    (publish_step c.self.inside.pool.held c.seat.inside.worker c.args.batch.now.lines.items c.publish_in-reply.result answered reply.reply)
+    (reply.pool ∙ publish_noted c.self.inside.pool c.seat.inside.worker c.args.batch.now.lines.items c.publish_as-reply.result answered)
+    (publish_step c.self.inside.pool.held c.seat.inside.worker c.args.batch.now.lines.items c.publish_as-reply.result answered reply.reply)
 
 pub returns-clause-not_derived : goal.returns-clause-not_derived
 returns-clause-not_derived g c place is =
     let batch = c.args.batch.now.lines.items in
     subst (λ (s : Chair). IsRefusedOver g.B.Room.opening.formula s.mine batch place) (c.seat.view_is ∙ c.match_seat.ensures.seat)
-    (refused_call _ _ _ _ _ _ _ _ _ _ batch c.publish_in-reply.result c.self.invariant c.seat.invariant c.note.ensures c.publish_in-reply.ensures.reply place is)
+    (refused_call _ _ _ _ _ _ _ _ _ _ batch c.publish_as-reply.result c.self.invariant c.seat.invariant c.note.ensures c.publish_as-reply.ensures.reply place is)
 
 pub returns-clause-seat : goal.returns-clause-seat
 returns-clause-seat g c = search rules
@@ -31,8 +31,8 @@ returns-clause-seat g c = search rules
 pub returns-clause-reply : goal.returns-clause-reply
 returns-clause-reply g c = search rules
 
-pub publish_in-reply-requires : goal.publish_in-reply-requires
-publish_in-reply-requires g c is_derived =
+pub publish_as-reply-requires : goal.publish_as-reply-requires
+publish_as-reply-requires g c is_derived =
     let all = ap (λ (s : Shared). s.items) (c.self.view_is ∙ c.match_seat.ensures.same) in
     let mine = c.match_seat.ensures.mine ∙ ap (items_of c.args.seat.now.worker) (sym all) in
     derived_behind _ _ _ _ _ _ _ _ _ c.self.invariant mine c.requires.told (c.requires.derived is_derived)
