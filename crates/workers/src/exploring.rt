@@ -41,7 +41,7 @@ const FIRST_TURN: u64 = 4_000;
 const MOST_DOUBLINGS: u32 = 3;
 
 /// A conflict below a cube counts as so many lines.
-const LINES_OF_A_CONFLICT: u64 = 4;
+const LINES_OF_A_CONFLICT: u64 = 16;
 
 /// Whose turn it is, where a search over sets of matched calls and one below cubes take turns.
 #[derive(Clone, Copy)]

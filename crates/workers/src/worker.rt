@@ -588,7 +588,7 @@ fn reason<S: Share, C: Cubes, G: Gate, R: Wait>(
 /// Worker 0 begins with what the opening left to it: searches with no cube, of 250 conflicts at most each.
 ///
 /// Where that is wanted it also searches over sets of matched calls, at first 32 lines at a time and later up to 1,000, each of which counts as a
-/// conflict of its budget: in turn with cubes, where a conflict counts as four lines, or as long as that search goes on. It tells the other workers
+/// conflict of its budget: in turn with cubes, where a conflict counts as 16 lines, or as long as that search goes on. It tells the other workers
 /// which states it closed and which lemmas it made, and takes theirs over, so that all of them together search over the sets once. They write 600,000 lines
 /// at most; where the log has room for no more than what is left of these, it searches below no cube. Where the log has an empty clause, each cube is
 /// closed by it. Of the lines of others a worker takes in the shortest, up to 1,000 after each search, and all with at most two literals; these alone
