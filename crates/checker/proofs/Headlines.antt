@@ -12,7 +12,7 @@ use Rattle.checker.specs.declared.reason.Verdict.{Verdict}
 use Rattle.checker.specs.declared.reason.Verdict.TheVariants as verdicts
 use Rattle.checker.specs.Verdicts.{IsNeverStuck, Judges, NeverBoth, RefutedAreNeverStuck}
 
-is_program : (program : List ℕ) (p : MpiProgram) → IsTextOf program p → IsProgram p
+pub is_program : (program : List ℕ) (p : MpiProgram) → IsTextOf program p → IsProgram p
 is_program program p of =
     subst IsProgram (sym of.is_program.is) (expansion_is_program of.text of.is_text.fits.some of.is_text.fits.ranks of.is_program.no_fault)
 

@@ -1,3 +1,4 @@
+pub mod Known
 pub mod Lines
 pub mod Replayed
 pub mod WordByWord

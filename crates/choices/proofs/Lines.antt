@@ -7,7 +7,7 @@ use Rattle.plaintext.specs.Plain.{text_lines}
 use Rattle.plaintext.proofs.Texts.{joined-lines}
 use Rattle.choices.specs.Pins.{AreAround, IsPast, IsPinned, joined}
 use Rattle.choices.specs.Words.{line_with}
-use Rattle.choices.specs.declared.items.Taken.{Taken}
+use Rattle.narrowing.specs.declared.taken.Taken.{Taken}
 
 -- past one more line
 pub past_more : (text : List ℕ) (count : ℕ) (rest line next : List ℕ) → IsPast text count rest → text_lines rest ≡ (line ++ 10 ∷ []) ∷ text_lines next → IsPast text (count + 1) next

@@ -3,7 +3,7 @@ use Rattle.std.specs.Prelude.{◌≡◌, ℕ, ◌+◌, List, [], ◌∷◌, ◌+
 use Rattle.std.specs.List.{flat_map}
 use Rattle.plaintext.specs.Plain.{text_lines}
 use Rattle.choices.specs.Words.{line_with}
-use Rattle.choices.specs.declared.items.Taken.{Taken}
+use Rattle.narrowing.specs.declared.taken.Taken.{Taken}
 
 -- lines, one after another
 abbrev pub joined : List (List ℕ) → List ℕ

@@ -1,5 +1,13 @@
 -- What is known of a choice.
-use Rattle.std.specs.Prelude.{◌≡◌, ℕ, List, Some, slice_get, All}
+use Rattle.std.specs.Prelude.{◌≡◌, ℕ, List, [], Some, slice_get, All}
+use Rattle.callorder.specs.Programs.{MpiProgram}
+use Rattle.callorder.specs.Resolving.{IsTextOf}
+use Rattle.semantics.specs.declared.state.Step.{Step}
+use Rattle.semantics.specs.Machine.{IsStuckRun, opening, after_all}
+use Rattle.narrowing.specs.declared.taken.Taken.{Taken}
+use Rattle.narrowing.specs.Ways.{AreOtherWays}
+use Rattle.narrowing.specs.Narrowed.{IsNarrowed}
+use Rattle.narrowing.specs.Laws.{LeavesOpen, IsTakenSo}
 use Rattle.checker.specs.Verdicts.{IsNeverStuck}
 use Rattle.prover.specs.Answers.{CanHang}
 use Rattle.choices.specs.Pins.{IsPinned}
@@ -8,16 +16,34 @@ use Rattle.choices.specs.declared.asking.Way.TheVariants as ways
 use Rattle.choices.specs.declared.items.Choice.{Choice}
 use Rattle.choices.specs.declared.items.Need.{Need}
 use Rattle.choices.specs.declared.items.Need.TheVariants as needs
-use Rattle.choices.specs.declared.items.Taken.{Taken}
 use Rattle.choices.specs.declared.items.Weighed.{Weighed}
+
+-- The choice is one of the program: its call leaves it open, and its other ways are all that there are.
+pub record IsChoiceOf (p : MpiProgram) (choice : Choice) : Type 0 where
+  pub leaves : LeavesOpen p choice.call choice.taken
+  pub ways : AreOtherWays p choice.call choice.taken choice.others.items
+
+-- all of them are
+abbrev pub AreChoicesOf : MpiProgram → List Choice → Type 0
+AreChoicesOf p choices = All (IsChoiceOf p) choices
 
 -- with other words in the place of the line of this number, which leave open no more than this, the text is a program's that has a run that ends stuck
 abbrev pub HangsWith : List ℕ → ℕ → Taken → Type 0
 HangsWith text number taken = (pinned : List ℕ) × IsPinned text number taken pinned × CanHang pinned
 
--- with such words the text is a program's of which no run ends stuck
-abbrev pub NeverWith : List ℕ → ℕ → Taken → Type 0
-NeverWith text number taken = (pinned : List ℕ) × IsPinned text number taken pinned × IsNeverStuck pinned
+-- The text is that of the program in which this call leaves open no more than this way.
+pub record IsNarrowedText (p : MpiProgram) (call : ℕ) (taken : Taken) (text : List ℕ) : Type 0 where
+  pub narrowed : MpiProgram
+  pub is_text : IsTextOf text narrowed
+  pub is_narrowed : IsNarrowed p call taken narrowed
+
+-- With such words in the place of the line of this number the text is that of the program in which this call leaves open no more than this way, and no run of
+-- it ends stuck.
+pub record NeverWith (text : List ℕ) (number : ℕ) (p : MpiProgram) (call : ℕ) (taken : Taken) : Type 0 where
+  pub pinned : List ℕ
+  pub is_pinned : IsPinned text number taken pinned
+  pub is_narrowed : IsNarrowedText p call taken pinned
+  pub never : IsNeverStuck pinned
 
 -- what is told of a text holds
 abbrev pub IsWay : List ℕ → Way → Type 0
@@ -25,31 +51,44 @@ IsWay text ways.Hangs = CanHang text
 IsWay text ways.Never = IsNeverStuck text
 IsWay text ways.Open = Unit {0}
 
--- what is told of the text with such words holds
-abbrev pub IsWayWith : List ℕ → ℕ → Taken → Way → Type 0
-IsWayWith text number taken ways.Hangs = HangsWith text number taken
-IsWayWith text number taken ways.Never = NeverWith text number taken
-IsWayWith text number taken ways.Open = Unit {0}
+-- what is told of the text of this program with such words holds
+abbrev pub IsWayWith : List ℕ → ℕ → MpiProgram → ℕ → Taken → Way → Type 0
+IsWayWith text number p call taken ways.Hangs = HangsWith text number taken
+IsWayWith text number p call taken ways.Never = NeverWith text number p call taken
+IsWayWith text number p call taken ways.Open = Unit {0}
 
 -- in each of these ways no run ends stuck
-abbrev pub AreNever : List ℕ → ℕ → List Taken → Type 0
-AreNever text number others = All (λ taken. NeverWith text number taken) others
+abbrev pub AreNever : List ℕ → MpiProgram → Choice → List Taken → Type 0
+AreNever text p choice others = All (λ taken. NeverWith text choice.line p choice.call taken) others
+
+-- there are other ways, and in none of them a run ends stuck
+pub record NoneHangs (text : List ℕ) (p : MpiProgram) (choice : Choice) : Type 0 where
+  pub some : choice.others.items ≡ [] → ⊥
+  pub never : AreNever text p choice choice.others.items
 
 -- in some of these ways a run ends stuck
 abbrev pub SomeHangs : List ℕ → ℕ → List Taken → Type 0
 SomeHangs text number others = (place : ℕ) × (taken : Taken) × (slice_get others place ≡ Some taken) × HangsWith text number taken
 
 -- what is told of the other ways of a choice
-abbrev pub AreOthers : List ℕ → Choice → Need → Type 0
-AreOthers text choice needs.Known = AreNever text choice.line choice.others.items
-AreOthers text choice needs.Tried = Unit {0}
-AreOthers text choice needs.No = SomeHangs text choice.line choice.others.items
-AreOthers text choice needs.NotAsked = Unit {0}
+abbrev pub AreOthers : List ℕ → MpiProgram → Choice → Need → Type 0
+AreOthers text p choice needs.Known = NoneHangs text p choice
+AreOthers text p choice needs.Tried = Unit {0}
+AreOthers text p choice needs.No = SomeHangs text choice.line choice.others.items
+AreOthers text p choice needs.NotAsked = Unit {0}
+
+-- The choice is one of the text's program, with all of its other ways, of which there are some, and in none of which a run ends stuck.
+pub record IsKnown (text : List ℕ) (choice : Choice) : Type 0 where
+  pub p : MpiProgram
+  pub is_text : IsTextOf text p
+  pub is_choice : IsChoiceOf p choice
+  pub none : NoneHangs text p choice
 
 -- Where a choice was asked about, the program of the text whose line says what the run did has a run that ends stuck. Where it is known to be needed,
--- no run ends stuck where the line says any other way. Where it is told not to be needed, some run ends stuck where it says another way.
+-- no run ends stuck where the line says any other way, and the other ways are all that there are. Where it is told not to be needed, some run ends stuck where it
+-- says another way.
 abbrev pub IsWeighed : List ℕ → Choice → Need → Type 0
-IsWeighed text choice needs.Known = HangsWith text choice.line choice.taken × AreNever text choice.line choice.others.items
+IsWeighed text choice needs.Known = HangsWith text choice.line choice.taken × IsKnown text choice
 IsWeighed text choice needs.Tried = HangsWith text choice.line choice.taken
 IsWeighed text choice needs.No = HangsWith text choice.line choice.taken × SomeHangs text choice.line choice.others.items
 IsWeighed text choice needs.NotAsked = Unit {0}
@@ -57,3 +96,10 @@ IsWeighed text choice needs.NotAsked = Unit {0}
 -- all that is told of these choices holds
 abbrev pub AreWeighed : List ℕ → List Weighed → Type 0
 AreWeighed text choices = All (λ weighed. IsWeighed text weighed.choice weighed.need) choices
+
+-- Each run of the text's program that ends stuck makes a choice that is known to be needed as it was made: the send is issued and buffered, or not; or
+-- the call has found a message of that rank with that tag.
+abbrev pub KnownIsTaken : Type 0
+KnownIsTaken =
+    (text : List ℕ) (choice : Choice) (p : MpiProgram) (steps : List Step) → IsWeighed text choice needs.Known → IsTextOf text p → IsStuckRun p steps
+    → IsTakenSo p (after_all (opening p) steps) choice.call choice.taken

@@ -3,8 +3,8 @@ use Rattle.std.specs.Prelude.{ℕ, ◌+◌, ◌-◌, ◌==◌, if◌then◌else�
 use Rattle.std.specs.Cmp.Lexicographic.{pointwise}
 use Rattle.std.specs.List.{slice_split, starts_with}
 use Rattle.plaintext.specs.Plain.{numeral}
-use Rattle.choices.specs.declared.items.Taken.{Taken}
-use Rattle.choices.specs.declared.items.Taken.TheVariants as taken
+use Rattle.narrowing.specs.declared.taken.Taken.{Taken}
+use Rattle.narrowing.specs.declared.taken.Taken.TheVariants as taken
 
 abbrev pub is_same : List ℕ → List ℕ → Bool
 is_same = pointwise (λ x y. x == y)

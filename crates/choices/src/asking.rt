@@ -3,12 +3,13 @@
 ghost use Rattle.std.specs.Prelude.{IfOk, IsTrue};
 ghost use Rattle.semantics.specs.Machine.{IsStuckRun};
 ghost use Rattle.prover.specs.Answers.{CanHang};
-ghost use Rattle.choices.specs.Weights.{HangsWith, IsWay, IsWayWith};
+ghost use Rattle.choices.specs.Weights.{HangsWith, IsNarrowedText, IsWay, IsWayWith};
 
-use crate::items::Taken;
+use crate::items::Choice;
 use crate::pinning::with_choice;
 use callorder::Program;
 use checker::program_of;
+use narrowing::{Taken, is_narrowed};
 use prover::{Answer, Gate, Options, Reason, Until, Why, prove, walk_ends};
 use semantics::{End, ReplayFault, Step, replay};
 use std::alloc::{AllocError, Global};
@@ -67,26 +68,60 @@ fn walked(alloc: Global, text: &[u8]) -> Result<Way, AllocError>
     }
 }
 
-/// What is known of the program of the text with other words in the place of its line of this number, from 1, which leave open no more than
-/// this: by a search, or where none is given by walks alone.
+/// Whether the text is that of the program in which this call leaves open no more than this way.
+fn is_narrowed_text(
+    alloc: Global,
+    program: &Program,
+    call: usize,
+    way: Taken,
+    text: &[u8],
+) -> Result<bool, AllocError>
+    ensures { IfOk result (λ is. IsTrue is → IsNarrowedText program.now call way text.now) }
+{
+    match program_of(alloc, text) {
+        Ok(narrowed) => Ok(is_narrowed(program, call, way, &narrowed)),
+        Err(Reason::Memory) => Err(AllocError),
+        Err(_reason) => Ok(false),
+    }
+}
+
+/// What is known of a text: by a search, or where none is given by walks alone.
+fn asked<R: Threads + Wait + Sync>(
+    rt: &R,
+    alloc: Global,
+    text: &[u8],
+    search: Option<Options>,
+) -> Result<Way, AllocError>
+    ensures { IfOk result (IsWay text.now) }
+{
+    match search {
+        Some(search) => searched(rt, alloc, text, search),
+        None => walked(alloc, text),
+    }
+}
+
+/// What is known of the program of the text with other words in the place of a choice's line, which leave open no more than this way: by a
+/// search, or where none is given by walks alone. That no run of it ends stuck is told only where those words narrow the choice's call and change
+/// no other.
 pub fn way_with<R: Threads + Wait + Sync>(
     rt: &R,
     alloc: Global,
     text: &[u8],
-    number: usize,
+    program: &Program,
+    choice: &Choice,
     taken: Taken,
     search: Option<Options>,
 ) -> Result<Way, AllocError>
-    ensures { IfOk result (IsWayWith text.now number taken) }
+    ensures { IfOk result (IsWayWith text.now choice.now.line program.now choice.now.call taken) }
 {
-    let found = with_choice(alloc, text, number, taken)?;
+    let found = with_choice(alloc, text, choice.line, taken)?;
     let Some(pinned) = found else {
         return Ok(Way::Open);
     };
-    match search {
-        Some(search) => searched(rt, alloc, &pinned, search),
-        None => walked(alloc, &pinned),
+    if !is_narrowed_text(alloc, program, choice.call, taken, &pinned)? {
+        return Ok(Way::Open);
     }
+    asked(rt, alloc, &pinned, search)
 }
 
 /// Whether the steps are a run of the text's program that ends stuck.

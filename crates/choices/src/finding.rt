@@ -1,11 +1,14 @@
 //! The choices of a run, with the lines that pin them.
 
+ghost use Rattle.std.specs.Prelude.{IfOk, OnOk};
 ghost use Rattle.semantics.specs.Machine.{IsStuckRun};
+ghost use Rattle.narrowing.specs.Laws.{LeavesOpen};
+ghost use Rattle.choices.specs.Weights.{AreChoicesOf, IsChoiceOf};
 
-use crate::items::{Choice, Taken};
+use crate::items::Choice;
 use crate::places::{line_numbers, lines_of};
-use crate::rivals::{is_wildcard, rivals};
-use callorder::{Kind, Mode, Policy, Program};
+use callorder::Program;
+use narrowing::{Taken, is_open_send, other_ways, way_to};
 use semantics::{State, Step};
 use std::alloc::{AllocError, Global};
 
@@ -15,45 +18,27 @@ fn line_of_call(numbers: &[usize], call: usize) -> Option<usize> {
     if number == 0 { None } else { Some(number) }
 }
 
-/// The choice of a standard send.
-fn send_choice(
+/// A choice of this call, with all of its other ways.
+fn choice_of(
     alloc: Global,
+    program: &Program,
     line: usize,
-    rank: u32,
+    call: usize,
     step: usize,
-    buffered: bool,
-) -> Result<Choice, AllocError> {
-    let (taken, other) = if buffered {
-        (Taken::Buffered, Taken::NotBuffered)
-    } else {
-        (Taken::NotBuffered, Taken::Buffered)
-    };
-    let mut others = Vec::new(alloc);
-    others.push(other)?;
+    taken: Taken,
+) -> Result<Choice, AllocError>
+    requires { LeavesOpen program.now call taken }
+    ensures { IfOk result (IsChoiceOf program.now) }
+{
+    let others = other_ways(alloc, program, call, taken)?;
     Ok(Choice {
         line,
-        rank,
+        call,
+        rank: rank_of(program, call),
         step,
         taken,
         others,
     })
-}
-
-/// That a call finds the message of this send.
-fn message_of(program: &Program, send: usize) -> Taken {
-    let (source, tag) = envelope(program, send);
-    Taken::Message { source, tag }
-}
-
-/// The rank and the tag of a send.
-fn envelope(program: &Program, send: usize) -> (u32, u32) {
-    let Some(call) = program.call(send) else {
-        return (0, 0);
-    };
-    match call.kind.message() {
-        Some(message) => (call.rank, message.tag),
-        None => (0, 0),
-    }
 }
 
 /// Which of the choices that a step makes is meant.
@@ -65,18 +50,15 @@ enum Open {
     Message { send: usize, finder: usize },
 }
 
-/// Whether the call is a standard send.
-fn is_standard(program: &Program, call: usize) -> bool {
-    match program.call(call) {
-        None => false,
-        Some(known) => matches!(
-            known.kind,
-            Kind::Send {
-                mode: Mode::Standard,
-                ..
-            }
-        ),
-    }
+/// Whether the call is a receive, a matched probe or a probe with a star.
+fn is_wildcard(program: &Program, finder: usize) -> bool {
+    let Some(call) = program.call(finder) else {
+        return false;
+    };
+    let Some(pattern) = call.kind.pattern() else {
+        return false;
+    };
+    pattern.source.is_none() || pattern.tag.is_none()
 }
 
 /// What a step leaves open in a state, if anything.
@@ -84,11 +66,7 @@ fn open_at(program: &Program, state: &State, step: Step) -> Option<Open> {
     match step {
         Step::Issue { rank, buffered } => {
             let call = state.next_of(rank)?;
-            if program.policy() == Policy::Any && is_standard(program, call) {
-                Some(Open::Send { call, buffered })
-            } else {
-                None
-            }
+            Some(Open::Send { call, buffered })
         }
         Step::Match { send, taker } => open_message(program, send, taker),
         Step::See { send, probe } => open_message(program, send, probe),
@@ -112,30 +90,7 @@ fn rank_of(program: &Program, call: usize) -> u32 {
     }
 }
 
-/// The choice of a call that found the message of a send where others fitted too.
-fn message_choice(
-    alloc: Global,
-    program: &Program,
-    line: usize,
-    finder: usize,
-    step: usize,
-    send: usize,
-    rivals: &[usize],
-) -> Result<Choice, AllocError> {
-    let mut others = Vec::new(alloc);
-    for rival in rivals {
-        others.push(message_of(program, *rival))?;
-    }
-    Ok(Choice {
-        line,
-        rank: rank_of(program, finder),
-        step,
-        taken: message_of(program, send),
-        others,
-    })
-}
-
-/// Adds a choice of a send.
+/// Adds a choice of a send, if the policy leaves it open.
 fn put_send(
     found: &mut Vec<Choice>,
     alloc: Global,
@@ -144,35 +99,48 @@ fn put_send(
     step: usize,
     call: usize,
     buffered: bool,
-) -> Result<(), AllocError> {
+) -> Result<(), AllocError>
+    ensures { OnOk result (AreChoicesOf program.now found.old.items → AreChoicesOf program.now found.new.items) }
+{
+    if !is_open_send(program, call) {
+        return Ok(());
+    }
     let Some(line) = line_of_call(numbers, call) else {
         return Ok(());
     };
-    let rank = rank_of(program, call);
-    let choice = send_choice(alloc, line, rank, step, buffered)?;
+    let taken = if buffered {
+        Taken::Buffered
+    } else {
+        Taken::NotBuffered
+    };
+    let choice = choice_of(alloc, program, line, call, step, taken)?;
     found.push(choice)?;
     Ok(())
 }
 
-/// Adds a choice of a call that found a message, where another one fitted too.
+/// Adds a choice of a call that found a message, where one of another rank or tag fits too.
 fn put_message(
     found: &mut Vec<Choice>,
     alloc: Global,
     program: &Program,
     numbers: &[usize],
-    state: &State,
     step: usize,
     send: usize,
     finder: usize,
-) -> Result<(), AllocError> {
-    let rivals = rivals(alloc, program, state, send, finder)?;
-    if rivals.is_empty() {
-        return Ok(());
-    }
+) -> Result<(), AllocError>
+    ensures { OnOk result (AreChoicesOf program.now found.old.items → AreChoicesOf program.now found.new.items) }
+{
     let Some(line) = line_of_call(numbers, finder) else {
         return Ok(());
     };
-    let choice = message_choice(alloc, program, line, finder, step, send, &rivals)?;
+    let Some(Taken::Message { source, tag }) = way_to(program, send) else {
+        return Ok(());
+    };
+    let taken = Taken::Message { source, tag };
+    let choice = choice_of(alloc, program, line, finder, step, taken)?;
+    if choice.others.is_empty() {
+        return Ok(());
+    }
     found.push(choice)?;
     Ok(())
 }
@@ -186,14 +154,16 @@ fn put_choice(
     state: &State,
     place: usize,
     step: Step,
-) -> Result<(), AllocError> {
+) -> Result<(), AllocError>
+    ensures { OnOk result (AreChoicesOf program.now found.old.items → AreChoicesOf program.now found.new.items) }
+{
     match open_at(program, state, step) {
         None => Ok(()),
         Some(Open::Send { call, buffered }) => put_send(
             found, alloc, program, numbers, place, call, buffered,
         ),
         Some(Open::Message { send, finder }) => {
-            put_message(found, alloc, program, numbers, state, place, send, finder)
+            put_message(found, alloc, program, numbers, place, send, finder)
         }
     }
 }
@@ -207,6 +177,7 @@ fn put_choices(
     steps: &[Step],
 ) -> Result<(), AllocError>
     requires { IsStuckRun program.now steps.now }
+    ensures { OnOk result (AreChoicesOf program.now found.old.items → AreChoicesOf program.now found.new.items) }
 {
     let mut state = State::start(alloc, program)?;
     for (place, step) in steps.iter().enumerate() {
@@ -224,6 +195,7 @@ pub fn choices_of(
     steps: &[Step],
 ) -> Result<Vec<Choice>, AllocError>
     requires { IsStuckRun program.now steps.now }
+    ensures { IfOk result (λ choices. AreChoicesOf program.now choices.items) }
 {
     let lines = lines_of(alloc, text)?;
     let numbers = line_numbers(alloc, &lines)?;

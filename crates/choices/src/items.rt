@@ -1,39 +1,32 @@
 //! Choices of a run, and what is known of them.
 
+use narrowing::Taken;
 use settings::Options;
-
-/// What a run did where a call left something open.
-#[derive(Clone, Copy, PartialEq, Eq)]
-pub enum Taken {
-    /// The send was buffered.
-    Buffered,
-    /// The send was not buffered.
-    NotBuffered,
-    /// The call found the message of this rank, from 0, with this tag, where one of another rank fitted too.
-    Message { source: u32, tag: u32 },
-}
 
 /// A choice of a run.
 #[derive(Drop)]
 pub struct Choice {
     /// The number of its line in the program's text, from 1.
     pub line: usize,
+    /// The place of its call in the program's list of calls, from 0.
+    pub call: usize,
     /// The rank that makes the call, from 0.
     pub rank: u32,
     /// The place of the step that decided it in the run, from 0.
     pub step: usize,
     /// What the run did.
     pub taken: Taken,
-    /// What the call could have done otherwise.
+    /// All that the call could have done otherwise: of a send the other one of the two ways, of a call that found a message the
+    /// rank and the tag of each send of the program that fits it, but for those that it found.
     pub others: Vec<Taken>,
 }
 
 /// Whether a program hangs only where a choice is made as in a run.
 #[derive(Clone, Copy, PartialEq, Eq)]
 pub enum Need {
-    /// It does: with the choice made in each other way, no run of the program ends stuck.
+    /// It does: each run of the program that ends stuck makes the choice so, since none does with the choice made in any other way.
     Known,
-    /// No run that ends stuck was found with the choice made in another way.
+    /// No run that ends stuck was found with the choice made in another way; not all other ways are known to have none.
     Tried,
     /// Some run ends stuck with the choice made in another way.
     No,
@@ -53,7 +46,7 @@ pub struct Weighed {
 /// In which walks a program hangs.
 #[derive(Clone, Copy, PartialEq, Eq)]
 pub enum Extent {
-    /// In each that was taken, whatever is chosen.
+    /// In each that was taken.
     Always,
     /// In each that was taken where the choices are made as in the run.
     Whenever,

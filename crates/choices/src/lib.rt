@@ -7,15 +7,17 @@
 mod asking;
 mod finding;
 mod items;
+mod laws;
 mod pinning;
 mod places;
-mod rivals;
 mod sufficing;
 mod telling;
 mod weighing;
 mod wording;
 
-pub use items::{Choice, Decided, Extent, Limits, Need, Taken, Weighed};
+pub use items::{Choice, Decided, Extent, Limits, Need, Weighed};
+pub use laws::known_is_taken;
+pub use narrowing::Taken;
 pub use pinning::with_choice;
 pub use telling::told;
 pub use weighing::decide;

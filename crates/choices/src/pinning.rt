@@ -3,8 +3,8 @@
 ghost use Rattle.std.specs.Prelude.{IfOk, IfSome};
 ghost use Rattle.choices.specs.Pins.{AreAround, IsPinned};
 
-use crate::items::Taken;
 use crate::wording::line_with;
+use narrowing::Taken;
 use plaintext::next_line;
 use std::alloc::{AllocError, Global};
 

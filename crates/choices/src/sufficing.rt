@@ -1,8 +1,9 @@
 //! Which choices suffice for a program to hang in each walk.
 
-use crate::items::{Choice, Extent, Taken};
+use crate::items::{Choice, Extent};
 use crate::places::lines_of;
 use crate::wording::line_with;
+use narrowing::Taken;
 use prover::{Reason, Until, walk_ends};
 use std::alloc::{AllocError, Global};
 

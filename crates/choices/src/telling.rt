@@ -1,8 +1,9 @@
 //! What decided a run, as a text.
 
-use crate::items::{Choice, Decided, Extent, Need, Taken, Weighed};
+use crate::items::{Choice, Decided, Extent, Need, Weighed};
 use crate::places::lines_of;
 use crate::wording::is_joined;
+use narrowing::Taken;
 use std::alloc::{AllocError, Global};
 
 /// The most choices that are told.
@@ -50,8 +51,8 @@ fn put_mode(out: &mut String, line: &[u8], mode: &str) -> Result<(), AllocError>
 /// What is told of a choice's other ways.
 fn need_text(need: Need) -> &'static str {
     match need {
-        Need::Known => "; hangs only if so (proved)",
-        Need::Tried => "; hangs only if so (tried)",
+        Need::Known => "; without it no run hangs (proved)",
+        Need::Tried => "; no run that hangs without it was found",
         Need::No => "; may hang otherwise too",
         Need::NotAsked => "; not asked whether it may hang otherwise",
     }
@@ -75,7 +76,7 @@ fn put_choices(out: &mut String, lines: &[&[u8]], choices: &[Weighed]) -> Result
 /// What is told above the choices.
 fn extent_text(extent: Extent) -> &'static str {
     match extent {
-        Extent::Always => "  hangs in every run that was tried, whatever is chosen\n",
+        Extent::Always => "  hangs in every run that was tried\n",
         Extent::Whenever => "  hangs in every run that was tried where:\n",
         Extent::NotFound => "  no choices were found that suffice\n",
     }

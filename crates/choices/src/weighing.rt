@@ -1,16 +1,18 @@
 //! Whether choices are needed for a program to hang.
 
-ghost use Rattle.std.specs.Prelude.{◌≡◌, true, IfErr, IfOk, IsTrue};
+ghost use Rattle.std.specs.Prelude.{◌≡◌, [], true, IfErr, IfOk, OnOk, IsTrue};
+ghost use Rattle.callorder.specs.Resolving.{IsTextOf};
 ghost use Rattle.semantics.specs.Machine.{IsStuckRun};
 ghost use Rattle.checker.specs.Parts.{IsNoRun};
-ghost use Rattle.choices.specs.Weights.{AreOthers, AreWeighed, HangsWith, IsWeighed};
+ghost use Rattle.choices.specs.Weights.{AreChoicesOf, AreOthers, AreWeighed, HangsWith, IsChoiceOf, IsWeighed};
 
 use crate::asking::{Way, hangs_with, way_with};
 use crate::finding::choices_of;
-use crate::items::{Choice, Decided, Limits, Need, Taken, Weighed};
+use crate::items::{Choice, Decided, Limits, Need, Weighed};
 use crate::sufficing::choose;
 use callorder::Program;
 use checker::{NoRun, Reason, stuck_run_of};
+use narrowing::Taken;
 use semantics::Step;
 use settings::Options;
 use std::alloc::{AllocError, Global};
@@ -34,19 +36,27 @@ fn is_hanging(way: Way) -> bool
     way == Way::Hangs
 }
 
+/// Whether there are other ways.
+fn has_some(others: &[Taken]) -> bool
+    ensures { IsTrue result → others.now ≡ [] → ⊥ }
+{
+    !others.is_empty()
+}
+
 /// What is known of a choice's other ways.
 fn others_of<R: Threads + Wait + Sync>(
     rt: &R,
     alloc: Global,
     text: &[u8],
+    program: &Program,
     choice: &Choice,
     search: Option<Options>,
 ) -> Result<Need, AllocError>
-    ensures { IfOk result (AreOthers text.now choice.now) }
+    ensures { IfOk result (AreOthers text.now program.now choice.now) }
 {
-    let mut known = true;
+    let mut known = has_some(&choice.others);
     for other in &choice.others {
-        let way = way_with(rt, alloc, text, choice.line, *other, search)?;
+        let way = way_with(rt, alloc, text, program, choice, *other, search)?;
         if is_hanging(way) {
             return Ok(Need::No);
         }
@@ -88,16 +98,19 @@ fn need_of<R: Threads + Wait + Sync>(
     rt: &R,
     alloc: Global,
     text: &[u8],
+    program: &Program,
     steps: &[Step],
     choice: &Choice,
     search: Option<Options>,
 ) -> Result<Need, AllocError>
+    requires program { IsTextOf text.now program.now }
+    requires choice { IsChoiceOf program.now choice.now }
     ensures { IfOk result (IsWeighed text.now choice.now) }
 {
     if !hangs_pinned(alloc, text, steps, choice)? {
         return Ok(Need::NotAsked);
     }
-    others_of(rt, alloc, text, choice, search)
+    others_of(rt, alloc, text, program, choice, search)
 }
 
 /// What is known of a choice; where no question is left, it is not asked.
@@ -105,11 +118,14 @@ fn weigh<R: Threads + Wait + Sync>(
     rt: &R,
     alloc: Global,
     text: &[u8],
+    program: &Program,
     steps: &[Step],
     choice: Choice,
     search: Option<Options>,
     left: &mut u32,
 ) -> Result<Weighed, AllocError>
+    requires program { IsTextOf text.now program.now }
+    requires choice { IsChoiceOf program.now choice }
     ensures { IfOk result (λ weighed. IsWeighed text.now weighed.choice weighed.need) }
 {
     if *left == 0 {
@@ -119,22 +135,41 @@ fn weigh<R: Threads + Wait + Sync>(
         });
     }
     *left = left.saturating_sub(choice.others.len().min(64) as u32);
-    let need = need_of(rt, alloc, text, steps, &choice, search)?;
+    let need = need_of(rt, alloc, text, program, steps, &choice, search)?;
     Ok(Weighed { choice, need })
 }
 
-/// The choices at these places, from 0.
+/// Adds a choice of the program, if it is to be kept.
+fn keep(
+    found: &mut Vec<Choice>,
+    program: &Program,
+    choice: Choice,
+    keeps: bool,
+) -> Result<(), AllocError>
+    requires { IsChoiceOf program.now choice }
+    ensures { OnOk result (AreChoicesOf program.now found.old.items → AreChoicesOf program.now found.new.items) }
+{
+    let _program = program;
+    if keeps {
+        found.push(choice)?;
+    }
+    Ok(())
+}
+
+/// The choices of the program at these places, from 0.
 fn at_places(
     alloc: Global,
+    program: &Program,
     choices: Vec<Choice>,
     places: &[usize],
-) -> Result<Vec<Choice>, AllocError> {
+) -> Result<Vec<Choice>, AllocError>
+    requires { AreChoicesOf program.now choices.items }
+    ensures { IfOk result (λ kept. AreChoicesOf program.now kept.items) }
+{
     let mut found = Vec::new(alloc);
     let mut place = 0usize;
     for choice in choices {
-        if places.contains(&place) {
-            found.push(choice)?;
-        }
+        keep(&mut found, program, choice, places.contains(&place))?;
         place = place.saturating_add(1);
     }
     Ok(found)
@@ -145,17 +180,20 @@ fn weigh_all<R: Threads + Wait + Sync>(
     rt: &R,
     alloc: Global,
     text: &[u8],
+    program: &Program,
     steps: &[Step],
     choices: Vec<Choice>,
     search: Option<Options>,
     ways: u32,
 ) -> Result<Vec<Weighed>, AllocError>
+    requires program { IsTextOf text.now program.now }
+    requires choices { AreChoicesOf program.now choices.items }
     ensures { IfOk result (λ all. AreWeighed text.now all.items) }
 {
     let mut left = ways;
     let mut all = Vec::new(alloc);
     for choice in choices {
-        let weighed = weigh(rt, alloc, text, steps, choice, search, &mut left)?;
+        let weighed = weigh(rt, alloc, text, program, steps, choice, search, &mut left)?;
         all.push(weighed)?;
     }
     Ok(all)
@@ -178,15 +216,16 @@ fn decided_run<R: Threads + Wait + Sync>(
     steps: &[Step],
     limits: Limits,
 ) -> Result<Decided, AllocError>
-    requires { IsStuckRun program.now steps.now }
+    requires stuck { IsStuckRun program.now steps.now }
+    requires program { IsTextOf text.now program.now }
     ensures { IfOk result (λ decided. AreWeighed text.now decided.choices.items) }
 {
     let choices = choices_of(alloc, text, program, steps)?;
     let mut left = limits.walks;
     let enough = choose(alloc, text, &choices, &mut left)?;
     let search = search_for(program, limits);
-    let kept = at_places(alloc, choices, &enough.kept)?;
-    let weighed = weigh_all(rt, alloc, text, steps, kept, search, limits.ways)?;
+    let kept = at_places(alloc, program, choices, &enough.kept)?;
+    let weighed = weigh_all(rt, alloc, text, program, steps, kept, search, limits.ways)?;
     Ok(Decided {
         extent: enough.extent,
         choices: weighed,
@@ -197,14 +236,15 @@ fn decided_run<R: Threads + Wait + Sync>(
 /// What decided the run that an evidence shows: choices that suffice for the program to hang, and which of them are needed.
 ///
 /// The choices of a run are the standard sends that it buffered, and those that it did not, where the policy leaves that open, and the messages that
-/// wildcards found where one of another rank fitted too. Each is pinned by other words in place of its line: a send in buffered or synchronous
-/// mode, that of a `sendrecv` in the four calls that the line stands for, or a source and a tag in the place of stars. Choices suffice where each
-/// walk that was taken of the program with all of them pinned ended stuck; they are found by dropping others, first many at once, then each in
-/// turn.
+/// wildcards found where one of another rank or tag of the whole program fits too. Each is pinned by other words in place of its line: a send in
+/// buffered or synchronous mode, that of a `sendrecv` in the four calls that the line stands for, or a source and a tag in the place of stars.
+/// Choices suffice where each walk that was taken of the program with all of them pinned ended stuck; they are found by dropping others, first many
+/// at once, then each in turn.
 ///
 /// Each choice that suffices with the others is then asked about alone. It is told only where its line, pinned as in the run, makes a
 /// program that has a run that ends stuck. It is known to be needed where no run ends stuck with the line of any other way, which a search has
-/// shown; tried, where no such run was found; and not needed, where one was. Programs of more than 256 calls are not searched, only walked.
+/// shown of each: then every run of the program that ends stuck makes the choice so ([`known_is_taken`](crate::known_is_taken)). It is tried where
+/// no such run was found, and not needed where one was. Programs of more than 256 calls are not searched, only walked.
 ///
 /// An evidence that shows no run that ends stuck is refused as `replay` refuses it; else the only refusal is want of memory.
 pub fn decide<R: Threads + Wait + Sync>(

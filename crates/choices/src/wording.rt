@@ -4,7 +4,7 @@ ghost use Rattle.std.specs.List.{slice_split};
 ghost use Rattle.std.specs.Prelude.{◌≡◌, ◌++◌, ◌==◌, IfOk, OnOk, codes, map};
 ghost use Rattle.choices.specs.Words.{blank_before, communicator_words, four_lines, front_letters, is_joined, is_same, letter_line, line_with, message_line, mode_line, part_words, source_place, spaced_word, told_word, told_words};
 
-use crate::items::Taken;
+use narrowing::Taken;
 use plaintext::{put_number, words_of};
 use std::alloc::{AllocError, Global};
 

@@ -1,0 +1,5 @@
+use Rattle.choices.specs.Weights.{AreChoicesOf}
+use Rattle.choices.proofs.weighing.at_places.Given as goal
+
+abbrev pub invariant-loop-choice : goal.invariant-loop-choice
+invariant-loop-choice l = AreChoicesOf l.program l.found.items

@@ -1,0 +1,5 @@
+pub mod Alike
+pub mod Messages
+pub mod Sends
+pub mod Never
+pub mod Tested

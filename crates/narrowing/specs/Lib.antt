@@ -1,0 +1,3 @@
+pub mod Ways
+pub mod Narrowed
+pub mod Laws

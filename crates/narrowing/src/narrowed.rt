@@ -1,0 +1,109 @@
+//! Whether a program is another one in which a call leaves less open.
+
+ghost use Rattle.std.specs.Prelude.{◌≡◌, IsTrue};
+ghost use Rattle.narrowing.specs.Narrowed.{named, named_pattern, narrowed_kind, IsNarrowedAt, IsNarrowed};
+
+use crate::taken::Taken;
+use callorder::{Kind, Pattern, Program};
+use calltext::Mode;
+
+/// A number in the place of a star.
+fn named(wanted: Option<u32>, number: u32) -> Option<u32>
+    ensures { result ≡ named wanted number }
+{
+    match wanted {
+        None => Some(number),
+        Some(wanted) => Some(wanted),
+    }
+}
+
+/// The pattern with this source and this tag in the place of stars.
+fn named_pattern(source: u32, tag: u32, pattern: Pattern) -> Pattern
+    ensures { result ≡ named_pattern source tag pattern }
+{
+    Pattern {
+        source: named(pattern.source, source),
+        tag: named(pattern.tag, tag),
+        communicator: pattern.communicator,
+    }
+}
+
+/// What a call of this kind does with no more left open.
+fn narrowed_kind(way: Taken, kind: Kind) -> Kind
+    ensures { result ≡ narrowed_kind way kind }
+{
+    match (way, kind) {
+        (
+            Taken::Buffered,
+            Kind::Send {
+                mode: Mode::Standard,
+                blocking,
+                message,
+            },
+        ) => Kind::Send {
+            mode: Mode::Buffered,
+            blocking,
+            message,
+        },
+        (
+            Taken::NotBuffered,
+            Kind::Send {
+                mode: Mode::Standard,
+                blocking,
+                message,
+            },
+        ) => Kind::Send {
+            mode: Mode::Synchronous,
+            blocking,
+            message,
+        },
+        (Taken::Message { source, tag }, Kind::Receive { blocking, pattern }) => Kind::Receive {
+            blocking,
+            pattern: named_pattern(source, tag, pattern),
+        },
+        (Taken::Message { source, tag }, Kind::MatchedProbe { pattern, receive }) => {
+            Kind::MatchedProbe {
+                pattern: named_pattern(source, tag, pattern),
+                receive,
+            }
+        }
+        (Taken::Message { source, tag }, Kind::Probe { pattern }) => Kind::Probe {
+            pattern: named_pattern(source, tag, pattern),
+        },
+        (_, kind) => kind,
+    }
+}
+
+/// Whether the second program has at this place the first one's call, with no more left open where it is the one that is meant.
+fn is_narrowed_at(program: &Program, call: usize, way: Taken, other: &Program, place: usize) -> bool
+    ensures { IsTrue result → IsNarrowedAt program.now call way other.now place }
+{
+    let (Some(old), Some(new)) = (program.call(place), other.call(place)) else {
+        return false;
+    };
+    let kind = if place == call {
+        narrowed_kind(way, old.kind)
+    } else {
+        old.kind
+    };
+    new.rank == old.rank && new.kind == kind
+}
+
+/// Whether the second program is the first one, but that this call of it leaves open no more than this way. Takes no memory.
+pub fn is_narrowed(program: &Program, call: usize, way: Taken, other: &Program) -> bool
+    ensures { IsTrue result → IsNarrowed program.now call way other.now }
+{
+    let count = program.calls().len();
+    if other.policy() != program.policy()
+        || other.ranks() != program.ranks()
+        || other.calls().len() != count
+    {
+        return false;
+    }
+    for place in 0..count {
+        if !is_narrowed_at(program, call, way, other, place) {
+            return false;
+        }
+    }
+    true
+}
