@@ -187,6 +187,11 @@ impl Worker<'_> {
         }
     }
 
+    /// Whether this worker can go on over sets of matched calls though it is the turn of cubes, of which it has none.
+    pub(crate) fn can_explore(&self) -> bool {
+        self.exploration.is_some() && self.refuted.is_none()
+    }
+
     /// Searches over sets of matched calls, and counts what that took, which it answers, too.
     fn search_states(&mut self, kept: &KeptLines) -> Result<Option<(Found, u64)>, Stop> {
         let (left, logged) = (self.left.min(kept.count()), self.seen());

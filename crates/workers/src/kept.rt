@@ -5,17 +5,24 @@ use std::sync::atomic::{AtomicU64, Ordering};
 /// How many lines they write at most: the log has room for more, but not for twice as many, as one send more to a wildcard would take.
 const MOST_IN_ALL: u64 = 600_000;
 
-/// How many lines of the log are kept for searches over sets of matched calls. Where the log has room for no more than these, workers no longer search
-/// below cubes until they are used up.
+/// How many lines of the log are kept for searches over sets of matched calls, 600,000 unless another number is given. Where the log has room for no more
+/// than these, workers no longer search below cubes until they are used up; from then on they search below cubes alone.
 #[derive(Drop)]
 pub struct KeptLines {
+    most: u64,
     used: AtomicU64,
 }
 
 impl KeptLines {
-    /// None are used.
+    /// The usual number of lines, of which none is used.
     pub fn new() -> KeptLines {
+        KeptLines::of(MOST_IN_ALL)
+    }
+
+    /// So many lines, of which none is used.
+    pub fn of(most: u64) -> KeptLines {
         KeptLines {
+            most,
             used: AtomicU64::new(0),
         }
     }
@@ -27,7 +34,7 @@ impl KeptLines {
 
     /// How many are left.
     pub(crate) fn count(&self) -> u64 {
-        MOST_IN_ALL.saturating_sub(self.used.load(Ordering::SeqCst))
+        self.most.saturating_sub(self.used.load(Ordering::SeqCst))
     }
 }
 

@@ -488,8 +488,27 @@ impl<'e> Worker<'e> {
         Ok(false)
     }
 
-    /// Searches below one cube after another, until the search is over. Without a cube it pauses, and ends too where another worker left for a
-    /// reason.
+    /// Goes on over sets of matched calls where it can, as it has no cube now; else it pauses.
+    fn do_without<S: Share, G: Gate, R: Wait>(
+        &mut self,
+        rt: &R,
+        common: &Common<S, G>,
+        seat: &mut S::Seat,
+        worker: u32,
+        seen: u32,
+        pause: &Backoff,
+    ) -> Result<(), Stop> {
+        if !self.can_explore() {
+            rest(rt, common.events, seen, pause);
+            return Ok(());
+        }
+        self.explore(rt, common, seat, worker)?;
+        common.events.advance();
+        Ok(())
+    }
+
+    /// Searches below one cube after another, until the search is over. Without a cube it goes on over sets of matched calls, or pauses, and ends too where
+    /// another worker left for a reason.
     fn run<S: Share, C: Cubes, G: Gate, R: Wait>(
         &mut self,
         rt: &R,
@@ -517,7 +536,7 @@ impl<'e> Worker<'e> {
                 if status.why.is_some() {
                     return Ok(());
                 }
-                rest(rt, common.events, seen, &pause);
+                self.do_without(rt, common, seat, worker, seen, &pause)?;
                 continue;
             };
             pause = Backoff::new();
@@ -594,9 +613,10 @@ fn reason<S: Share, C: Cubes, G: Gate, R: Wait>(
 /// closed by it. Of the lines of others a worker takes in the shortest, up to 1,000 after each search, and all with at most two literals; these alone
 /// as long as it searches below no cube.
 ///
-/// The worker leaves with no reason once a schedule was found or no leaf is open, or, without a cube, once another worker left for a
-/// reason; else it pauses without a cube, and rests until the events are advanced. It advances them after each search and when it leaves. It
-/// leaves with [`Why::Budget`] once the budget is used up and the cube is open, with [`Why::Full`] where the log is full, with
+/// The worker leaves with no reason once a schedule was found or no leaf is open, or, where it wants a cube and there is none, once another worker left
+/// for a reason; as long as it is its turn to search over sets of matched calls, it goes on though others left. Where it wants a cube and there is none,
+/// it goes on over these sets, if it searches over them, until there is one; else it pauses, and rests until the events are advanced. It advances them after
+/// each search and when it leaves. It leaves with [`Why::Budget`] once the budget is used up and the cube is open, with [`Why::Full`] where the log is full, with
 /// [`Why::Memory`] where memory ran out or a cube had no room, and with [`Why::Left`] where something was refused that an
 /// honest share takes. Worker 0 leaves at once with the reason for which the opening ended, where there is one. The answer is that of its last
 /// call, by which it leaves. It goes on as long as the share and the cubes let it.
