@@ -26,5 +26,5 @@ returns-clause-caught_up c =
     let ends = c.in_ok-last.ensures ∙ c.deref-2.ensures.value in
     ap (λ (l : List (List ProofLine)). joined l ++ c.in_ok-last.last.items) all
     ∙ ap (λ (l : List ProofLine). joined (mine.pages.items ++ drop (length mine.pages.items) theirs.pages.items) ++ l) ends
-    ∙ goes_on 64 mine.pages.items theirs.pages.items mine.last.items theirs.last.items more c.self.invariant.full c.other.invariant.full within e
+    ∙ goes_on 256 mine.pages.items theirs.pages.items mine.last.items theirs.last.items more c.self.invariant.full c.other.invariant.full within e
     ∙ c.other.view_is
