@@ -162,20 +162,6 @@ impl Log {
         Ok(lines)
     }
 
-    /// Has this log, with which another one begins, go on as that one does. Full pages are shared, so this takes time in proportion to those that are
-    /// new; at most 255 lines are copied. Where memory runs out, it stays as it was.
-    pub fn catch_up(&mut self, alloc: Global, other: &Log) -> Result<(), AllocError>
-        requires { other.now ≡ self.old ++ drop (length self.old) other.now }
-        ensures caught_up { OnOk result (self.new ≡ other.now) }
-        ensures unchanged { OnErr result (self.new ≡ self.old) }
-    {
-        let mut pages = shared(alloc, &other.pages, self.pages.len())?;
-        let last = copied(alloc, &other.last, 0)?;
-        self.pages.append(&mut pages)?;
-        self.last = last;
-        Ok(())
-    }
-
     /// Keeps its first pages, and has all lines of another log follow, whose full pages are shared. Of the
     /// lines after them those that this log lacks are copied. Where memory runs out, it stays as it was.
     fn share(&mut self, alloc: Global, kept: usize, other: &Log) -> Result<(), AllocError>
