@@ -1,13 +1,14 @@
 -- Full pages one after another: how many lines they have, where a line stands, and what is left after the first ones.
-use Rattle.std.proofs.Common.{◌≡◌, ℕ, zero, suc, ◌+◌, ◌-◌, ◌*◌, ◌<◌, ◌≤◌, ◌^◌, List, [], ◌∷◌, ◌++◌, Option, Some, None, Bor, length, drop, refl, sym, ap, ◌∙◌, append_assoc, arith, length-append}
+use Rattle.std.proofs.Common.{◌≡◌, ℕ, zero, suc, ◌+◌, ◌-◌, ◌*◌, ◌<◌, ◌≤◌, ◌^◌, List, [], ◌∷◌, ◌++◌, Option, Some, None, Bor, length, drop, take, refl, sym, ap, ◌∙◌, append_assoc, arith, length-append}
 use Rattle.std.specs.Option.{option_map}
 use Rattle.std.specs.Slice.{IsItemAt}
 use Rattle.std.proofs.lemmas.Option.{slice_get_past, slice_get_read}
 use Rattle.std.proofs.Math.Seq.{drop-append-add}
 use Rattle.std.proofs.lemmas.Grind.{flat_map-append}
-use Rattle.std.proofs.lemmas.List.{drop-drop}
+use Rattle.std.proofs.lemmas.List.{drop-drop, length-take}
 use Rattle.std.specs.List.{slice_get}
 use Rattle.pages.specs.Pages.{joined, AreFull, IsPaged}
+use Rattle.pages.proofs.Fronts.{take-append-add}
 
 pub length-joined : {X : Type 0} (size : ℕ) (pages : List (List X)) → AreFull size pages → length (joined pages) ≡ length pages * size
 length-joined size [] full = grind arith
@@ -101,28 +102,48 @@ drop-after_pages {X} size place pages last full le =
     let e : length (joined pages) + (place - length pages * size) ≡ place = omega (arith, length-joined size pages full) in
     sym (drop-append-add (joined pages) last (place - length pages * size)) ∙ ap (λ n. drop n (joined pages ++ last)) e
 
--- a list of pages with which another one begins is no longer
-pub pages_within : {X : Type 0} (pages others : List (List X)) (last other_last more : List X) → AreFull 64 pages → AreFull 64 others → length other_last < 64 → joined others ++ other_last ≡ (joined pages ++ last) ++ more → length pages ≤ length others
-pages_within pages others last other_last more full other_full few e =
-    let a = length-paged 64 others other_last other_full in
-    let b = length-paged 64 pages last full in
-    let c = length-append (joined pages ++ last) more in
-    let d = ap length e in
-    omega (arith, a, b, c, d, few)
+-- the first pages
+AreFull-take : {X : Type 0} (size i : ℕ) (pages : List (List X)) → AreFull size pages → AreFull size (take i pages)
+AreFull-take size zero pages full = tt
+AreFull-take size (suc i) [] full = tt
+AreFull-take size (suc i) (page ∷ pages) full = (full.0, AreFull-take size i pages full.1)
 
--- its pages with those of the other one behind them, and the other one's last lines, are the other one
-pub goes_on : {X : Type 0} (size : ℕ) (pages others : List (List X)) (last other_last more : List X) → AreFull size pages → AreFull size others → length pages ≤ length others → joined others ++ other_last ≡ (joined pages ++ last) ++ more
-    → joined (pages ++ drop (length pages) others) ++ other_last ≡ joined others ++ other_last
-goes_on {X} size pages others last other_last more full other_full within e =
-    let long : length (joined pages) + 0 ≡ length pages * size = omega (arith, length-joined size pages full) in
-    let behind : last ++ more ≡ joined (drop (length pages) others) ++ other_last =
-    sym (drop-append-add (joined pages) (last ++ more) 0)
-    ∙ ap (λ (l : List X). drop (length (joined pages) + 0) l) (sym (append_assoc (joined pages) last more) ∙ sym e)
-    ∙ ap (λ n. drop n (joined others ++ other_last)) long
-    ∙ drop-pages size (length pages) others other_last other_full within
-    in
-    ap (λ (l : List X). l ++ other_last) (flat_map-append (λ (page : List X). page) pages (drop (length pages) others))
-    ∙ append_assoc (joined pages) (joined (drop (length pages) others)) other_last
-    ∙ ap (λ (l : List X). joined pages ++ l) (sym behind)
-    ∙ sym (append_assoc (joined pages) last more)
-    ∙ sym e
+take-pages : {X : Type 0} (size i : ℕ) (pages : List (List X)) (last : List X) → AreFull size pages → i ≤ length pages → take (i * size) (joined pages ++ last) ≡ joined (take i pages)
+take-pages size zero pages last full le =
+    let e : 0 * size ≡ 0 = grind arith in
+    ap (λ n. take n (joined pages ++ last)) e
+take-pages size (suc i) [] last full le = absurd (omega arith)
+take-pages {X} size (suc i) (page ∷ pages) last full le =
+    let f = full.0 in
+    let e : suc i * size ≡ length page + i * size = grind arith in
+    ap (λ n. take n ((page ++ joined pages) ++ last)) e
+    ∙ ap (λ (l : List X). take (length page + i * size) l) (append_assoc page (joined pages) last)
+    ∙ take-append-add page (joined pages ++ last) (i * size)
+    ∙ ap (λ (l : List X). page ++ l) (take-pages size i pages last full.1 (omega arith))
+
+-- pages that are kept, of as many lines as there are at least
+kept_within : {X : Type 0} (kept : ℕ) (pages : List (List X)) (last : List X) → IsPaged 256 pages last → kept * 256 ≤ length (joined pages ++ last) → kept ≤ length pages
+kept_within kept pages last paged least = omega (arith, length-paged 256 pages last paged.full, paged.is_open, least)
+
+-- the first pages and then others with their last lines
+pub paged_behind : {X : Type 0} (kept : ℕ) (pages : List (List X)) (last : List X) (others : List (List X)) (rest : List X)
+    → IsPaged 256 pages last → IsPaged 256 others rest → kept * 256 ≤ length (joined pages ++ last) → kept * 256 + length (joined others ++ rest) < 2 ^ 63
+    → IsPaged 256 (take kept pages ++ others) rest
+paged_behind {X} kept pages last others rest paged other least few = record {
+  full = AreFull-append 256 (take kept pages) others (AreFull-take 256 kept pages paged.full) other.full;
+  is_open = other.is_open;
+  few = (
+      let within = kept_within kept pages last paged least in
+      let front : length (take kept pages) ≡ kept = omega (arith, length-take kept pages, within) in
+      let all = length-append (take kept pages) others in
+      omega (arith, length-paged 256 others rest other.full, front, all, few)
+      );
+}
+
+pub lines_behind : {X : Type 0} (kept : ℕ) (pages : List (List X)) (last : List X) (others : List (List X)) (rest : List X)
+    → IsPaged 256 pages last → kept * 256 ≤ length (joined pages ++ last)
+    → joined (take kept pages ++ others) ++ rest ≡ take (kept * 256) (joined pages ++ last) ++ (joined others ++ rest)
+lines_behind {X} kept pages last others rest paged least =
+    ap (λ (l : List X). l ++ rest) (flat_map-append (λ (page : List X). page) (take kept pages) others)
+    ∙ append_assoc (joined (take kept pages)) (joined others) rest
+    ∙ ap (λ (l : List X). l ++ (joined others ++ rest)) (sym (take-pages 256 kept pages last paged.full (kept_within kept pages last paged least)))

@@ -1,1 +1,3 @@
+pub mod Equal
+pub mod Fronts
 pub mod Joined

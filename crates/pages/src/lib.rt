@@ -4,6 +4,7 @@
 //! proportion to the pages. Places are counted from 0.
 #![tactic(auto)]
 
+mod copies;
 mod extended;
 mod lines;
 mod log;

@@ -38,6 +38,15 @@ impl Lines {
         Lines { log, from }
     }
 
+    /// The log of which these are the lines after the first ones, which stand in one page, and how many
+    /// those are.
+    pub(crate) fn parts(&self) -> (&Log, usize)
+        ensures same { self.now ≡ drop result.1 result.0.now }
+        ensures few { result.1 < 256 }
+    {
+        (&self.log, self.from)
+    }
+
     /// The list of these lines, of which none is copied.
     pub fn from_vec(alloc: Global, lines: Vec<Line>) -> Result<Lines, AllocError>
         ensures { IfOk result (λ made. made ≡ lines.items) }

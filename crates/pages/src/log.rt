@@ -1,9 +1,10 @@
 //! Logs of proof lines.
 
-ghost use Rattle.std.specs.Prelude.{◌≡◌, ◌+◌, ◌++◌, ◌∷◌, [], ◌≤◌, ◌<◌, ◌^◌, drop, length, IfOk, OnOk, OnErr, slice_get, vec_capacity, vec_len};
+ghost use Rattle.std.specs.Prelude.{◌≡◌, ◌+◌, ◌++◌, ◌∷◌, [], ◌*◌, ◌≤◌, ◌<◌, ◌^◌, drop, take, length, IfOk, OnOk, OnErr, slice_get, vec_capacity, vec_len};
 ghost use Rattle.std.specs.Option.{option_map};
 ghost use Rattle.pages.specs.Pages.{joined};
 
+use crate::copies::{are_first, copies, go_on};
 use crate::lines::Lines;
 use crate::page::{LINES_PER_PAGE, Page, copied, page_of, shared};
 use refutations::{Line, LineList};
@@ -15,8 +16,8 @@ use std::mem;
 /// lengths known to fit.
 const LARGEST_LENGTH: usize = usize::MAX / 2;
 
-/// A list of proof lines to which lines are appended. It keeps full pages of 64 lines, which it
-/// shares with the lists that it hands out, and the fewer than 64 lines after them.
+/// A list of proof lines to which lines are appended. It keeps full pages of 256 lines, which it
+/// shares with the lists that it hands out, and the fewer than 256 lines after them.
 ///
 /// It has fewer than 2^63 lines; more are refused as want of memory, which comes long before.
 #[derive(Debug, Drop)]
@@ -66,6 +67,15 @@ fn push_pages(pages: &mut Vec<Page>, page: Page, later: &mut Vec<Page>)
     ensures { pages.new.items ≡ pages.old.items ++ page ∷ later.old.items }
 {
     pages.push(page).unwrap();
+    pages.append(later).unwrap();
+}
+
+/// The first of these pages and then others, for which there is room behind all.
+fn put_behind(pages: &mut Vec<Page>, kept: usize, later: &mut Vec<Page>)
+    requires { vec_len pages.old + vec_len later.old ≤ vec_capacity pages.old }
+    ensures { pages.new.items ≡ take kept pages.old.items ++ later.old.items }
+{
+    pages.truncate(kept);
     pages.append(later).unwrap();
 }
 
@@ -152,22 +162,63 @@ impl Log {
         Ok(lines)
     }
 
-    /// Has this log, with which another one begins, go on as that one does. Full pages are shared, so this takes time in proportion to those that are
-    /// new; at most 63 lines are copied. Where memory runs out, it stays as it was.
-    pub fn catch_up(&mut self, alloc: Global, other: &Log) -> Result<(), AllocError>
-        requires { other.now ≡ self.old ++ drop (length self.old) other.now }
-        ensures caught_up { OnOk result (self.new ≡ other.now) }
+    /// Keeps its first pages, and has all lines of another log follow, whose full pages are shared. Of the
+    /// lines after them those that this log lacks are copied. Where memory runs out, it stays as it was.
+    fn share(&mut self, alloc: Global, kept: usize, other: &Log) -> Result<(), AllocError>
+        requires within { kept * 256 ≤ length self.old }
+        requires few { kept * 256 + length other.now < 2 ^ 63 }
+        ensures shared { OnOk result (self.new ≡ take (kept * 256) self.old ++ other.now) }
         ensures unchanged { OnErr result (self.new ≡ self.old) }
     {
-        let mut pages = shared(alloc, &other.pages, self.pages.len())?;
-        let last = copied(alloc, &other.last, 0)?;
-        self.pages.append(&mut pages)?;
-        self.last = last;
+        let mut later = shared(alloc, &other.pages, 0)?;
+        self.pages.reserve(later.len())?;
+        go_on(alloc, &mut self.last, &other.last)?;
+        put_behind(&mut self.pages, kept, &mut later);
         Ok(())
     }
 
+    /// Keeps its first `from` lines, and has copies of these follow. Where memory runs out, it stays as it
+    /// was.
+    fn copy_behind(&mut self, alloc: Global, from: usize, lines: &Lines) -> Result<(), AllocError>
+        requires within { from ≤ length self.old }
+        requires few { from + length lines.now < 2 ^ 63 }
+        ensures copied { OnOk result (self.new ≡ take from self.old ++ lines.now) }
+        ensures unchanged { OnErr result (self.new ≡ self.old) }
+    {
+        let kept = from / LINES_PER_PAGE;
+        let mut tail = copies(alloc, self, kept * LINES_PER_PAGE, from)?;
+        tail.append(&mut copies(alloc, lines, 0, lines.len())?)?;
+        let later = paged(alloc, tail)?;
+        self.share(alloc, kept, &later)
+    }
+
+    /// Keeps its first `from` lines, and has these follow them. What [`after`](Log::after) handed out, from
+    /// this place on, of a log that begins with the same lines, costs as little as there: its full pages are
+    /// shared, also in place of lines that this log has, and of the lines after them only those are copied
+    /// that this log lacks. Any other list is copied line by line, as far as the log doesn't have it.
+    /// Where memory runs out, the log stays as it was; 2^63 lines are refused as want of memory.
+    pub fn follow(&mut self, alloc: Global, from: usize, lines: &Lines) -> Result<(), AllocError>
+        requires { from ≤ length self.old }
+        ensures followed { OnOk result (self.new ≡ take from self.old ++ lines.now) }
+        ensures unchanged { OnErr result (self.new ≡ self.old) }
+    {
+        let held = self.len() - from;
+        if lines.len() > LARGEST_LENGTH - from {
+            return Err(AllocError);
+        }
+        let (log, hidden) = lines.parts();
+        let place = from % LINES_PER_PAGE;
+        if hidden == place && are_first(self, from - place, place, log) {
+            return self.share(alloc, from / LINES_PER_PAGE, log);
+        }
+        if are_first(self, from, held, lines) {
+            return self.append(alloc, copies(alloc, lines, held, lines.len())?);
+        }
+        self.copy_behind(alloc, from, lines)
+    }
+
     /// The lines after the first `from` ones, as they are now. Full pages are shared, so this takes
-    /// time in proportion to the pages; at most 63 lines are copied.
+    /// time in proportion to the pages; at most 255 lines are copied.
     pub fn after(&self, alloc: Global, from: usize) -> Result<Lines, AllocError>
         requires { from ≤ length self.now }
         ensures { IfOk result (λ lines. lines ≡ drop from self.now) }

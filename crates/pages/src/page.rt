@@ -10,7 +10,7 @@ use std::mem;
 use std::sync::Arc;
 
 /// How many lines a full page has.
-pub(crate) const LINES_PER_PAGE: usize = 64;
+pub(crate) const LINES_PER_PAGE: usize = 256;
 
 /// Lines that several owners may share.
 #[derive(Debug, Drop)]

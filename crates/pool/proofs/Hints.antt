@@ -14,7 +14,7 @@ use Rattle.refutations.specs.Proofs.{ProofLine, is_number, are_numbers}
 use Rattle.pool.specs.Batches.{capped_hint}
 use Rattle.pool.specs.Replies.{resolved, resolved_hint}
 
-number_parts : (n : ℕ) → is_number n ≡ true → (1 ≤ n) × (n ≤ 2147483647)
+pub number_parts : (n : ℕ) → is_number n ≡ true → (1 ≤ n) × (n ≤ 2147483647)
 number_parts n e = let both = and_parts (leb 1 n) (leb n 2147483647) e in (leb-true 1 n both.0, leb-true n 2147483647 both.1)
 
 number_from : (n : ℕ) → 1 ≤ n → n ≤ 2147483647 → is_number n ≡ true

@@ -9,6 +9,7 @@ pub mod Legal
 pub mod Limits
 pub mod Moves
 pub mod OpenLeaves
+pub mod Renumbered
 pub mod Sizes
 pub mod SmallestReasons
 pub mod Soundness

@@ -1,5 +1,5 @@
 -- How a batch is read: numbers that are too large for a hint stand for one another.
-use Rattle.std.specs.Prelude.{ℕ, ◌+◌, ◌<◌, ◌≤◌, List, length, min, Result, Ok, Err}
+use Rattle.std.specs.Prelude.{ℕ, ◌+◌, ◌-◌, ◌<◌, ◌≤◌, if◌then◌else◌, nat_lt, List, length, min, Result, Ok, Err}
 use Rattle.batches.specs.declared.Hint.{Hint}
 use Rattle.batches.specs.declared.Hint.TheVariants.{Known, Own}
 use Rattle.clauses.specs.Clauses.{Conjunction}
@@ -12,6 +12,10 @@ use Rattle.pool.specs.Replies.{DeriveAfter, FailsAt, most_lines}
 abbrev pub capped_hint : ℕ → Hint → ℕ
 capped_hint base (Known number) = number
 capped_hint base (Own place) = min (base + place) 4294967295
+
+-- a number that is moved with all from one number on, where numbers have four bytes
+abbrev pub capped_move : ℕ → ℕ → ℕ → ℕ
+capped_move old base number = if nat_lt number old then number else min ((number - old) + base) 4294967295
 
 -- why the lines aren't all derived
 abbrev pub IsStopped : Conjunction → List ProofLine → List ProofLine → PublishFault → Type 0

@@ -1,5 +1,5 @@
 -- What becomes of a batch that was derived from a log, where the log has more lines by then.
-use Rattle.std.specs.Prelude.{◌≡◌, ℕ, ◌+◌, ◌++◌, Bool, true, nat_lt, List, length, IsTrue, Some, slice_get}
+use Rattle.std.specs.Prelude.{◌≡◌, ℕ, ◌+◌, ◌-◌, ◌++◌, Bool, true, if◌then◌else◌, nat_lt, List, length, map, IsTrue, Some, slice_get}
 use Rattle.std.specs.List.{list_all}
 use Rattle.batches.specs.declared.BatchLine.{BatchLine}
 use Rattle.batches.specs.declared.Hint.{Hint}
@@ -22,6 +22,22 @@ are_earlier base batch = list_all (λ (line : BatchLine). list_all (is_earlier b
 -- the number of the line after these
 abbrev pub number_after : Conjunction → List ProofLine → ℕ
 number_after f log = length f.clauses + length log + 1
+
+-- lines, and the number of the first
+pub record NumberedLines : Type 0 where
+  pub base : ℕ
+  pub lines : List ProofLine
+
+-- they are those of a batch, which names nothing from their first on but its own lines
+abbrev pub AreOfBatch : List BatchLine → NumberedLines → Type 0
+AreOfBatch batch n = (n.lines ≡ resolved_lines n.base batch) × IsTrue (are_earlier n.base batch)
+
+-- a number, where all from one number on are moved so that they begin at another one
+abbrev pub moved_hint : ℕ → ℕ → ℕ → ℕ
+moved_hint old base number = if nat_lt number old then number else (number - old) + base
+
+abbrev pub moved_line : ℕ → ℕ → ProofLine → ProofLine
+moved_line old base line = record { literals = line.literals; hints = map (moved_hint old base) line.hints }
 
 -- lines that derive behind a log derive behind any longer one, with their own numbers moved, unless they name numbers past the log
 abbrev pub BatchesMove : Type 0

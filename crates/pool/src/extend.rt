@@ -1,11 +1,13 @@
 //! The check of a batch.
 
-ghost use Rattle.std.specs.Prelude.{◌≡◌, ◌+◌, ◌++◌, ◌≤◌, IfErr, IfNone, IfOk, IfSome, OnErr, OnOk, IsTrue, length, map, false};
+ghost use Rattle.std.specs.Prelude.{◌≡◌, ◌+◌, ◌++◌, ◌≤◌, IfErr, IfNone, IfOk, IfSome, OnErr, OnOk, length, map, false};
 ghost use Rattle.refutations.specs.Derivations.{Derives};
 ghost use Rattle.refutations.specs.Proofs.{are_numbers};
 ghost use Rattle.pool.specs.Replies.{resolved, resolved_hint, resolved_lines, DeriveAfter};
 ghost use Rattle.pool.specs.Batches.{capped_hint, IsStopped, IsExtended};
+ghost use Rattle.pool.specs.Moves.{AreOfBatch};
 
+use crate::derived::DerivedLines;
 use crate::entry::PublishFault;
 use batches::{BatchLine, Hint};
 use clauses::Formula;
@@ -109,50 +111,34 @@ pub(crate) fn checked_lines(
     Ok(lines)
 }
 
-/// The lines of a batch whose first line has this number.
-fn all_resolved(alloc: Global, base: u32, batch: &[BatchLine]) -> Result<Vec<Line>, AllocError>
-    ensures { IfOk result (λ lines. lines.items ≡ resolved_lines base batch.now) }
-{
-    let mut lines = Vec::with_capacity(alloc, batch.len())?;
-    for line in batch {
-        let made = resolved_line(alloc, base, line)?;
-        let Some(line) = made else {
-            return Err(AllocError);
-        };
-        lines.push(line)?;
-    }
-    Ok(lines)
-}
-
-/// The same where they derive, each from the formula, the log and the lines before it. Those that are known to do aren't checked again.
-fn derived_lines(
+/// The lines of a batch whose first line has this number, each of which derives from the formula, the log and the lines before it. Those that are known to
+/// derive aren't checked again, nor made.
+fn lines_behind(
     alloc: Global,
     known: &mut PartialAssignment,
     formula: &Formula,
     log: &Log,
     base: u32,
     batch: &[BatchLine],
-    is_known: bool,
+    derived: Option<DerivedLines>,
 ) -> Result<Vec<Line>, PublishFault>
     requires size { length known.old ≡ formula.now.variables + 1 }
     requires few { length formula.now.clauses + length log.now + length batch.now ≤ 2147483647 }
-    requires known { IsTrue is_known → DeriveAfter formula.now log.now (resolved_lines base batch.now) }
+    requires derived { IfSome derived (λ _. DeriveAfter formula.now log.now (resolved_lines base batch.now)) }
+    requires lines { IfSome derived (λ d. AreOfBatch batch.now d) }
     ensures lines { IfOk result (λ lines. lines.items ≡ resolved_lines base batch.now) }
     ensures derive { IfOk result (λ _. DeriveAfter formula.now log.now (resolved_lines base batch.now)) }
     ensures stopped { IfErr result (IsStopped formula.now log.now (resolved_lines base batch.now)) }
     ensures size { length known.new ≡ length known.old }
 {
-    if !is_known {
-        return checked_lines(alloc, known, formula, log, base, batch);
-    }
-    match all_resolved(alloc, base, batch) {
-        Ok(lines) => Ok(lines),
-        Err(AllocError) => Err(PublishFault::Memory),
+    match derived {
+        Some(derived) => Ok(derived.numbered(alloc, base)),
+        None => checked_lines(alloc, known, formula, log, base, batch),
     }
 }
 
-/// Appends the lines of a batch whose first line has this number, all or none. Lines that are known to derive aren't checked. A batch of more than
-/// [`LONGEST_BATCH`] lines is refused as want of memory, which comes long before.
+/// Appends the lines of a batch whose first line has this number, all or none. Where lines are given that are known to derive, these are appended,
+/// with their numbers moved. A batch of more than [`LONGEST_BATCH`] lines is refused as want of memory, which comes long before.
 pub(crate) fn extend(
     alloc: Global,
     known: &mut PartialAssignment,
@@ -160,12 +146,13 @@ pub(crate) fn extend(
     log: &mut Log,
     base: u32,
     batch: &[BatchLine],
-    is_known: bool,
+    derived: Option<DerivedLines>,
 ) -> Result<(), PublishFault>
     requires size { length known.old ≡ formula.now.variables + 1 }
     requires few_clauses { length formula.now.clauses ≤ 4000000 }
     requires few_lines { length log.old ≤ MOST_LINES }
-    requires known { IsTrue is_known → DeriveAfter formula.now log.old (resolved_lines base batch.now) }
+    requires derived { IfSome derived (λ _. DeriveAfter formula.now log.old (resolved_lines base batch.now)) }
+    requires lines { IfSome derived (λ d. AreOfBatch batch.now d) }
     ensures reply { IsExtended formula.now log.old (resolved_lines base batch.now) result }
     ensures ok { OnOk result (log.new ≡ log.old ++ resolved_lines base batch.now) }
     ensures err { OnErr result (log.new ≡ log.old) }
@@ -174,7 +161,7 @@ pub(crate) fn extend(
     if batch.len() > LONGEST_BATCH {
         return Err(PublishFault::Memory);
     }
-    let lines = match derived_lines(alloc, known, formula, log, base, batch, is_known) {
+    let lines = match lines_behind(alloc, known, formula, log, base, batch, derived) {
         Ok(lines) => lines,
         Err(PublishFault::NotDerived(place)) => return Err(PublishFault::NotDerived(place)),
         Err(_) => return Err(PublishFault::Memory),

@@ -1,6 +1,6 @@
 //! The pool, and its calls.
 
-ghost use Rattle.std.specs.Prelude.{◌≡◌, ◌↔◌, ◌≤◌, ◌<◌, ◌+◌, ◌-◌, ◌++◌, ◌∷◌, [], None, Some, ℕ, length, map, replicate, IfOk, IfErr, OnOk, OnErr, IsTrue, IsSome, IsOk, Err};
+ghost use Rattle.std.specs.Prelude.{◌≡◌, ◌↔◌, ◌≤◌, ◌<◌, ◌+◌, ◌-◌, ◌++◌, ◌∷◌, [], None, Some, ℕ, length, map, replicate, IfOk, IfErr, IfSome, OnOk, OnErr, IsTrue, IsSome, IsOk, Err};
 ghost use Rattle.std.specs.Option.{option_map};
 ghost use Rattle.std.specs.Arc.{arc_value};
 ghost use Rattle.trees.specs.Trees.{HasNoRoom, IsLeaf, path_at, split_at};
@@ -9,11 +9,13 @@ ghost use Rattle.pool.specs.Counts.{open_count};
 ghost use Rattle.pool.specs.Reasons.{IsSmallest};
 ghost use Rattle.pool.specs.States.{opening, noted, with_places, next_number, first_of, leave_item, IsOpen, IsClosedBy, IsVariable, IsPublished, published, IsFetched, fetched, IsClosed, closed, IsSplit, after_split, IsFound, after_found, IsTreeOf, IsAssembled, IsUndecided, IsSound};
 ghost use Rattle.pool.specs.Refusals.{IsSplitFault};
+ghost use Rattle.pool.specs.Moves.{AreOfBatch};
 ghost use Rattle.pool.specs.Replies.{resolved_lines, DeriveAfter};
 ghost use Rattle.refutations.specs.Refutations.{Accepts};
 ghost use Rattle.semantics.specs.Machine.{IsStuckRun};
 
 use crate::assembly::{AssembleFault, lines_of, refutation_by, refutation_of, schedule_of_run};
+use crate::derived::DerivedLines;
 use crate::entry::{
     CloseFault, Deed, Entry, FetchFault, FoundFault, PathFault, PublishFault, SplitFault,
 };
@@ -379,18 +381,20 @@ impl Pool {
         ensures reply { IsPublished self.old.held batch.now.lines.items result }
         ensures pool { self.new ≡ published self.old worker batch.now.lines.items result }
     {
-        self.publish_as(alloc, worker, batch, false)
+        self.publish_as(alloc, worker, batch, None)
     }
 
-    /// The same of a batch whose lines aren't checked where they are known to derive behind the log as it is now.
+    /// The same of a batch whose lines are known to derive behind the log as it is now: where they are given, they are neither
+    /// checked nor made again. They may be numbered for another place of the log, such as a shorter log's end.
     pub fn publish_as(
         &mut self,
         alloc: Global,
         worker: u32,
         batch: &Batch,
-        is_known: bool,
+        derived: Option<DerivedLines>,
     ) -> Result<u32, PublishFault>
-        requires { IsTrue is_known → DeriveAfter self.old.held.formula self.old.held.log (resolved_lines (next_number self.old.held) batch.now.lines.items) }
+        requires derived { IfSome derived (λ _. DeriveAfter self.old.held.formula self.old.held.log (resolved_lines (next_number self.old.held) batch.now.lines.items)) }
+        requires lines { IfSome derived (λ d. AreOfBatch batch.now.lines.items d) }
         ensures reply { IsPublished self.old.held batch.now.lines.items result }
         ensures pool { self.new ≡ published self.old worker batch.now.lines.items result }
     {
@@ -408,7 +412,7 @@ impl Pool {
             &mut self.log,
             base,
             lines,
-            is_known,
+            derived,
         ) {
             Ok(()) => {
                 self.ledger.note(worker, Deed::Publish(count, Ok(base)));

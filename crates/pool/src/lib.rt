@@ -8,6 +8,7 @@
 #![tactic(auto)]
 
 mod assembly;
+mod derived;
 mod entry;
 mod events;
 mod extend;
@@ -19,13 +20,14 @@ mod share;
 mod why;
 
 pub use assembly::{AssembleFault, schedule_of_run};
+pub use derived::DerivedLines;
 pub use entry::{
     CloseFault, Deed, Entry, FetchFault, FoundFault, Item, PathFault, PublishFault, SplitFault,
 };
 pub use events::{Event, Reply, run};
 pub use extend::MOST_LINES;
 pub use keep::{Pool, Status};
-pub use known::are_derived;
+pub use known::derived_lines;
 pub use laws::{
     bases_rise, batches_move, closed_pools_refute, leaves_cover, logs_grow, runs_are_legal,
     runs_lose_nothing, runs_stay_sound, told_stands,

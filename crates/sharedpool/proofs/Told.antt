@@ -1,6 +1,7 @@
 -- What a seat was told stands in the log, and is told by whatever its list becomes.
-use Rattle.std.proofs.Common.{◌≡◌, ℕ, zero, suc, ◌+◌, ◌<◌, ◌≤◌, ◌==◌, Bool, true, false, true≢false, if◌then◌else◌, List, [], ◌∷◌, ◌++◌, length, drop, Option, Result, Some, None, slice_get, Ok, Err, inl, inr, ◌⊎◌, ⊎_elim, refl, sym, ap, ◌∙◌, subst, arith}
-use Rattle.std.specs.Prelude.{IsOk, OnOk, OnErr}
+use Rattle.std.proofs.Common.{◌≡◌, ℕ, zero, suc, ◌+◌, ◌-◌, ◌<◌, ◌≤◌, ◌==◌, Bool, true, false, if◌then◌else◌, List, [], ◌∷◌, ◌++◌, length, take, drop, Option, Result, Some, None, slice_get, Ok, Err, inl, inr, ⊎_elim, refl, sym, ap, ◌∙◌, subst, arith}
+use Rattle.std.specs.Prelude.{IfSome, OnOk, OnErr}
+use Rattle.std.proofs.lemmas.List.{length-take, take-append-drop}
 use Rattle.std.proofs.lemmas.Bool.{cases_lt}
 use Rattle.std.proofs.lemmas.Option.{slice_get_within}
 use Rattle.crossbeam_utils.specs.Seq.{cell_view}
@@ -22,15 +23,14 @@ use Rattle.pool.specs.declared.entry.CloseFault.TheVariants as close
 use Rattle.pool.specs.declared.entry.SplitFault.TheVariants as split
 use Rattle.pool.specs.declared.entry.FoundFault.TheVariants as found
 use Rattle.pool.specs.declared.why.Why.{Why}
-use Rattle.pool.specs.Growth.{Tells}
 use Rattle.pool.specs.Replies.{resolved_lines, DeriveAfter}
 use Rattle.pool.specs.Moves.{number_after}
-use Rattle.pool.specs.States.{Held, Kept, IsStep, IsRun, IsFetched, after_all, next_number, fetch_item, fetched}
-use Rattle.pool.proofs.Growth.{same_formula, told_now, told_stands, begins_with}
+use Rattle.pool.specs.States.{Held, Kept, next_number, fetch_item}
+use Rattle.pool.proofs.Growth.{same_formula, told_stands, begins_with}
 use Rattle.pool.proofs.Moves.{batches_move}
 use Rattle.sharedpool.specs.Views.{items_of}
-use Rattle.sharedpool.specs.Seats.{Token, Chair, IsLocked, told_publish, told_close, told_split, told_found, told_leave}
-use Rattle.sharedpool.specs.Told.{IsTold, IsDerivedFrom}
+use Rattle.sharedpool.specs.Seats.{Token, Chair, IsLocked, told_publish, told_fetch, told_close, told_split, told_found, told_leave}
+use Rattle.sharedpool.specs.Told.{IsTold, GoesOn, IsDerivedFrom}
 
 -- ---- a longer list
 
@@ -101,36 +101,50 @@ derived_behind table opening pool workers keeper worker mine view batch locked i
     subst (λ (f : Conjunction). DeriveAfter f pool.held.log (resolved_lines (number_after f pool.held.log) batch)) (sym same)
     (subst (λ (l : List ProofLine). DeriveAfter opening.formula l (resolved_lines (number_after opening.formula l) batch)) (sym begins) moved)
 
--- a fetch from what a seat was told, or from its end, tells the rest of the log
-pub told_rest : (f : Conjunction) (h : Held) (mine : List Item) (worker from : ℕ) (lines view : List ProofLine) → IsTold f mine view → from ≤ length view → IsStep h (fetch_item worker from (Ok lines))
-    → h.log ≡ view ++ drop (length view) h.log → IsTold f (mine ++ fetch_item worker from (Ok lines) ∷ []) h.log
-told_rest f h mine worker from lines view told low step begins place line there =
+-- two facts of what may be there
+pub both_some : {X : Type 0} (A B : Type 0) (found : Option X) → IfSome found (λ _. A) → IfSome found (λ _. B) → IfSome found (λ _. A × B)
+both_some A B None one two = tt
+both_some A B (Some x) one two = (one, two)
+
+-- ---- a fetch
+
+-- a seat that was told what stands before a place, and by an answer what stands from there on
+told_on : (f : Conjunction) (mine : List Item) (worker from : ℕ) (lines view : List ProofLine) → IsTold f mine view → from ≤ length view → IsTold f (mine ++ fetch_item worker from (Ok lines) ∷ []) (take from view ++ lines)
+told_on f mine worker from lines view told low place line there =
     let item : Item = fetch_item worker from (Ok lines) in
+    let front : length (take from view) ≡ from = omega (arith, length-take from view, low) in
     ⊎_elim
     (λ (before : place < from).
-    let inside : place < length view = omega (arith, low, before) in
-    told_more f mine (item ∷ []) view told place line (sym (slice_get-front view (drop (length view) h.log) place inside) ∙ ap (λ (l : List ProofLine). slice_get l place) (sym begins) ∙ there))
+    let inside : place < length (take from view) = omega (arith, front, before) in
+    told_more f mine (item ∷ []) view told place line
+    (ap (λ (l : List ProofLine). slice_get l place) (sym (take-append-drop from view))
+    ∙ slice_get-front (take from view) (drop from view) place inside
+    ∙ sym (slice_get-front (take from view) lines place inside)
+    ∙ there))
     (λ (past : from ≤ place).
-    (length mine + 0, item, slice_get-back mine (item ∷ []) 0, told_now f h item place from line step there (length lines, refl) past))
+    let at : length (take from view) + (place - from) ≡ place = omega (arith, front, past) in
+    let found : slice_get lines (place - from) ≡ Some line = sym (slice_get-back (take from view) lines (place - from)) ∙ ap (slice_get (take from view ++ lines)) at ∙ there in
+    (length mine + 0, item, slice_get-back mine (item ∷ []) 0, record { first = from; begins = refl; past = past; there = found }))
     (cases_lt place from)
 
-told_ok : (f : Conjunction) (h : Held) (mine : List Item) (worker from : ℕ) (reply : Result (List ProofLine) FetchFault) (view : List ProofLine) → IsTold f mine view → IsFetched h from reply
-    → h.log ≡ view ++ drop (length view) h.log → IsOk reply → from ≤ length view → IsTold f (mine ++ fetch_item worker from reply ∷ []) h.log
-told_ok f h mine worker from (Ok lines) view told reply begins ok low = told_rest f h mine worker from lines view told low (reply.0, reply.1, refl) begins
-told_ok f h mine worker from (Err fault) view told reply begins ok low = absurd (true≢false (sym ok))
+told_still : (f : Conjunction) (seat : Chair) (from : ℕ) (reply : Result (List ProofLine) FetchFault) (view : List ProofLine) → IsTold f seat.mine view → IsTold f (told_fetch seat from reply).mine view
+told_still f seat from (Ok lines) view told = told_more f seat.mine _ view told
+told_still f seat from (Err fetch.Memory) view told = told
+told_still f seat from (Err fetch.PastEnd) view told = told_more f seat.mine _ view told
 
--- what a seat was told after a fetch, whether it caught up or not
-pub told_fetched : (f : Conjunction) (h : Held) (mine : List Item) (worker from : ℕ) (reply : Result (List ProofLine) FetchFault) (view after : List ProofLine) → IsTold f mine view → IsFetched h from reply
-    → h.log ≡ view ++ drop (length view) h.log → (after ≡ view) ⊎ (IsOk reply × (from ≤ length view) × (after ≡ h.log)) → IsTold f (mine ++ fetch_item worker from reply ∷ []) after
-told_fetched f h mine worker from reply view after told is begins moved =
-    let Now : List ProofLine → Type 0 = λ l. IsTold f (mine ++ fetch_item worker from reply ∷ []) l in
+-- what a seat was told after a fetch
+pub told_fetched : (f : Conjunction) (seat : Chair) (from : ℕ) (reply : Result (List ProofLine) FetchFault) (view after : List ProofLine) → IsTold f seat.mine view → GoesOn view from reply after → IsTold f (told_fetch seat from reply).mine after
+told_fetched f seat from reply view after told goes =
+    let mine : List Item = (told_fetch seat from reply).mine in
     ⊎_elim
-    (λ (same : after ≡ view). subst Now (sym same) (told_more f mine (fetch_item worker from reply ∷ []) view told))
-    (λ (caught : IsOk reply × (from ≤ length view) × (after ≡ h.log)). subst Now (sym caught.2) (told_ok f h mine worker from reply view told is begins caught.0 caught.1))
-    moved
+    (λ (same : after ≡ view). subst (IsTold f mine) (sym same) (told_still f seat from reply view told))
+    (λ (on : (lines : List ProofLine) × (reply ≡ Ok lines) × (from ≤ length view) × (after ≡ take from view ++ lines)).
+    subst (IsTold f mine) (sym on.3)
+    (subst (λ (r : Result (List ProofLine) FetchFault). IsTold f (told_fetch seat from r).mine (take from view ++ on.0)) (sym on.1) (told_on f seat.mine seat.worker from on.0 view told on.2)))
+    goes
 
--- a fetch leaves the log as it is
-pub same_log : (k : Kept) (worker from : ℕ) (reply : Result (List ProofLine) FetchFault) → (fetched k worker from reply).held.log ≡ k.held.log
-same_log k worker from (Ok lines) = refl
-same_log k worker from (Err fetch.Memory) = refl
-same_log k worker from (Err fetch.PastEnd) = refl
+-- how a view goes on where memory may be wanting
+pub goes_on : {E : Type 0} (view after lines : List ProofLine) (from : ℕ) (reply : Result (List ProofLine) FetchFault) (result : Result (Unit {0}) E) → reply ≡ Ok lines → from ≤ length view
+    → OnOk result (after ≡ take from view ++ lines) → OnErr result (after ≡ view) → GoesOn view from reply after
+goes_on view after lines from reply (Ok _) is low on same = inr (lines, is, low, on)
+goes_on view after lines from reply (Err _) is low on same = inl same

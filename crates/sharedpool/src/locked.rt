@@ -1,8 +1,9 @@
 //! What the lock holds: the pool, and the pass that knows all items.
 
-ghost use Rattle.std.specs.Prelude.{◌≡◌, ◌⊎◌, ◌==◌, ◌≤◌, ◌<◌, ◌++◌, ℕ, [], drop, false, Err, IsOk, IsTrue, OnOk, OnErr, length};
+ghost use Rattle.std.specs.Prelude.{◌≡◌, ◌==◌, ◌≤◌, ◌<◌, ◌++◌, ℕ, [], false, Err, IfSome, IsOk, OnOk, OnErr, length};
 ghost use Rattle.std.specs.List.{count_by};
 ghost use Rattle.pool.specs.States.{noted, with_places, leave_item, IsLegal, IsSound, IsPublished, IsFetched, IsClosed, IsSplit, IsFound};
+ghost use Rattle.pool.specs.Moves.{AreOfBatch};
 ghost use Rattle.crossbeam_utils.specs.Seq.{cell_view};
 ghost use Rattle.sharedpool.specs.Leaves.{has_left, has_entry, places_after};
 ghost use Rattle.sharedpool.specs.Views.{knower, items_of};
@@ -16,8 +17,8 @@ use batches::Batch;
 use clauses::Lit;
 use pages::{Lines, Log};
 use pool::{
-    AssembleFault, CloseFault, Deed, Entry, FetchFault, FoundFault, PathFault, Pool, PublishFault,
-    SplitFault, Status, Why,
+    AssembleFault, CloseFault, Deed, DerivedLines, Entry, FetchFault, FoundFault, PathFault, Pool,
+    PublishFault, SplitFault, Status, Why,
 };
 use prooflog::Evidence;
 use semantics::Step;
@@ -68,26 +69,6 @@ fn leave_pool(pool: &mut Pool, worker: u32, why: Option<Why>) -> Result<(), Allo
         pool.leave(worker, why)
     } else {
         pool.leave_kept(worker, why)
-    }
-}
-
-/// After a fetch from among the lines that a seat was told, or from their end, has them go on as the log does. Where memory is wanting they stay as they
-/// were: batches are checked under the lock then.
-fn catch_up(
-    alloc: Global,
-    pool: &Pool,
-    view: &mut Log,
-    from: usize,
-    reply: &Result<Lines, FetchFault>,
-)
-    requires { pool.now.held.log ≡ view.old ++ drop (length view.old) pool.now.held.log }
-    ensures { (view.new ≡ view.old) ⊎ (IsOk reply.now × (from ≤ length view.old) × (view.new ≡ pool.now.held.log)) }
-{
-    if reply.is_err() || from > view.len() {
-        return;
-    }
-    match view.catch_up(alloc, pool.log()) {
-        Ok(()) | Err(AllocError) => {}
     }
 }
 
@@ -163,7 +144,8 @@ impl<B: Room> Locked<B> {
         self.pool.assemble(alloc)
     }
 
-    /// A batch by the worker of this seat. It isn't checked again where it is known to derive from lines that the seat was told.
+    /// A batch by the worker of this seat. Where it is known to derive from lines that the seat was told, its lines are given, and neither checked nor made
+    /// again.
     pub(crate) fn publish<R: Wait>(
         &mut self,
         rt: &R,
@@ -171,19 +153,20 @@ impl<B: Room> Locked<B> {
         cell: &Cell,
         seat: &mut Ticket<B>,
         view: &Log,
-        is_derived: bool,
+        derived: Option<DerivedLines>,
         batch: &Batch,
     ) -> Result<u32, PublishFault>
         requires room { cell.now.table.shared.table_id ≡ B.table }
         requires told { IsTold B.opening.formula seat.old.mine view.now }
-        requires derived { IsTrue is_derived → IsDerivedFrom B.opening.formula view.now batch.now.lines.items }
+        requires derived { IfSome derived (λ _. IsDerivedFrom B.opening.formula view.now batch.now.lines.items) }
+        requires lines { IfSome derived (λ d. AreOfBatch batch.now.lines.items d) }
         ensures seat { seat.new ≡ told_publish seat.old batch.now.lines.items result }
         ensures reply { (result ≡ Err PublishFault.Memory → ⊥) → HoldsOver B.opening seat.old (λ h. IsPublished h batch.now.lines.items result) }
         ensures not_derived { (place : ℕ) → result ≡ Err (PublishFault.NotDerived place) → IsRefusedOver B.opening.formula seat.old.mine batch.now.lines.items place }
     {
         self.match_seat(rt, cell, seat);
         let worker = seat.worker;
-        let reply = self.pool.publish_as(alloc, worker, batch, is_derived);
+        let reply = self.pool.publish_as(alloc, worker, batch, derived);
         if let Err(PublishFault::Memory) = &reply {
             return Err(PublishFault::Memory);
         }
@@ -193,20 +176,16 @@ impl<B: Room> Locked<B> {
         reply
     }
 
-    /// A fetch by the worker of this seat, after which the seat has all lines of the log, unless some between are missing or memory is
-    /// wanting.
+    /// A fetch by the worker of this seat.
     pub(crate) fn fetch<R: Wait>(
         &mut self,
         rt: &R,
         alloc: Global,
         cell: &Cell,
         seat: &mut Ticket<B>,
-        view: &mut Log,
         from: usize,
     ) -> Result<Lines, FetchFault>
-        requires room { cell.now.table.shared.table_id ≡ B.table }
-        requires told { IsTold B.opening.formula seat.old.mine view.old }
-        ensures told { IsTold B.opening.formula seat.new.mine view.new }
+        requires { cell.now.table.shared.table_id ≡ B.table }
         ensures seat { seat.new ≡ told_fetch seat.old from result }
         ensures reply { (result ≡ Err FetchFault.Memory → ⊥) → HoldsOver B.opening seat.old (λ h. IsFetched h from result) }
     {
@@ -218,7 +197,6 @@ impl<B: Room> Locked<B> {
         let keeper = &mut self.keeper;
         let pass = &mut seat.pass;
         note::<Brand, _, _, R>(rt, cell, keeper, pass, worker, &from, &reply);
-        catch_up(alloc, &self.pool, view, from, &reply);
         reply
     }
 

@@ -1,17 +1,18 @@
 //! The seat of one worker.
 
-ghost use Rattle.std.specs.Prelude.{◌≡◌, ◌≤◌, ◌<◌, ◌+◌, ◌∷◌, [], IfOk, IsTrue, length, true};
+ghost use Rattle.std.specs.Prelude.{◌≡◌, ◌≤◌, ◌<◌, ◌+◌, ◌∷◌, [], IfOk, IfSome, length, true};
 ghost use Rattle.crossbeam_utils.specs.Seq.{cell_view};
+ghost use Rattle.pool.specs.Moves.{AreOfBatch};
 ghost use Rattle.sharedpool.specs.Seats.{IsSeat};
-ghost use Rattle.sharedpool.specs.Told.{IsDerivedFrom};
+ghost use Rattle.sharedpool.specs.Told.{GoesOn, IsDerivedFrom};
 ghost use Rattle.sharedpool.specs.Views.{taker, items_of, AllBelow, AreDifferent};
 
 use crate::passes::{join, take_back};
 use crate::room::{Cell, Room, Token};
 use batches::Batch;
 use clauses::Formula;
-use pages::Log;
-use pool::{MOST_LINES, are_derived};
+use pages::{Lines, Log};
+use pool::{DerivedLines, FetchFault, MOST_LINES, derived_lines};
 use refutations::PartialAssignment;
 use std::alloc::{AllocError, Global};
 use std::marker::{Model, PhantomData};
@@ -58,20 +59,40 @@ impl<B: Room> Model for Seat<B> {
     ghost invariant = { λ s. IsTold B.opening.formula s.ticket.mine s.view × (length s.known ≡ B.opening.formula.variables + 1) };
 }
 
-/// Whether the lines of a batch derive from those that a seat was told. Where memory runs out it isn't known.
-pub(crate) fn is_derived(
+/// The lines of a batch, if they derive from those that a seat was told. None where memory runs out, too.
+pub(crate) fn derived_from(
     alloc: Global,
     known: &mut PartialAssignment,
     formula: &Formula,
     view: &Log,
     batch: &Batch,
-) -> bool
+) -> Option<DerivedLines>
     requires size { length known.old ≡ formula.now.variables + 1 }
     requires few_clauses { length formula.now.clauses ≤ 4000000 }
-    ensures derived { IsTrue result → IsDerivedFrom formula.now view.now batch.now.lines.items }
+    ensures lines { IfSome result (λ d. AreOfBatch batch.now.lines.items d) }
+    ensures derived { IfSome result (λ _. IsDerivedFrom formula.now view.now batch.now.lines.items) }
     ensures size { length known.new ≡ length known.old }
 {
-    view.len() <= MOST_LINES && are_derived(alloc, known, formula, view, batch.lines.as_slice())
+    if view.len() > MOST_LINES {
+        return None;
+    }
+    derived_lines(alloc, known, formula, view, batch.lines.as_slice())
+}
+
+/// After a fetch from among the lines that a seat was told, or from their end, has them go on by those that it told. Where memory is wanting they stay as
+/// they were: batches are checked under the lock then.
+pub(crate) fn follow(alloc: Global, view: &mut Log, from: usize, reply: &Result<Lines, FetchFault>)
+    ensures { GoesOn view.old from reply.now view.new }
+{
+    let Ok(lines) = reply else {
+        return;
+    };
+    if from > view.len() {
+        return;
+    }
+    match view.follow(alloc, from, lines) {
+        Ok(()) | Err(AllocError) => {}
+    }
 }
 
 impl<B: Room> Seat<B> {

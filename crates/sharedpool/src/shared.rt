@@ -13,7 +13,7 @@ ghost use Rattle.sharedpool.specs.Seats.{AreNumbered, workers_of, HoldsOver, IsF
 use crate::locked::Locked;
 use crate::passes::take_seat;
 use crate::room::{Cell, Room, Token};
-use crate::seat::{Seat, is_derived};
+use crate::seat::{Seat, derived_from, follow};
 use batches::Batch;
 use clauses::{Formula, Lit};
 use encode::Encoded;
@@ -224,10 +224,10 @@ impl<B: Room> Share for SharedPool<B> {
         ensures not_derived { (place : ℕ) → result ≡ Err (PublishFault.NotDerived place) → IsRefusedOver B.opening.formula seat.old.mine batch.now.lines.items place }
     {
         let formula = self.encoded.formula();
-        let is_derived = is_derived(alloc, &mut seat.known, formula, &seat.view, batch);
+        let derived = derived_from(alloc, &mut seat.known, formula, &seat.view, batch);
         let mut locked = self.lock.lock(rt);
         let ticket = &mut seat.ticket;
-        locked.publish(rt, alloc, &self.cell, ticket, &seat.view, is_derived, batch)
+        locked.publish(rt, alloc, &self.cell, ticket, &seat.view, derived, batch)
     }
 
     fn fetch<R: Wait>(
@@ -240,14 +240,12 @@ impl<B: Room> Share for SharedPool<B> {
         ensures seat { seat.new ≡ told_fetch seat.old from result }
         ensures reply { (result ≡ Err FetchFault.Memory → ⊥) → HoldsOver B.opening seat.old (λ h. IsFetched h from result) }
     {
-        self.lock.lock(rt).fetch(
-            rt,
-            alloc,
-            &self.cell,
-            &mut seat.ticket,
-            &mut seat.view,
-            from,
-        )
+        let reply = self
+            .lock
+            .lock(rt)
+            .fetch(rt, alloc, &self.cell, &mut seat.ticket, from);
+        follow(alloc, &mut seat.view, from, &reply);
+        reply
     }
 
     fn close<R: Wait>(

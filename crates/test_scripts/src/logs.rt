@@ -1,22 +1,28 @@
 //! Logs of lines in pages, and lists that are handed out.
 use crate::given::{Given, Show, add};
-use crate::reading::number;
+use crate::reading::{cut, number};
 use crate::report::Report;
 use crate::scripts::{Section, Subject, judge_calls};
 use pages::{Extended, Lines, Log};
 use refutations::{Line, LineList};
 use std::mem;
 
-/// A log, and a list that was taken from it.
+/// A log, a list that was taken from it, and a log that follows.
 #[derive(Drop)]
 struct Pages {
     log: Log,
     held: Option<Lines>,
+    view: Log,
 }
 
 pub fn judge(section: Section<'_>, given: &mut Given, report: &mut Report) {
     let log = Log::new(given.alloc);
-    let mut pages = Pages { log, held: None };
+    let view = Log::new(given.alloc);
+    let mut pages = Pages {
+        log,
+        held: None,
+        view,
+    };
     judge_calls(&mut pages, section.calls, given, report);
 }
 
@@ -24,7 +30,9 @@ impl Subject for Pages {
     fn answer(&mut self, name: &str, words: &str, given: &mut Given) {
         match name {
             "append" => append(&mut self.log, words, given),
-            "caught_up" => put_caught_up(&mut self.log, words, given),
+            "follow" => follow_on(&mut self.view, &self.log, words, given),
+            "follow_held" => follow_held(&mut self.view, &self.held, words, given),
+            "follow_vec" => follow_vec(&mut self.view, words, given),
             "hold" => hold(&self.log, &mut self.held, words, given),
             "held" => put_taken(&self.held, given),
             "after" => put_after(&self.log, words, given),
@@ -92,18 +100,37 @@ fn append(log: &mut Log, word: &str, given: &mut Given) {
     }
 }
 
-/// Appends so many lines, and writes what a log has that caught up with this one before and after.
-fn put_caught_up(log: &mut Log, word: &str, given: &mut Given) {
-    let alloc = given.alloc;
-    let lines = numbered(next(log), word, given);
-    let mut view = Log::new(alloc);
-    let caught_up = view.catch_up(alloc, log).is_ok()
-        && log.append(alloc, lines).is_ok()
-        && view.catch_up(alloc, log).is_ok();
-    if caught_up {
-        put_told(&view, given);
-    } else {
-        given.refuse("memory");
+/// Has a log keep its first lines, and go on by those that another one has after so many.
+fn follow_on(view: &mut Log, log: &Log, word: &str, given: &mut Given) {
+    let lines = after(log, word, given);
+    follow(view, word, &lines, given);
+    mem::drop(lines);
+}
+
+/// The same by the list that is held.
+fn follow_held(view: &mut Log, held: &Option<Lines>, word: &str, given: &mut Given) {
+    follow(view, word, held, given);
+}
+
+/// The same by so many lines, numbered from 1: the last word says how many.
+fn follow_vec(view: &mut Log, words: &str, given: &mut Given) {
+    let (from, count) = cut(words);
+    let lines = from_vec(count, given);
+    follow(view, from, &lines, given);
+    mem::drop(lines);
+}
+
+fn follow(view: &mut Log, from: &str, lines: &Option<Lines>, given: &mut Given) {
+    let from = number(from, given) as usize;
+    if from > view.len() {
+        return given.refuse("not made: past the end");
+    }
+    let Some(lines) = lines else {
+        return given.refuse("no lines");
+    };
+    match view.follow(given.alloc, from, lines) {
+        Ok(()) => put_told(view, given),
+        Err(_error) => given.refuse("memory"),
     }
 }
 

@@ -1,6 +1,7 @@
 //! A pool's calls: by the pool itself, by one `run`, and under a lock by two workers with their seats.
-ghost use Rattle.std.specs.Prelude.{◌≡◌, IfSome, IsTrue, [], length};
+ghost use Rattle.std.specs.Prelude.{◌≡◌, IfSome, [], length};
 ghost use Rattle.crossbeam_utils.specs.Seq.{cell_view};
+ghost use Rattle.pool.specs.Moves.{AreOfBatch};
 ghost use Rattle.pool.specs.Replies.{resolved_lines, DeriveAfter};
 ghost use Rattle.pool.specs.States.{next_number};
 ghost use Rattle.sharedpool.specs.Views.{knower};
@@ -13,7 +14,7 @@ use crate::scripts::{Section, Subject, judge_calls};
 use batches::Batch;
 use clauses::LARGEST_VARIABLE;
 use encode::Encoded;
-use pool::{Event, Pool, Reply, Share, Status, are_derived, run};
+use pool::{DerivedLines, Event, Pool, Reply, Share, Status, derived_lines, run};
 use refutations::PartialAssignment;
 use sharedpool::{Cell, Room, SharedPool, Token, open_room};
 use std::alloc::{AllocError, Global};
@@ -126,10 +127,14 @@ fn put_evidence(pool: &Pool, given: &mut Given) {
 fn publish_derived(pool: &mut Pool, words: &str, given: &mut Given) {
     match event("publish", words, given) {
         Some(Event::Publish { worker, batch }) => {
-            if is_derived(given.alloc, pool, &batch) {
-                tell(&pool.publish_as(given.alloc, worker, &batch, true), given);
-            } else {
-                given.put("not derived");
+            match derived(given.alloc, pool, &batch) {
+                Some(lines) => {
+                    tell(
+                        &pool.publish_as(given.alloc, worker, &batch, Some(lines)),
+                        given,
+                    );
+                }
+                None => given.put("not derived"),
             }
             mem::drop(batch);
         }
@@ -137,14 +142,15 @@ fn publish_derived(pool: &mut Pool, words: &str, given: &mut Given) {
     }
 }
 
-fn is_derived(alloc: Global, pool: &Pool, batch: &Batch) -> bool
-    ensures { IsTrue result → DeriveAfter pool.now.held.formula pool.now.held.log (resolved_lines (next_number pool.now.held) batch.now.lines.items) }
+fn derived(alloc: Global, pool: &Pool, batch: &Batch) -> Option<DerivedLines>
+    ensures lines { IfSome result (λ d. AreOfBatch batch.now.lines.items d) }
+    ensures derived { IfSome result (λ _. DeriveAfter pool.now.held.formula pool.now.held.log (resolved_lines (next_number pool.now.held) batch.now.lines.items)) }
 {
     let _history = pool.history();
     let formula = pool.formula();
     match PartialAssignment::new(alloc, formula.variables()) {
-        Ok(mut known) => are_derived(alloc, &mut known, formula, pool.log(), &batch.lines),
-        Err(AllocError) => false,
+        Ok(mut known) => derived_lines(alloc, &mut known, formula, pool.log(), &batch.lines),
+        Err(AllocError) => None,
     }
 }
 

@@ -5,6 +5,7 @@ use Rattle.pool.specs.declared.entry.PublishFault.{PublishFault}
 use Rattle.pool.specs.Batches.{IsExtended}
 use Rattle.pool.specs.Replies.{resolved_lines, DeriveAfter}
 use Rattle.pool.specs.States.{Kept, next_number}
+use Rattle.pool.proofs.Renumbered.{some_so}
 use Rattle.pool.proofs.Soundness.{sound_with, sound_publish, published_ok, known_ok, lines_count}
 use Rattle.pool.proofs.keep.Pool.publish_as.Goals as goal
 
@@ -44,9 +45,12 @@ returns-in-Err-Full-clause-reply c =
 pub returns-in-Ok-clause-pool : goal.returns-in-Ok-clause-pool
 returns-in-Ok-clause-pool c = search rules
 
-pub extend-requires-clause-known : goal.extend-requires-clause-known
-extend-requires-clause-known c is_known =
+pub extend-requires-clause-derived : goal.extend-requires-clause-derived
+extend-requires-clause-derived c =
     let h = c.args.self.now.held in
     let base = c.next_number-base.ensures ∙ ap (λ (k : Kept). next_number k.held) c.self.view_is in
     let log_is = ap (λ (k : Kept). k.held.log) c.self.view_is in
-    known_ok h c.formula-formula.result.now c.self.inside.log c.as_slice-lines.result.now c.args.batch.now.lines.items c.next_number-base.result (c.formula-formula.ensures.same ∙ ap (λ (e : EncodedProgram). e.formula) c.deref.ensures ∙ ap (λ (k : Kept). k.held.formula) c.self.view_is) log_is c.as_slice-lines.ensures.value base (c.requires is_known)
+    some_so c.args.derived
+    (λ derived.
+    known_ok h c.formula-formula.result.now c.self.inside.log c.as_slice-lines.result.now c.args.batch.now.lines.items c.next_number-base.result (c.formula-formula.ensures.same ∙ ap (λ (e : EncodedProgram). e.formula) c.deref.ensures ∙ ap (λ (k : Kept). k.held.formula) c.self.view_is) log_is c.as_slice-lines.ensures.value base derived)
+    c.requires.derived

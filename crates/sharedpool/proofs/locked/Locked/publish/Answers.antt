@@ -4,6 +4,7 @@ use Rattle.sharedpool.specs.Views.{items_of}
 use Rattle.sharedpool.specs.Seats.{Chair, Shared, IsRefusedOver}
 use Rattle.sharedpool.proofs.Growth.{refused_call}
 use Rattle.sharedpool.proofs.Told.{derived_behind}
+use Rattle.pool.proofs.Renumbered.{some_so}
 use Rattle.pool.proofs.Calls.{publish_noted, publish_step}
 use Rattle.sharedpool.proofs.Legal.{ready, locked_more}
 use Rattle.sharedpool.proofs.locked.Locked.publish.Goals as goal
@@ -31,8 +32,8 @@ returns-clause-seat g c = search rules
 pub returns-clause-reply : goal.returns-clause-reply
 returns-clause-reply g c = search rules
 
-pub publish_as-reply-requires : goal.publish_as-reply-requires
-publish_as-reply-requires g c is_derived =
+pub publish_as-reply-requires-clause-derived : goal.publish_as-reply-requires-clause-derived
+publish_as-reply-requires-clause-derived g c =
     let all = ap (λ (s : Shared). s.items) (c.self.view_is ∙ c.match_seat.ensures.same) in
     let mine = c.match_seat.ensures.mine ∙ ap (items_of c.args.seat.now.worker) (sym all) in
-    derived_behind _ _ _ _ _ _ _ _ _ c.self.invariant mine c.requires.told (c.requires.derived is_derived)
+    some_so c.args.derived (λ derived. derived_behind _ _ _ _ _ _ _ _ _ c.self.invariant mine c.requires.told derived) c.requires.derived
