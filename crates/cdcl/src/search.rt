@@ -55,16 +55,18 @@ pub(crate) struct Counted {
     pub(crate) conflicts: u64,
 }
 
-/// The clause that closes the cube: the one that is named alone, or one more line of these literals.
+/// The clause that closes the cube: the one that is named alone, or one more line of these literals,
+/// which are sorted for it.
 fn close(
     alloc: Global,
-    literals: &[u32],
+    literals: &mut [u32],
     tags: &[u32],
     batch: &mut Batch,
 ) -> Result<Option<Hint>, AllocError> {
     if let [tag] = tags {
         return Ok(Some(hint_of(*tag)));
     }
+    literals.sort_unstable();
     let Some(tag) = add_line(alloc, batch, literals, tags)? else {
         return Ok(None);
     };
@@ -174,7 +176,7 @@ impl Engine {
         self.derive_units(alloc, &learnt.resolved.roots, batch)?;
         let mut tags = self.tags(alloc, &learnt.resolved.places)?;
         tags.push(self.store.tag(conflict))?;
-        let tag = add_line(alloc, batch, &learnt.literals, &tags)?;
+        let tag = add_line(alloc, batch, &learnt.rising, &tags)?;
         self.back(learnt.level);
         match tag {
             Some(tag) => self.take_learnt(learnt, tag),
@@ -196,10 +198,10 @@ impl Engine {
         conflict: u32,
         batch: &mut Batch,
     ) -> Result<Option<Hint>, AllocError> {
-        let closing = analyse_root(alloc, &self.store, &self.trail, &mut self.marks, conflict)?;
+        let mut closing = analyse_root(alloc, &self.store, &self.trail, &mut self.marks, conflict)?;
         let mut tags = self.tags(alloc, &closing.places)?;
         tags.push(self.store.tag(conflict))?;
-        close(alloc, &closing.literals, &tags, batch)
+        close(alloc, closing.literals.as_mut_slice(), &tags, batch)
     }
 
     fn close_cube(
@@ -208,10 +210,16 @@ impl Engine {
         falsified: u32,
         batch: &mut Batch,
     ) -> Result<Option<Hint>, AllocError> {
-        let closing = analyse_cube(alloc, &self.store, &self.trail, &mut self.marks, falsified)?;
+        let mut closing = analyse_cube(
+            alloc,
+            &self.store,
+            &self.trail,
+            &mut self.marks,
+            falsified,
+        )?;
         self.derive_units(alloc, &closing.roots, batch)?;
         let tags = self.tags(alloc, &closing.places)?;
-        close(alloc, &closing.literals, &tags, batch)
+        close(alloc, closing.literals.as_mut_slice(), &tags, batch)
     }
 
     /// What a clause that is false brings: the end at level 0, and else a learnt clause.
