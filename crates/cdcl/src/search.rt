@@ -141,15 +141,16 @@ impl Engine {
 
     /// Takes in a learnt clause with this tag, and what follows from it at its level.
     fn take_learnt(&mut self, learnt: &Learnt, tag: u32) -> Result<(), AllocError> {
-        let Some(place) = self.store.add(&learnt.literals, tag, learnt.glue)? else {
+        let literals = learnt.literals.as_slice();
+        let Some(place) = self.store.add(literals, tag, learnt.glue)? else {
             return Ok(());
         };
         self.pending.push(place)?;
         if learnt.glue > 1 {
             self.learnt = self.learnt.saturating_add(1);
         }
-        self.watches.add_clause(&learnt.literals, place)?;
-        if let Some(first) = learnt.literals.first() {
+        self.watches.add_clause(literals, place)?;
+        if let Some(first) = literals.first() {
             self.trail.assign(*first, place);
         }
         self.order.decay();
