@@ -189,7 +189,8 @@ impl<'e> Explorer<'e> {
         self.learnt_from < self.learnt_to
     }
 
-    /// Has the learner look for a clause of negations of these literals, unless lines of its own have to come back first.
+    /// Has the learner look for a clause of negations of these literals, unless lines of its own have to
+    /// come back first.
     fn learn(
         &mut self,
         alloc: Global,
