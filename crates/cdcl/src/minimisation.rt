@@ -1,6 +1,6 @@
 //! Leaving out literals of a learnt clause that follow from its other literals.
 
-use crate::analysis::Resolved;
+use crate::analysis::{Literals, Resolved};
 use propagation::{Marks, NONE, Store, Trail, variable_of};
 use std::alloc::AllocError;
 
@@ -100,15 +100,16 @@ pub(crate) fn minimise(
     store: &Store,
     trail: &Trail,
     marks: &mut Marks,
-    literals: &mut Vec<u32>,
+    literals: &mut Literals,
     resolved: &mut Resolved,
 ) -> Result<(), AllocError> {
-    let levels = level_bits(trail, literals);
+    let levels = level_bits(trail, literals.as_slice());
+    let codes = literals.as_mut_slice();
     let mut end = 0;
-    for read in 0..literals.len() {
-        let code = literals[read];
+    for read in 0..codes.len() {
+        let code = codes[read];
         if !leave_out(store, trail, marks, resolved, levels, code)? {
-            literals[end] = code;
+            codes[end] = code;
             end += 1;
         }
     }

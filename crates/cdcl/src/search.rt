@@ -55,16 +55,18 @@ pub(crate) struct Counted {
     pub(crate) conflicts: u64,
 }
 
-/// The clause that closes the cube: the one that is named alone, or one more line of these literals.
+/// The clause that closes the cube: the one that is named alone, or one more line of these literals,
+/// which are sorted for it.
 fn close(
     alloc: Global,
-    literals: &[u32],
+    literals: &mut [u32],
     tags: &[u32],
     batch: &mut Batch,
 ) -> Result<Option<Hint>, AllocError> {
     if let [tag] = tags {
         return Ok(Some(hint_of(*tag)));
     }
+    literals.sort_unstable();
     let Some(tag) = add_line(alloc, batch, literals, tags)? else {
         return Ok(None);
     };
@@ -139,15 +141,16 @@ impl Engine {
 
     /// Takes in a learnt clause with this tag, and what follows from it at its level.
     fn take_learnt(&mut self, learnt: &Learnt, tag: u32) -> Result<(), AllocError> {
-        let Some(place) = self.store.add(&learnt.literals, tag, learnt.glue)? else {
+        let literals = learnt.literals.as_slice();
+        let Some(place) = self.store.add(literals, tag, learnt.glue)? else {
             return Ok(());
         };
         self.pending.push(place)?;
         if learnt.glue > 1 {
             self.learnt = self.learnt.saturating_add(1);
         }
-        self.watches.add_clause(&learnt.literals, place)?;
-        if let Some(first) = learnt.literals.first() {
+        self.watches.add_clause(literals, place)?;
+        if let Some(first) = literals.first() {
             self.trail.assign(*first, place);
         }
         self.order.decay();
@@ -174,7 +177,7 @@ impl Engine {
         self.derive_units(alloc, &learnt.resolved.roots, batch)?;
         let mut tags = self.tags(alloc, &learnt.resolved.places)?;
         tags.push(self.store.tag(conflict))?;
-        let tag = add_line(alloc, batch, &learnt.literals, &tags)?;
+        let tag = add_line(alloc, batch, &learnt.rising, &tags)?;
         self.back(learnt.level);
         match tag {
             Some(tag) => self.take_learnt(learnt, tag),
@@ -196,10 +199,10 @@ impl Engine {
         conflict: u32,
         batch: &mut Batch,
     ) -> Result<Option<Hint>, AllocError> {
-        let closing = analyse_root(alloc, &self.store, &self.trail, &mut self.marks, conflict)?;
+        let mut closing = analyse_root(alloc, &self.store, &self.trail, &mut self.marks, conflict)?;
         let mut tags = self.tags(alloc, &closing.places)?;
         tags.push(self.store.tag(conflict))?;
-        close(alloc, &closing.literals, &tags, batch)
+        close(alloc, closing.literals.as_mut_slice(), &tags, batch)
     }
 
     fn close_cube(
@@ -208,10 +211,16 @@ impl Engine {
         falsified: u32,
         batch: &mut Batch,
     ) -> Result<Option<Hint>, AllocError> {
-        let closing = analyse_cube(alloc, &self.store, &self.trail, &mut self.marks, falsified)?;
+        let mut closing = analyse_cube(
+            alloc,
+            &self.store,
+            &self.trail,
+            &mut self.marks,
+            falsified,
+        )?;
         self.derive_units(alloc, &closing.roots, batch)?;
         let tags = self.tags(alloc, &closing.places)?;
-        close(alloc, &closing.literals, &tags, batch)
+        close(alloc, closing.literals.as_mut_slice(), &tags, batch)
     }
 
     /// What a clause that is false brings: the end at level 0, and else a learnt clause.

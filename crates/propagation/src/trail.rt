@@ -46,6 +46,7 @@ pub struct Trail {
     head: usize,
     limits: Vec<usize>,
     keeps_phases: bool,
+    ghost propagated: { head ≤ top },
 }
 
 fn put(values: &mut [Truth], code: u32, value: Truth) {

@@ -307,7 +307,7 @@ impl Engine {
         codes.iter().any(|code| self.trail.level_of(variable_of(*code)) as usize > level)
     }
 
-    /// One more line, and the place of its clause; none where there is no number left for it.
+    /// One more line of these literals, in whatever order, and the place of its clause; none where there is no number left for it.
     pub(crate) fn add_line(
         &mut self,
         alloc: Global,

@@ -58,7 +58,7 @@ enum Learning {
     Clause(u32),
     /// This assignment satisfies the formula and the literals, as it says.
     Model(Assignment),
-    /// The budget is used up.
+    /// The budget is used up, or the batch has to end first.
     Budget,
 }
 
@@ -183,7 +183,14 @@ impl<'e> Explorer<'e> {
         Ok(())
     }
 
-    /// Has the learner look for a clause of negations of these literals.
+    /// Whether lines of the learner's stand in this batch. It would lose them if it searched once more
+    /// before they come back, and begin anew.
+    fn awaits_lines(&self) -> bool {
+        self.learnt_from < self.learnt_to
+    }
+
+    /// Has the learner look for a clause of negations of these literals, unless lines of its own have to
+    /// come back first.
     fn learn(
         &mut self,
         alloc: Global,
@@ -192,6 +199,9 @@ impl<'e> Explorer<'e> {
         budget: u64,
         batch: &mut Batch,
     ) -> Result<Learning, AllocError> {
+        if self.awaits_lines() {
+            return Ok(Learning::Budget);
+        }
         let cube = literals_of(alloc, codes)?;
         match self.call_learner(alloc, formula, &cube, budget)? {
             Found::Closed(lines, last) => {

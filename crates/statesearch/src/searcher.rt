@@ -112,7 +112,8 @@ impl<'e> StateSearch<'e> {
 
     /// Searches on until the formula is refuted, an assignment is found that satisfies it, or as many lines and conflicts as the budget were counted:
     /// one for each line. The step that uses the budget up writes all its lines, those past the budget uncounted. Of the lemmas that are due at once no
-    /// more are begun once the batch has as many lines as the budget. A search of many steps without lines counts as if the budget were used up, too. With budget 0 it answers at once, with no line.
+    /// more are begun once the batch has as many lines as the budget. A search of many steps without lines counts as if the budget were used up, too, and so
+    /// does one that would have to learn by conflicts once more after lines that it learnt so. With budget 0 it answers at once, with no line.
     /// A model that fails its test is told as want of memory. A batch has less than 2^31 lines. What is kept grows with the lines, by about a kilobyte
     /// each: whoever wants less stops calling.
     ///

@@ -97,6 +97,52 @@ fn search_all(
     mem::drop(shared);
 }
 
+/// Has one search close the program, and then another one, which is told of each state and lemma the
+/// line of the next one: `BUDGET MOST`. Tells whether that closes the program, too, with no more lines
+/// than so many.
+pub fn misled(encoded: &Encoded, words: &str, given: &mut Given) {
+    let (budget, words) = cut_number(words, given);
+    let (most, _) = cut_number(words, given);
+    let budget = u64::from(budget);
+    let mut shared = Shared {
+        encoded,
+        lines: Vec::new(given.alloc),
+        closed: Vec::new(given.alloc),
+    };
+    search_alone(&mut shared, budget, given);
+    let before = shared.lines.len();
+    mislead(shared.closed.as_mut_slice());
+    let is_closed = search_alone(&mut shared, budget, given);
+    let lines = shared.lines.len().saturating_sub(before);
+    put_end(is_closed, lines, most as usize, given);
+    mem::drop(shared);
+}
+
+/// Has one more search go on until it closes the program, which is told of all that was closed so far,
+/// but imports no line of others. Answers whether it does.
+fn search_alone(shared: &mut Shared<'_>, budget: u64, given: &mut Given) -> bool {
+    let claims = Claims::new(given.alloc);
+    let mut searchers = Vec::new(given.alloc);
+    begin(shared.encoded, &claims, 1, &mut searchers, given);
+    for searcher in searchers.iter_mut() {
+        if inform(searcher, shared, given.alloc).is_err() {
+            given.refuse("memory");
+        }
+    }
+    let is_closed = go_on(searchers.as_mut_slice(), shared, budget, false, given);
+    mem::drop(searchers);
+    is_closed
+}
+
+/// Gives each the line of the next one.
+fn mislead(closings: &mut [Closing]) {
+    for place in 1..closings.len() {
+        let number = closings[place].number;
+        closings[place].number = closings[place - 1].number;
+        closings[place - 1].number = number;
+    }
+}
+
 /// Tells whether there was an end, and of how many lines.
 fn put_end(is_closed: bool, lines: usize, most: usize, given: &mut Given) {
     if !is_closed {
@@ -194,6 +240,15 @@ fn learn(
     alloc: Global,
 ) -> Result<(), AllocError> {
     import_new(searcher, shared, alloc)?;
+    inform(searcher, shared, alloc)
+}
+
+/// Tells a search of the lines that it hasn't seen, and of which states were closed meanwhile.
+fn inform(
+    searcher: &mut Searcher<'_>,
+    shared: &Shared<'_>,
+    alloc: Global,
+) -> Result<(), AllocError> {
     let lines = lines_of(alloc, shared.lines.get(searcher.lines..).unwrap_or(&[]))?;
     take_in_new(searcher, shared, lines)?;
     searcher.lines = shared.lines.len();

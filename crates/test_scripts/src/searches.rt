@@ -1,5 +1,5 @@
 //! Searches. Each line that a search learns is checked, and none is taken in where one isn't derived.
-use crate::beside::beside;
+use crate::beside::{beside, misled};
 use crate::encodings::encoded;
 use crate::given::{Given, add, put_all, tell};
 use crate::reading::{Part, all, cut_number, formula};
@@ -143,6 +143,7 @@ impl Subject for Searches<'_> {
         match name {
             "beside" => search_beside(self.encoded, words, false, given),
             "beside_one_that_left" => search_beside(self.encoded, words, true, given),
+            "misled" => search_misled(self.encoded, words, given),
             "conflicts" => given.show(self.search.counted()),
             "lines" => given.number(self.lines.len()),
             "import" => import(&mut self.search, words, given),
@@ -158,6 +159,13 @@ impl Subject for Searches<'_> {
 fn search_beside(encoded: Option<&Encoded>, words: &str, leaves: bool, given: &mut Given) {
     match encoded {
         Some(encoded) => beside(encoded, words, leaves, given),
+        None => given.refuse("not made: no program"),
+    }
+}
+
+fn search_misled(encoded: Option<&Encoded>, words: &str, given: &mut Given) {
+    match encoded {
+        Some(encoded) => misled(encoded, words, given),
         None => given.refuse("not made: no program"),
     }
 }
