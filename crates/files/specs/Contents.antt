@@ -1,7 +1,7 @@
 -- What loading and storing do to the bytes that a reader has left and a writer holds, where those are known.
 use Rattle.std.specs.Prelude.{◌≡◌, ◌≢◌, ◌⊎◌, ℕ, ◌<◌, ltb, leb, nat_eq, Bool, ◌&&◌, not, IsTrue, List, ◌++◌, length, Option, None, Some}
 use Rattle.std.specs.List.{starts_with}
-use Rattle.std.specs.Io.KnownBytes.{Appends, Consumes}
+use Rattle.std.specs.Io.KnownBytes.{Appends}
 use Rattle.files.specs.declared.extent.Extent.{Extent}
 use Rattle.files.specs.declared.extent.Extent.TheVariants.{Most, Begins}
 
@@ -19,10 +19,6 @@ is_enough (Begins front) bytes = leb (length front.now) (length bytes) && not (s
 abbrev pub AreEnough : Extent → Option (List ℕ) → List ℕ → Type 0
 AreEnough extent None bytes = Unit {0}
 AreEnough extent (Some known) bytes = (bytes ≡ known) ⊎ (IsTrue (is_enough extent bytes) × ((rest : List ℕ) × (known ≡ bytes ++ rest)))
-
--- what is left is an end of what there was
-abbrev pub IsEndOf : Option (List ℕ) → Option (List ℕ) → Type 0
-IsEndOf old new = (taken : List ℕ) × Consumes old new taken
 
 -- known bytes grow by a beginning of these, which lacks a byte at least
 abbrev pub AppendsPart : Option (List ℕ) → Option (List ℕ) → List ℕ → Type 0

@@ -1,27 +1,55 @@
 //! A whole content, read and written.
-ghost use Rattle.std.specs.Prelude.{OnErr, OnOk, IfOk};
+ghost use Rattle.std.specs.Prelude.{◌≡◌, ◌≤◌, ◌+◌, ◌++◌, length, vec_len, vec_capacity, OnErr, OnOk, IfOk, IfErr};
 ghost use Rattle.std.specs.Io.KnownBytes.{Appends, Consumes};
-ghost use Rattle.files.specs.Contents.{AppendsPart, AreEnough, IsEndOf};
+ghost use Rattle.files.specs.Contents.{AppendsPart, AreEnough};
 
 use crate::{Extent, LoadFault, StoreFault};
-use std::alloc::Global;
+use std::alloc::{AllocError, Global};
 use std::io::{ErrorKind, Read, Write};
 
 /// The most bytes that one read moves.
 const PIECE: usize = 4_096;
 
+/// What was read before a fault.
+#[derive(Debug, Drop)]
+pub struct Unloaded {
+    /// The fault.
+    pub fault: LoadFault,
+    /// All bytes that the reader lost.
+    pub read: Vec<u8>,
+}
+
+impl Unloaded {
+    fn new(fault: LoadFault, read: Vec<u8>) -> Unloaded
+        ensures { result ≡ record { fault = fault; read = read } }
+    {
+        Unloaded { fault, read }
+    }
+}
+
+/// Adds bytes for which there is room.
+fn add(bytes: &mut Vec<u8>, more: &[u8])
+    requires { vec_len bytes.old + length more.now ≤ vec_capacity bytes.old }
+    ensures { bytes.new.items ≡ bytes.old.items ++ more.now }
+{
+    match bytes.extend_from_slice(more) {
+        Ok(()) => {}
+        Err(AllocError) => unreachable!(),
+    }
+}
+
 /// Reads what a reader has left, as far as this extent says: all of it, or a beginning that is enough.
 ///
-/// The reader has lost what was read, and no byte past it, after a fault too. A read that is
-/// interrupted is tried again.
+/// The reader has lost what was read, and no byte past it. After a fault that is handed back too, so
+/// no byte is lost. A read that is interrupted is tried again.
 pub fn load<R: Read>(
     alloc: Global,
     reader: &mut R,
     extent: &Extent<'_>,
-) -> Result<Vec<u8>, LoadFault>
+) -> Result<Vec<u8>, Unloaded>
     ensures enough { IfOk result (λ bytes. AreEnough extent.now (R.remaining reader.old) bytes.items) }
     ensures lost { IfOk result (λ bytes. Consumes (R.remaining reader.old) (R.remaining reader.new) bytes.items) }
-    ensures part { OnErr result (IsEndOf (R.remaining reader.old) (R.remaining reader.new)) }
+    ensures part { IfErr result (λ unloaded. Consumes (R.remaining reader.old) (R.remaining reader.new) unloaded.read.items) }
 {
     let mut bytes = Vec::new(alloc);
     let mut piece = [0; PIECE];
@@ -29,14 +57,18 @@ pub fn load<R: Read>(
         if extent.is_enough(&bytes) {
             return Ok(bytes);
         }
+        match bytes.reserve(PIECE) {
+            Ok(()) => {}
+            Err(AllocError) => return Err(Unloaded::new(LoadFault::from(AllocError), bytes)),
+        }
         match reader.read(&mut piece) {
             Ok(0) => return Ok(bytes),
-            Ok(count) => bytes.extend_from_slice(&piece[..count])?,
+            Ok(count) => add(&mut bytes, &piece[..count]),
             Err(error) if error.kind() == ErrorKind::Interrupted => continue,
-            Err(error) => return Err(LoadFault::from(error)),
+            Err(error) => return Err(Unloaded::new(LoadFault::from(error), bytes)),
         }
     }
-    Err(LoadFault::Device)
+    Err(Unloaded::new(LoadFault::Device, bytes))
 }
 
 /// Writes all the bytes.

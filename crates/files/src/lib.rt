@@ -7,7 +7,7 @@ mod fault;
 mod file_set;
 mod host_files;
 
-pub use contents::{load, store};
+pub use contents::{Unloaded, load, store};
 pub use extent::Extent;
 pub use fault::{LoadFault, OpenFault, StoreFault};
 pub use file_set::FileSet;

@@ -81,3 +81,11 @@ each_keeps_accepted evidence claim trimmed is made =
 pub never_both : {X : Type 0} {E : Type 0} {a b : E} (r : Result X E) (x : X) → r ≡ Ok x → (r ≡ Err a) ⊎ (r ≡ Err b) → ⊥
 never_both r x ok (inl fails) = let both = sym ok ∙ fails in cc
 never_both r x ok (inr fails) = let both = sym ok ∙ fails in cc
+
+abbrev fault_or : {X E : Type 0} → E → Result X E → E
+fault_or e (Ok x) = e
+fault_or e (Err told) = told
+
+-- one fault is told of whatever type the value has
+pub same_fault : {X Y E : Type 0} (told fault : E) → ◌≡◌ {A = Result X E} (Err told) (Err fault) → ◌≡◌ {A = Result Y E} (Err told) (Err fault)
+same_fault told fault same = ap (λ r. Err (fault_or told r)) same

@@ -37,5 +37,5 @@ pub use refutation::{
 pub use schedule::Schedule;
 pub use step::{find_word, put_find};
 pub use text::Text;
-pub use trims::{TrimFault, trim};
+pub use trims::{TrimFault, trim, trim_in_place};
 pub use writer::{put_hints, put_literals, write_evidence, write_evidence_in};

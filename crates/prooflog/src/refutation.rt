@@ -126,6 +126,27 @@ pub fn are_in_range(lines: &[Line]) -> bool
     lines.iter().all(is_in_range)
 }
 
+/// Copies of these lines.
+fn line_copies(alloc: Global, lines: &[Line]) -> Result<Vec<Line>, AllocError>
+    ensures { IfOk result (λ copies. copies.items ≡ lines.now) }
+{
+    let mut copies = Vec::with_capacity(alloc, lines.len())?;
+    for line in lines {
+        copies.push(line.copy(alloc)?)?;
+    }
+    Ok(copies)
+}
+
+/// A copy of this tree.
+fn tree_copy(alloc: Global, tree: &ProofTree) -> Result<ProofTree, AllocError>
+    ensures { IfOk result (λ copy. copy ≡ tree.now) }
+{
+    match ProofTree::make(tree.nodes().to_vec(alloc)?) {
+        Ok(copy) => Ok(copy),
+        Err(_nodes) => unreachable!(),
+    }
+}
+
 impl Refutation {
     /// The refutation of these parts, where they are within the limits.
     pub fn make(
@@ -156,6 +177,21 @@ impl Refutation {
             version,
             variables,
             clauses,
+            lines,
+            tree,
+        })
+    }
+
+    /// A copy of it.
+    pub(crate) fn copy(&self, alloc: Global) -> Result<Refutation, AllocError>
+        ensures { IfOk result (λ copy. copy ≡ self.now) }
+    {
+        let tree = tree_copy(alloc, &self.tree)?;
+        let lines = line_copies(alloc, &self.lines)?;
+        Ok(Refutation {
+            version: self.version,
+            variables: self.variables,
+            clauses: self.clauses,
             lines,
             tree,
         })

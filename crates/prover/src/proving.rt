@@ -16,7 +16,7 @@ use callorder::Program;
 use checker::{Reason, formula_of, program_of};
 use encode::Encoded;
 use pool::{AssembleFault, Pool, Why, schedule_of_run};
-use prooflog::{Evidence, Refutation, Schedule, TrimFault, trim, write_evidence_in};
+use prooflog::{Evidence, Refutation, Schedule, TrimFault, trim_in_place, write_evidence_in};
 use settings::Options;
 use std::alloc::{AllocError, Global};
 use std::sync::Wait;
@@ -68,7 +68,7 @@ fn told<R: Threads + Sync>(rt: &R, alloc: Global, evidence: Evidence, parts: usi
 fn shorten(alloc: Global, evidence: &mut Evidence) -> Result<(), AllocError>
     ensures { (p : MpiProgram) → IsEvidenceOn p evidence.old → IsEvidenceOn p evidence.new }
 {
-    match trim(alloc, evidence) {
+    match trim_in_place(alloc, evidence) {
         Ok(()) => Ok(()),
         Err(TrimFault::Memory) => Err(AllocError),
         Err(TrimFault::Number | TrimFault::NotRefutation) => Ok(()),

@@ -3,7 +3,7 @@
 ghost use Rattle.std.specs.Prelude.{◌≡◌, IfErr, IfOk};
 ghost use Rattle.reports.specs.Trimming.{IsWhyUntrimmed, Shortens, lines_of};
 
-use prooflog::{Evidence, EvidenceFault, TrimFault, read_evidence, trim, write_evidence};
+use prooflog::{Evidence, EvidenceFault, TrimFault, read_evidence, trim_in_place, write_evidence};
 use std::alloc::{AllocError, Global};
 
 /// The text of a refutation all of whose lines are needed, and how many lines there were before and are now.
@@ -80,7 +80,7 @@ pub fn trim_evidence(alloc: Global, evidence: &[u8]) -> Result<Shortened, Untrim
         Err(fault) => return Err(Untrimmed::from(fault)),
     };
     let before = lines_of(&evidence);
-    match trim(alloc, &mut evidence) {
+    match trim_in_place(alloc, &mut evidence) {
         Ok(()) => {}
         Err(fault) => return Err(Untrimmed::from(fault)),
     }

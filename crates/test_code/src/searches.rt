@@ -22,10 +22,16 @@ use std::thread::Threads;
 use steal::{Supply, deal};
 use trail::{Noted, Trail};
 use trees::Tree;
-use workers::{Begun, ClosedStates, Common, Cubes, EventCount, Exploring, KeptLines, work};
+use workers::{Begun, ClosedStates, Common, Cubes, EventCount, Exploring, KeptLines, open, work};
 
 /// More conflicts than any search here needs.
 const ENOUGH: u32 = 1_000_000;
+
+/// More conflicts than a search counts over a share that lies.
+const FEW: u32 = 10_000;
+
+/// All ways to explore.
+const MANNERS: [Exploring; 3] = [Exploring::Never, Exploring::InTurn, Exploring::Always];
 
 /// The number of the worker that searches.
 const WORKER: u32 = 5;
@@ -144,6 +150,7 @@ fn worked_on<R: Threads + Wait + Sync, C: Cubes>(
     share: &Fake,
     cubes: &mut C,
     budget: u32,
+    exploring: Exploring,
 ) -> Result<(), Fail> {
     let events = EventCount::new();
     let kept = KeptLines::new();
@@ -154,7 +161,7 @@ fn worked_on<R: Threads + Wait + Sync, C: Cubes>(
         gate: share,
         events: &events,
         budget,
-        exploring: Exploring::Never,
+        exploring,
         begun: Begun::nothing(),
         kept: &kept,
         closed: &closed,
@@ -172,9 +179,10 @@ fn worked<R: Threads + Wait + Sync, C: Cubes>(
     share: &Fake,
     cubes: &mut C,
     budget: u32,
+    exploring: Exploring,
 ) -> Result<(), Fail> {
     let encoded = encoded(rt, alloc, text)?;
-    worked_on(rt, alloc, &encoded, share, cubes, budget)
+    worked_on(rt, alloc, &encoded, share, cubes, budget, exploring)
 }
 
 /// Whether the share has a refutation.
@@ -200,7 +208,7 @@ fn worked_on_leaves<R: Threads + Wait + Sync>(
     budget: u32,
 ) -> Result<(), Fail> {
     let mut cubes = leaves(rt, alloc, share)?;
-    worked(rt, alloc, text, share, &mut cubes, budget)
+    worked(rt, alloc, text, share, &mut cubes, budget, Exploring::Never)
 }
 
 /// What one worker comes to over this share.
@@ -233,14 +241,66 @@ fn searched<R: Threads + Wait + Sync>(
     searched_in(rt, alloc, text, &share, budget)
 }
 
-/// Why the worker leaves a share that lies, and how many calls it makes after the first that is refused.
+/// Why the worker leaves this share of [`RELAY`], and how many calls it makes after the first that is refused.
+fn left_in<R: Threads + Wait + Sync>(
+    rt: &R,
+    alloc: Global,
+    share: &Fake,
+    exploring: Exploring,
+) -> Result<(Option<Why>, u64), Fail> {
+    let mut cubes = leaves(rt, alloc, share)?;
+    worked(rt, alloc, RELAY, share, &mut cubes, FEW, exploring)?;
+    Ok((share.status(rt).why, share.trail.noted().late))
+}
+
+/// The same of a share that lies.
 fn left_for<R: Threads + Wait + Sync>(
     rt: &R,
     alloc: Global,
     lie: Lie,
+    exploring: Exploring,
 ) -> Result<(Option<Why>, u64), Fail> {
-    let outcome = searched(rt, alloc, RELAY, 4, lie, ENOUGH)?;
-    Ok((outcome.status.why, outcome.noted.late))
+    let share = opened(rt, alloc, RELAY, 4, lie)?;
+    left_in(rt, alloc, &share, exploring)
+}
+
+/// Why the opening of this search ends over a share whose tree is a leaf, and how many calls it makes after the first that is refused.
+fn ended_in<R: Threads + Wait + Sync>(
+    rt: &R,
+    alloc: Global,
+    encoded: &Encoded,
+    share: &Fake,
+    exploring: Exploring,
+) -> (Option<Why>, u64) {
+    let events = EventCount::new();
+    let kept = KeptLines::new();
+    let closed = ClosedStates::new(alloc);
+    let common = Common {
+        encoded,
+        shared: share,
+        gate: share,
+        events: &events,
+        budget: FEW,
+        exploring,
+        begun: Begun::nothing(),
+        kept: &kept,
+        closed: &closed,
+    };
+    let mut seat = 0;
+    let begun = open(rt, alloc, &common, &mut seat, &[0], 1);
+    (begun.why, share.trail.noted().late)
+}
+
+/// The same of a share of [`RELAY`] that lies.
+fn ended_for<R: Threads + Wait + Sync>(
+    rt: &R,
+    alloc: Global,
+    lie: Lie,
+    exploring: Exploring,
+) -> Result<(Option<Why>, u64), Fail> {
+    let encoded = encoded(rt, alloc, RELAY)?;
+    let share = opened(rt, alloc, RELAY, 0, lie)?;
+    Ok(ended_in(rt, alloc, &encoded, &share, exploring))
 }
 
 /// The text of the share's evidence.
@@ -328,24 +388,50 @@ fn nothing_is_searched_after_a_schedule(rt: HostRuntime) -> Result<(), Fail> {
 #[test]
 fn the_first_refusal_is_left_for(rt: HostRuntime) -> Result<(), Fail> {
     let alloc = rt.alloc();
-    for lie in [
-        Lie::ForeignLine,
-        Lie::NeverOpen,
-        Lie::NeverDerived,
-        Lie::PastEnd,
-    ] {
-        assert_eq!(rt; left_for(&rt, alloc, lie)?, (Some(Why::Left), 0), "{lie:?}");
+    for exploring in MANNERS {
+        for lie in [
+            Lie::ForeignLine,
+            Lie::NeverOpen,
+            Lie::NeverDerived,
+            Lie::PastEnd,
+        ] {
+            let left = left_for(&rt, alloc, lie, exploring)?;
+            assert_eq!(rt; left, (Some(Why::Left), 0), "{lie:?}");
+        }
+        let left = left_for(&rt, alloc, Lie::NoLines, exploring)?;
+        assert_eq!(rt; left, (Some(Why::Memory), 0));
+        let left = left_for(&rt, alloc, Lie::FullLog, exploring)?;
+        assert_eq!(rt; left, (Some(Why::Full), 0));
     }
-    for lie in [Lie::NoMemory, Lie::NoLines] {
-        assert_eq!(rt;
-            left_for(&rt, alloc, lie)?,
-            (Some(Why::Memory), 0),
-            "{lie:?}"
-        );
+    let left = left_for(&rt, alloc, Lie::NoMemory, Exploring::Never)?;
+    assert_eq!(rt; left, (Some(Why::Memory), 0));
+    Ok(())
+}
+
+#[test]
+fn a_forgetful_share_is_left(rt: HostRuntime) -> Result<(), Fail> {
+    let alloc = rt.alloc();
+    for exploring in MANNERS {
+        let left = left_for(&rt, alloc, Lie::Forgetful, exploring)?;
+        assert_eq!(rt; left, (Some(Why::Left), 0));
     }
-    assert_eq!(rt; left_for(&rt, alloc, Lie::FullLog)?, (Some(Why::Full), 0));
-    let outcome = searched(&rt, alloc, RELAY, 4, Lie::Forgetful, ENOUGH)?;
-    assert!(rt; !outcome.status.is_found);
+    Ok(())
+}
+
+#[test]
+fn an_opening_ends_at_its_first_refusal(rt: HostRuntime) -> Result<(), Fail> {
+    let alloc = rt.alloc();
+    for exploring in MANNERS {
+        for lie in [Lie::NeverDerived, Lie::NeverOpen] {
+            let ended = ended_for(&rt, alloc, lie, exploring)?;
+            assert_eq!(rt; ended, (Some(Why::Left), 0), "{lie:?}");
+        }
+        let ended = ended_for(&rt, alloc, Lie::FullLog, exploring)?;
+        assert_eq!(rt; ended, (Some(Why::Full), 0));
+        // An opening fetches no line.
+        let ended = ended_for(&rt, alloc, Lie::ForeignLine, exploring)?;
+        assert_eq!(rt; ended, (None, 0));
+    }
     Ok(())
 }
 
@@ -357,7 +443,15 @@ fn worked_without_room<R: Threads + Wait + Sync>(
 ) -> Result<(), Fail> {
     let cubes = leaves(rt, alloc, share)?;
     let mut cubes = Narrow { cubes };
-    worked(rt, alloc, SENDERS, share, &mut cubes, ENOUGH)
+    worked(
+        rt,
+        alloc,
+        SENDERS,
+        share,
+        &mut cubes,
+        ENOUGH,
+        Exploring::Never,
+    )
 }
 
 /// How many cubes the worker takes that can't put one back, and why it leaves.

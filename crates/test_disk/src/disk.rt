@@ -107,7 +107,10 @@ impl<'a> FileSet for DiskFiles<'a> {
         extent: &Extent<'_>,
     ) -> Result<Vec<u8>, LoadFault> {
         let mut reader = self.disk.reader(path)?;
-        load(alloc, &mut reader, extent)
+        match load(alloc, &mut reader, extent) {
+            Ok(bytes) => Ok(bytes),
+            Err(unloaded) => Err(unloaded.fault),
+        }
     }
 
     fn open_write(&mut self, path: &str) -> Result<DiskWriter<'a>, OpenFault> {

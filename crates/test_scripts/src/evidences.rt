@@ -7,7 +7,7 @@ use clauses::Lit;
 use cubes::CubeFault;
 use pieces::LinesFault;
 use prooflog::{
-    Evidence, EvidenceFault, Text, TrimFault, read_evidence, read_evidence_in, trim,
+    Evidence, EvidenceFault, Text, TrimFault, read_evidence, read_evidence_in, trim, trim_in_place,
     write_evidence, write_evidence_in,
 };
 use refutations::{LineFault, MakeLineFault, TreeFault};
@@ -109,14 +109,32 @@ fn put_written(text: &str, written: Result<Vec<u8>, AllocError>, given: &mut Giv
     }
 }
 
-/// Writes the text of the refutation without the lines that aren't needed.
+/// Writes the text of the refutation without the lines that aren't needed, or why there is none.
 fn put_trimmed(read: &mut Result<Evidence, EvidenceFault>, given: &mut Given) {
     match read {
-        Ok(evidence) => match trim(given.alloc, evidence) {
-            Ok(()) => evidence.put(given),
-            Err(fault) => given.show(fault),
-        },
+        Ok(evidence) => {
+            let copy = trim(given.alloc, evidence);
+            put_both(&copy, evidence, given);
+            mem::drop(copy);
+        }
         Err(fault) => given.show(fault),
+    }
+}
+
+/// Writes what is trimmed in place, where the copy is alike, or why neither is trimmed.
+fn put_both(copy: &Result<Evidence, TrimFault>, evidence: &mut Evidence, given: &mut Given) {
+    match (copy, trim_in_place(given.alloc, evidence)) {
+        (Ok(copy), Ok(())) if are_alike(given.alloc, copy, evidence) => evidence.put(given),
+        (Err(told), Err(fault)) if *told == fault => given.show(fault),
+        _ => given.put("another copy"),
+    }
+}
+
+/// Whether both have one text.
+fn are_alike(alloc: Global, one: &Evidence, other: &Evidence) -> bool {
+    match (write_evidence(alloc, one), write_evidence(alloc, other)) {
+        (Ok(one), Ok(other)) => one.as_slice() == other.as_slice(),
+        _ => false,
     }
 }
 

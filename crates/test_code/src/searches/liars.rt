@@ -4,7 +4,7 @@ ghost use Rattle.std.specs.Prelude.{◌≡◌, ◌≤◌, IfOk, []};
 ghost use Rattle.crossbeam_utils.specs.Seq.{cell_view};
 ghost use Rattle.sharedpool.specs.Views.{knower};
 
-use crate::searches::{ENOUGH, RELAY, encoded, shown_by, tree_of};
+use crate::searches::{ENOUGH, MANNERS, RELAY, encoded, shown_by, tree_of};
 use batches::{Batch, BatchLine, Hint};
 use clauses::{Clause, Lit};
 use encode::Encoded;
@@ -30,6 +30,15 @@ const LEAVES: u32 = 4;
 
 /// How often somebody looks again before it goes on without what it waits for.
 const PATIENCE: u32 = 1_000_000;
+
+/// Who works, and in which way.
+#[derive(Clone, Copy)]
+struct Cast {
+    /// How many workers are liars, which are the first ones.
+    liars: u32,
+    /// When the others search over sets of matched calls.
+    exploring: Exploring,
+}
 
 /// What a worker's thread is handed.
 #[derive(Drop)]
@@ -127,18 +136,18 @@ fn tell_lies<S: Share, R: Wait>(
     }
 }
 
-/// Lets a liar lie, and an honest worker work. The first workers are liars.
+/// Lets a liar lie, and an honest worker work.
 fn act<B: Room, R: Wait>(
     rt: &R,
     alloc: Global,
     common: &Common<SharedPool<B>, Lies>,
     lie: &Batch,
-    liars: u32,
+    cast: Cast,
     station: &mut Station<B>,
 ) {
     let worker = station.seat.worker();
     let seat = &mut station.seat;
-    if worker < liars {
+    if worker < cast.liars {
         tell_lies(rt, alloc, common, lie, seat);
     } else {
         let _noted = work(rt, alloc, common, seat, &mut station.supply, worker);
@@ -152,12 +161,12 @@ fn all_act<B: Room + Send + Sync, R: Threads + Wait + Sync>(
     shared: &SharedPool<B>,
     encoded: &Encoded,
     lie: &Batch,
-    liars: u32,
+    cast: Cast,
     stations: &mut [Station<B>],
 ) {
     let gate = Lies {
         told: AtomicU64::new(0),
-        first: u64::from(liars) * u64::from(ROUNDS / 2),
+        first: u64::from(cast.liars) * u64::from(ROUNDS / 2),
     };
     let events = EventCount::new();
     let kept = KeptLines::new();
@@ -168,7 +177,7 @@ fn all_act<B: Room + Send + Sync, R: Threads + Wait + Sync>(
         gate: &gate,
         events: &events,
         budget: ENOUGH,
-        exploring: Exploring::Never,
+        exploring: cast.exploring,
         begun: Begun::nothing(),
         kept: &kept,
         closed: &closed,
@@ -179,7 +188,7 @@ fn all_act<B: Room + Send + Sync, R: Threads + Wait + Sync>(
         stations,
         threads,
         &|_place, station: &mut Station<B>| {
-            act(rt, alloc, &common, lie, liars, station);
+            act(rt, alloc, &common, lie, cast, station);
         },
     );
 }
@@ -225,7 +234,7 @@ fn acted<B: Room + Send + Sync, R: Threads + Wait + Sync>(
     seats: Vec<Seat<B>>,
     encoded: &Encoded,
     lie: &Batch,
-    liars: u32,
+    cast: Cast,
     workers: u32,
 ) -> Result<Vec<Seat<B>>, Fail>
     requires { workers ≤ 64 }
@@ -237,7 +246,7 @@ fn acted<B: Room + Send + Sync, R: Threads + Wait + Sync>(
         shared,
         encoded,
         lie,
-        liars,
+        cast,
         stations.as_mut_slice(),
     );
     seats_of(alloc, stations)
@@ -265,7 +274,7 @@ fn left_by<B: Room + Send + Sync, R: Threads + Wait + Sync>(
     pool: Pool,
     encoded: &Encoded,
     lie: &Batch,
-    liars: u32,
+    cast: Cast,
     workers: u32,
 ) -> Result<Pool, Fail>
     requires room { (cell.table.shared.table_id ≡ B.table) × (keeper.table_id ≡ B.table) × (cell_view keeper ≡ knower 0 []) }
@@ -275,7 +284,7 @@ fn left_by<B: Room + Send + Sync, R: Threads + Wait + Sync>(
     requires few { workers ≤ 64 }
 {
     let (shared, seats) = SharedPool::<B>::new(alloc, cell, keeper, pool, workers)?;
-    let seats = acted(rt, alloc, &shared, seats, encoded, lie, liars, workers)?;
+    let seats = acted(rt, alloc, &shared, seats, encoded, lie, cast, workers)?;
     finished(rt, alloc, shared, seats)
 }
 
@@ -357,13 +366,13 @@ fn outcome_of(
     })
 }
 
-/// The pool that so many workers leave, the first of which are liars.
+/// The pool that so many workers leave.
 fn left<R: Threads + Wait + Sync>(
     rt: &R,
     alloc: Global,
     encoded: &Encoded,
     lie: &Batch,
-    liars: u32,
+    cast: Cast,
     workers: u32,
 ) -> Result<Pool, Fail>
     requires some { 1 ≤ workers }
@@ -371,37 +380,37 @@ fn left<R: Threads + Wait + Sync>(
 {
     let (cell, keeper) = open_room(alloc)?;
     let pool = opened(rt, alloc)?;
-    left_by::<Brand, R>(rt, alloc, cell, keeper, pool, encoded, lie, liars, workers)
+    left_by::<Brand, R>(rt, alloc, cell, keeper, pool, encoded, lie, cast, workers)
 }
 
-/// What so many workers leave of this formula, the first of which are liars.
+/// What so many workers leave of this formula.
 fn left_of<R: Threads + Wait + Sync>(
     rt: &R,
     alloc: Global,
     encoded: &Encoded,
-    liars: u32,
+    cast: Cast,
     workers: u32,
 ) -> Result<Outcome, Fail>
     requires some { 1 ≤ workers }
     requires few { workers ≤ 64 }
 {
     let lie = lie(alloc, encoded)?;
-    let pool = left(rt, alloc, encoded, &lie, liars, workers)?;
-    outcome_of(rt, alloc, &pool, liars)
+    let pool = left(rt, alloc, encoded, &lie, cast, workers)?;
+    outcome_of(rt, alloc, &pool, cast.liars)
 }
 
-/// What so many workers leave, the first of which are liars.
+/// What so many workers leave.
 fn beside<R: Threads + Wait + Sync>(
     rt: &R,
     alloc: Global,
-    liars: u32,
+    cast: Cast,
     workers: u32,
 ) -> Result<Outcome, Fail>
     requires some { 1 ≤ workers }
     requires few { workers ≤ 64 }
 {
     let encoded = encoded(rt, alloc, RELAY)?;
-    left_of(rt, alloc, &encoded, liars, workers)
+    left_of(rt, alloc, &encoded, cast, workers)
 }
 
 fn judge(rt: &impl Abort, outcome: &Outcome, liars: u32)
@@ -422,14 +431,34 @@ fn judge(rt: &impl Abort, outcome: &Outcome, liars: u32)
 
 #[test]
 fn liar_beside_honest(rt: HostRuntime) -> Result<(), Fail> {
-    let outcome = beside(&rt, rt.alloc(), 1, 2)?;
-    judge(&rt, &outcome, 1);
+    for exploring in MANNERS {
+        let outcome = beside(
+            &rt,
+            rt.alloc(),
+            Cast {
+                liars: 1,
+                exploring,
+            },
+            2,
+        )?;
+        judge(&rt, &outcome, 1);
+    }
     Ok(())
 }
 
 #[test]
 fn liars_beside_honest(rt: HostRuntime) -> Result<(), Fail> {
-    let outcome = beside(&rt, rt.alloc(), 2, 4)?;
-    judge(&rt, &outcome, 2);
+    for exploring in MANNERS {
+        let outcome = beside(
+            &rt,
+            rt.alloc(),
+            Cast {
+                liars: 2,
+                exploring,
+            },
+            4,
+        )?;
+        judge(&rt, &outcome, 2);
+    }
     Ok(())
 }
