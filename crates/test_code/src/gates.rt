@@ -3,9 +3,11 @@
 mod pieces_at_once;
 mod recorded;
 mod telling;
+mod usual;
 
 use prooflog::Text;
 use prover::{Answer, Gate, Options, Searches, Verdict, Why, prove, verdict};
+pub use recorded::MANY;
 use std::alloc::Global;
 use std::sync::Wait;
 use std::sync::atomic::{AtomicBool, AtomicU64, Ordering};

@@ -2,6 +2,7 @@
 mod fake;
 mod liars;
 mod trail;
+mod without_cubes;
 
 ghost use Rattle.std.specs.Prelude.{◌≡◌, IfOk};
 

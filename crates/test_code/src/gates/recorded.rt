@@ -16,7 +16,7 @@ const GATHER: &str =
     "ranks 4/policy none/rank 0/recv * 1/recv * 1/recv * 1/rank 1/send 0 1/rank 2/send 0 1/rank 3/send 0 1/";
 
 /// Ten ranks that each send to one rank. It has no deadlock, which clauses learnt from some thousand conflicts don't show.
-const MANY: &str =
+pub const MANY: &str =
     "ranks 11/policy none/rank 0/recv * 1/recv * 1/recv * 1/recv * 1/recv * 1/recv * 1/recv * 1/recv * 1/recv * 1/recv * 1/rank 1/send 0 1/rank 2/send 0 1/rank 3/send 0 1/rank 4/send 0 1/rank 5/send 0 1/rank 6/send 0 1/rank 7/send 0 1/rank 8/send 0 1/rank 9/send 0 1/rank 10/send 0 1/";
 
 /// Twelve such ranks: more than some ten thousand lines over sets of matched calls are needed, too.

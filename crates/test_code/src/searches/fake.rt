@@ -38,7 +38,12 @@ pub enum Lie {
     NoLines,
     /// It says of each list of lines that is asked for that it would begin past the end.
     PastEnd,
+    /// It says of each list of lines, once a thousand were asked for, that memory ran out.
+    Impatient,
 }
+
+/// How many lists of lines an impatient share hands out.
+const MOST_LISTS: u64 = 1_000;
 
 /// A pool under a lock, and the gate of its worker; a seat is the number of a worker.
 #[derive(Drop)]
@@ -111,6 +116,7 @@ impl Share for Fake {
             Lie::Forgetful => lines_of(alloc, Vec::new(alloc)),
             Lie::NoLines => Err(FetchFault::Memory),
             Lie::PastEnd => Err(FetchFault::PastEnd),
+            Lie::Impatient if self.trail.fetch() > MOST_LISTS => Err(FetchFault::Memory),
             _ => self.pool.lock(rt).fetch(alloc, *seat, from),
         };
         self.trail.ask(reply.is_err());

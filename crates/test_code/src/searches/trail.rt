@@ -22,6 +22,8 @@ pub struct Trail {
     is_refused: AtomicBool,
     /// How many calls were made after that.
     late: AtomicU64,
+    /// How many lists of lines were counted.
+    fetches: AtomicU64,
 }
 
 /// What was noted.
@@ -50,7 +52,15 @@ impl Trail {
             lines: AtomicU64::new(0),
             is_refused: AtomicBool::new(false),
             late: AtomicU64::new(0),
+            fetches: AtomicU64::new(0),
         }
+    }
+
+    /// One more list of lines is asked for. Answers how many were by now.
+    pub fn fetch(&self) -> u64 {
+        self.fetches
+            .fetch_add(1, Ordering::SeqCst)
+            .saturating_add(1)
     }
 
     /// The gate is called before a search.

@@ -1,0 +1,118 @@
+//! Searches with the usual options, past the opening, by workers that wait for one another.
+
+use super::{Counter, MANY, SENDERS, for_cubes, options, shown};
+use prover::Gate;
+use std::sync::atomic::{AtomicBool, AtomicU64, Ordering};
+use std::test::Fail;
+use std::thread;
+use workers::Searched;
+
+/// Waits until this is so; not for ever, which it answers.
+fn came(flag: &AtomicBool) -> bool {
+    for _ in 0..1_000_000_u32 {
+        if flag.load(Ordering::SeqCst) {
+            return true;
+        }
+        thread::yield_now();
+    }
+    false
+}
+
+/// Holds each of two workers back, once it has searched over sets of matched calls, until the other one has too.
+#[derive(Drop)]
+struct Meeting {
+    first: AtomicBool,
+    second: AtomicBool,
+    ran_out: AtomicBool,
+}
+
+impl Gate for Meeting {
+    fn before(&self, _worker: u32, _cube: u32) {}
+
+    fn after(&self, worker: u32, searched: Searched) {
+        if !searched.over_sets {
+            return;
+        }
+        let (own, other) = if worker == 0 {
+            (&self.first, &self.second)
+        } else {
+            (&self.second, &self.first)
+        };
+        if !own.swap(true, Ordering::SeqCst) && !came(other) {
+            self.ran_out.store(true, Ordering::SeqCst);
+        }
+    }
+}
+
+/// Two workers search at the same time: none of them goes on until both have searched over sets of matched calls.
+#[test]
+fn two_workers_hold_each_other(rt: HostRuntime) -> Result<(), Fail> {
+    let gate = Meeting {
+        first: AtomicBool::new(false),
+        second: AtomicBool::new(false),
+        ran_out: AtomicBool::new(false),
+    };
+    let options = options(2, 4, 1_000_000)?;
+    assert_eq!(rt;
+        shown(&rt, rt.alloc(), MANY, options, &gate)?,
+        "no deadlock"
+    );
+    assert!(rt; !gate.ran_out.load(Ordering::SeqCst));
+    assert!(rt; gate.first.load(Ordering::SeqCst) && gate.second.load(Ordering::SeqCst));
+    Ok(())
+}
+
+/// A worker that searches over sets of matched calls goes on to cubes in its turn.
+#[test]
+fn turns_come_to_cubes(rt: HostRuntime) -> Result<(), Fail> {
+    let gate = Counter {
+        asked: AtomicU64::new(0),
+        workers: AtomicU64::new(0),
+    };
+    let options = options(1, 4, 1_000_000)?;
+    assert_eq!(rt;
+        shown(&rt, rt.alloc(), MANY, options, &gate)?,
+        "no deadlock"
+    );
+    assert!(rt; gate.asked.load(Ordering::SeqCst) > 0);
+    Ok(())
+}
+
+/// Holds whoever takes a second cube back until both workers have had one.
+#[derive(Drop)]
+struct Waiting {
+    first: AtomicBool,
+    second: AtomicBool,
+    ran_out: AtomicBool,
+}
+
+impl Gate for Waiting {
+    fn before(&self, worker: u32, _cube: u32) {
+        let (own, other) = if worker == 0 {
+            (&self.first, &self.second)
+        } else {
+            (&self.second, &self.first)
+        };
+        if own.swap(true, Ordering::SeqCst) && !came(other) {
+            self.ran_out.store(true, Ordering::SeqCst);
+        }
+    }
+}
+
+/// Of one cube, a worker without one waits for the half that the other one splits off.
+#[test]
+fn a_worker_waits_for_a_half(rt: HostRuntime) -> Result<(), Fail> {
+    let gate = Waiting {
+        first: AtomicBool::new(false),
+        second: AtomicBool::new(false),
+        ran_out: AtomicBool::new(false),
+    };
+    let options = for_cubes(2, 0, 1_000_000)?;
+    assert_eq!(rt;
+        shown(&rt, rt.alloc(), SENDERS, options, &gate)?,
+        "no deadlock"
+    );
+    assert!(rt; !gate.ran_out.load(Ordering::SeqCst));
+    assert!(rt; gate.first.load(Ordering::SeqCst) && gate.second.load(Ordering::SeqCst));
+    Ok(())
+}
