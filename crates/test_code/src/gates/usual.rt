@@ -18,37 +18,48 @@ fn came(flag: &AtomicBool) -> bool {
     false
 }
 
-/// Holds each of two workers back, once it has searched over sets of matched calls, until the other one has too.
+/// Holds worker 1 back after its first search until worker 0 ends one too, and worker 0 after its first search over sets of matched calls until
+/// worker 1 has ended one.
 #[derive(Drop)]
 struct Meeting {
-    first: AtomicBool,
+    met: AtomicBool,
     second: AtomicBool,
     ran_out: AtomicBool,
+}
+
+impl Meeting {
+    /// Waits for this.
+    fn wait(&self, flag: &AtomicBool) {
+        if !came(flag) {
+            self.ran_out.store(true, Ordering::SeqCst);
+        }
+    }
 }
 
 impl Gate for Meeting {
     fn before(&self, _worker: u32, _cube: u32) {}
 
     fn after(&self, worker: u32, searched: Searched) {
-        if !searched.over_sets {
+        if worker > 0 {
+            if !self.second.swap(true, Ordering::SeqCst) {
+                self.wait(&self.met);
+            }
             return;
         }
-        let (own, other) = if worker == 0 {
-            (&self.first, &self.second)
-        } else {
-            (&self.second, &self.first)
-        };
-        if !own.swap(true, Ordering::SeqCst) && !came(other) {
-            self.ran_out.store(true, Ordering::SeqCst);
+        if searched.over_sets {
+            self.wait(&self.second);
+        }
+        if self.second.load(Ordering::SeqCst) {
+            self.met.store(true, Ordering::SeqCst);
         }
     }
 }
 
-/// Two workers search at the same time: none of them goes on until both have searched over sets of matched calls.
+/// Two workers search at the same time: neither goes on past its first searches before the other one has ended some.
 #[test]
 fn two_workers_hold_each_other(rt: HostRuntime) -> Result<(), Fail> {
     let gate = Meeting {
-        first: AtomicBool::new(false),
+        met: AtomicBool::new(false),
         second: AtomicBool::new(false),
         ran_out: AtomicBool::new(false),
     };
@@ -58,7 +69,7 @@ fn two_workers_hold_each_other(rt: HostRuntime) -> Result<(), Fail> {
         "no deadlock"
     );
     assert!(rt; !gate.ran_out.load(Ordering::SeqCst));
-    assert!(rt; gate.first.load(Ordering::SeqCst) && gate.second.load(Ordering::SeqCst));
+    assert!(rt; gate.met.load(Ordering::SeqCst));
     Ok(())
 }
 
