@@ -13,7 +13,7 @@ use std::thread::Threads;
 use trimming::first_unneeded;
 
 /// Lets each piece pass.
-struct Open;
+pub struct Open;
 
 impl PieceGate for Open {
     fn before(&self, _piece: usize) {}

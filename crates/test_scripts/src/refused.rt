@@ -1,23 +1,58 @@
 //! Calls of the library, each once, and once more where memory is refused to it. A text tells whether it was answered as it should be, or was
 //! refused for want of memory and left what it was lent as it was.
+mod anew;
+mod asked;
 mod deques;
+mod lent;
+mod pools;
 mod searches;
 mod shares;
 mod texts;
 mod trial;
 
+use anew::Taking;
+use asked::{ask_of_text, judge_by, replay_steps, usual_text};
 use shares::Step as Seated;
 use std::alloc::{AllocError, Global};
 use std::sync::Wait;
 use std::thread::Threads;
-use texts::{Asked, HANGS, REFUTATION, tried};
 use trial::Outcome;
 
-/// What comes of the call of this name.
-pub fn told_of<R: Threads + Wait + Sync>(rt: &R, alloc: Global, name: &str) -> &'static str {
-    match outcome_of(rt, alloc, name) {
+/// What comes of the call that a word names: `encode`, or `encode` with the text of a program behind a space, in which `/` stands for the end
+/// of a line.
+pub fn told_of<R: Threads + Wait + Sync>(rt: &R, alloc: Global, word: &str) -> &'static str {
+    let outcome = match word.split_once(' ') {
+        Some((name, text)) => outcome_of_words(rt, alloc, name, text),
+        None => outcome_of(rt, alloc, word),
+    };
+    match outcome {
         Ok(outcome) => outcome.text(),
         Err(_error) => "memory before the call",
+    }
+}
+
+/// What comes of a call on the text of a program, which has to be answered as it was before.
+fn outcome_of_words<R: Threads + Sync>(
+    rt: &R,
+    alloc: Global,
+    name: &str,
+    words: &str,
+) -> Result<Outcome, AllocError> {
+    let text = words.replace(alloc, '/', "\n")?;
+    outcome_of_text(rt, alloc, name, &text, None)
+}
+
+fn outcome_of_text<R: Threads + Sync>(
+    rt: &R,
+    alloc: Global,
+    name: &str,
+    text: &str,
+    wanted: Option<usize>,
+) -> Result<Outcome, AllocError> {
+    match name {
+        "encode" => texts::make_formula(rt, alloc, text, wanted),
+        "schedule_of" => searches::tell_schedule(rt, alloc, text, wanted),
+        _ => ask_of_text(rt, alloc, name, text, wanted),
     }
 }
 
@@ -27,27 +62,26 @@ fn outcome_of<R: Threads + Wait + Sync>(
     alloc: Global,
     name: &str,
 ) -> Result<Outcome, AllocError> {
-    match name {
-        "read" => Ok(tried(alloc, &Asked::Read(HANGS))),
-        "resolve" => texts::resolve(alloc),
-        "pairs" => texts::find_pairs(alloc),
-        "earlier" => texts::find_earlier(rt, alloc),
-        "encode" => texts::make_formula(rt, alloc),
-        "split" => texts::split_cubes(rt, alloc),
-        "schedule_of" => searches::tell_schedule(rt, alloc),
-        _ => outcome_of_evidence(rt, alloc, name),
+    match usual_text(name) {
+        Some((text, wanted)) => outcome_of_text(rt, alloc, name, text, Some(wanted)),
+        None => outcome_of_lent(rt, alloc, name),
     }
 }
 
-fn outcome_of_evidence<R: Threads + Wait + Sync>(
+fn outcome_of_lent<R: Threads + Wait + Sync>(
     rt: &R,
     alloc: Global,
     name: &str,
 ) -> Result<Outcome, AllocError> {
     match name {
-        "read_evidence" => Ok(tried(alloc, &Asked::ReadEvidence(REFUTATION))),
-        "write_evidence" => texts::write_proof(alloc),
-        "replay" => texts::replay_steps(alloc),
+        "replay" => replay_steps(rt, alloc),
+        "trim_in_place" => lent::trim_evidence(alloc),
+        "Tree::split_leaf" => lent::split_tree(alloc),
+        "load" => Ok(lent::load_bytes(alloc)),
+        "store" => Ok(lent::store_bytes()),
+        "leave_kept" => pools::leave_kept(rt, alloc),
+        "push" => deques::push_and_settle(alloc),
+        "deal" => Ok(deques::deal_and_settle(alloc)),
         _ => outcome_of_search(rt, alloc, name),
     }
 }
@@ -63,11 +97,26 @@ fn outcome_of_search<R: Threads + Wait + Sync>(
         "closed" => searches::close_cube(rt, alloc),
         "model" => searches::find_model(rt, alloc),
         "budget" => searches::use_up_budget(rt, alloc),
-        "push" => deques::push_and_settle(alloc),
-        "deal" => Ok(deques::deal_and_settle(alloc)),
-        "run" => shares::run_calls(rt, alloc),
-        _ => with_seats(rt, alloc, name),
+        _ => outcome_of_taking(rt, alloc, name),
     }
+}
+
+/// What comes of a call that takes over what it is given.
+fn outcome_of_taking<R: Threads + Wait + Sync>(
+    rt: &R,
+    alloc: Global,
+    name: &str,
+) -> Result<Outcome, AllocError> {
+    let taking = match name {
+        "run" => Taking::Run,
+        "Pool::new" => Taking::Pool,
+        "SharedPool::new" => Taking::SharedPool,
+        "Lines::from_vec" => Taking::Lines,
+        "write_evidence_in" => Taking::Write,
+        "settle_all" => Taking::Settle,
+        _ => return with_seats(rt, alloc, name),
+    };
+    anew::take_over(rt, alloc, taking)
 }
 
 /// What comes of a worker's call of a pool under a lock.
@@ -86,7 +135,19 @@ fn with_seats<R: Threads + Wait + Sync>(
         "path" => Seated::Path,
         "assemble" => Seated::Assemble,
         "finish" => Seated::Finish,
-        _ => return Ok(Outcome::Unknown),
+        _ => return outcome_of_pool(rt, alloc, name),
     };
     shares::call_with_seats(rt, alloc, step)
+}
+
+/// What comes of calls of a pool, or of one on clauses, proof lines and evidences.
+fn outcome_of_pool<R: Threads + Sync>(
+    rt: &R,
+    alloc: Global,
+    name: &str,
+) -> Result<Outcome, AllocError> {
+    match pools::make_calls(rt, alloc, name) {
+        Ok(Outcome::Unknown) => judge_by(rt, alloc, name),
+        outcome => outcome,
+    }
 }

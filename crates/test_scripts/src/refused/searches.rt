@@ -1,5 +1,6 @@
 //! The solver's calls. After want of memory it has to say that it is spent.
-use crate::refused::texts::{Asked, GATHER, HANGS, encoded, tried};
+use crate::refused::asked::{Asked, tried};
+use crate::refused::texts::{GATHER, HANGS, encoded};
 use crate::refused::trial::{Answer, Outcome, own_where};
 use cdcl::{Found, SolveFault, Solver};
 use clauses::Formula;
@@ -173,24 +174,43 @@ fn tells_spent(alloc: Global, solver: &mut Solver<'_>, budget: u64) -> bool {
     is_spent
 }
 
-pub fn tell_schedule<R: Threads + Sync>(rt: &R, alloc: Global) -> Result<Outcome, AllocError> {
-    let encoded = encoded(rt, alloc, HANGS)?;
-    let outcome = tell_schedule_of(alloc, &encoded);
+/// What comes of telling the schedule of a text's program, which has so many steps, or else as many as it had before.
+pub fn tell_schedule<R: Threads + Sync>(
+    rt: &R,
+    alloc: Global,
+    text: &str,
+    wanted: Option<usize>,
+) -> Result<Outcome, AllocError> {
+    let encoded = encoded(rt, alloc, text)?;
+    let outcome = tell_schedule_of(rt, alloc, &encoded, wanted);
     mem::drop(encoded);
     outcome
 }
 
-fn tell_schedule_of(alloc: Global, encoded: &Encoded) -> Result<Outcome, AllocError> {
+fn tell_schedule_of<R: Threads + Sync>(
+    rt: &R,
+    alloc: Global,
+    encoded: &Encoded,
+    wanted: Option<usize>,
+) -> Result<Outcome, AllocError> {
     let found = model_of(alloc, encoded)?;
-    let outcome = schedule_told(alloc, encoded, &found);
+    let outcome = schedule_told(rt, alloc, encoded, &found, wanted);
     mem::drop(found);
     outcome
 }
 
-fn schedule_told(alloc: Global, encoded: &Encoded, found: &Found) -> Result<Outcome, AllocError> {
+fn schedule_told<R: Threads + Sync>(
+    rt: &R,
+    alloc: Global,
+    encoded: &Encoded,
+    found: &Found,
+    wanted: Option<usize>,
+) -> Result<Outcome, AllocError> {
     match found {
-        Found::Model(assignment) => Ok(tried(alloc, &Asked::Schedule(encoded, assignment))),
-        _ => Err(AllocError),
+        Found::Model(assignment) => {
+            tried(rt, alloc, &Asked::Schedule(encoded, assignment), wanted)
+        }
+        _ => Ok(Outcome::Other),
     }
 }
 

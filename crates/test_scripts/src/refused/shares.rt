@@ -48,7 +48,7 @@ struct Lent {
     steps: Vec<Taken>,
 }
 
-fn line_of(alloc: Global, literals: &[Lit], hints: &[Hint]) -> Result<BatchLine, AllocError> {
+pub fn line_of(alloc: Global, literals: &[Lit], hints: &[Hint]) -> Result<BatchLine, AllocError> {
     let Ok(clause) = Clause::make(alloc, literals) else {
         return Err(AllocError);
     };
@@ -57,7 +57,7 @@ fn line_of(alloc: Global, literals: &[Lit], hints: &[Hint]) -> Result<BatchLine,
 }
 
 /// A line without literals, which follows from the formula of [`BUFFERED`].
-fn batch(alloc: Global) -> Result<Batch, AllocError> {
+pub fn batch(alloc: Global) -> Result<Batch, AllocError> {
     let hints = [Hint::Known(1), Hint::Known(3), Hint::Known(2)];
     let line = line_of(alloc, &[], &hints)?;
     Ok(Batch {
@@ -72,7 +72,7 @@ fn make_lent(alloc: Global) -> Result<Lent, AllocError> {
 }
 
 /// A tree of one leaf.
-fn one_leaf(alloc: Global, encoded: &Encoded) -> Result<Tree, AllocError>
+pub fn one_leaf(alloc: Global, encoded: &Encoded) -> Result<Tree, AllocError>
     ensures { IfOk result (λ tree. tree.variables ≡ encoded.now.formula.variables) }
 {
     let variables = encoded.formula().variables();
@@ -82,7 +82,7 @@ fn one_leaf(alloc: Global, encoded: &Encoded) -> Result<Tree, AllocError>
     Tree::new(alloc, variables)
 }
 
-fn pool_of<R: Threads + Sync>(rt: &R, alloc: Global, text: &str) -> Result<Pool, AllocError>
+pub fn pool_of<R: Threads + Sync>(rt: &R, alloc: Global, text: &str) -> Result<Pool, AllocError>
     ensures { IfOk result (λ pool. pool.history ≡ []) }
 {
     match encoded(rt, alloc, text) {
@@ -290,7 +290,7 @@ fn answer<S: Share, R: Wait>(
 
 fn asked_lines<S: Share, R: Wait>(rt: &R, alloc: Global, shared: &S, seat: &mut S::Seat) -> Answer {
     let reply = shared.fetch(rt, alloc, seat, 0);
-    let answer = fetched(&reply);
+    let answer = fetched(&reply, 1);
     mem::drop(reply);
     answer
 }
@@ -311,9 +311,10 @@ fn published(reply: Result<u32, PublishFault>) -> Answer {
     }
 }
 
-fn fetched(reply: &Result<Lines, FetchFault>) -> Answer {
+/// Whether so many lines were handed out.
+pub fn fetched(reply: &Result<Lines, FetchFault>, count: usize) -> Answer {
     match reply {
-        Ok(lines) => own_where(lines.len() == 1),
+        Ok(lines) => own_where(lines.len() == count),
         Err(FetchFault::Memory) => Answer::Memory,
         Err(_fault) => Answer::Other,
     }
@@ -443,19 +444,8 @@ fn wanted(step: Step, is_refused: bool) -> usize {
     }
 }
 
-/// What comes of calls that one run makes, of a new pool each time.
-pub fn run_calls<R: Threads + Sync>(rt: &R, alloc: Global) -> Result<Outcome, AllocError> {
-    let first = run_once(rt, alloc)?;
-    if first != Answer::Memory {
-        return Ok(Outcome::of(first, true, first));
-    }
-    match run_once(rt, alloc) {
-        Ok(second) => Ok(Outcome::of(first, true, second)),
-        Err(AllocError) => Ok(Outcome::Twice),
-    }
-}
-
-fn run_once<R: Threads + Sync>(rt: &R, alloc: Global) -> Result<Answer, AllocError> {
+/// Makes calls by one run, of a new pool.
+pub fn run_once<R: Threads + Sync>(rt: &R, alloc: Global) -> Result<Answer, AllocError> {
     let events = events(alloc)?;
     let answer = run_events(rt, alloc, events.as_slice());
     mem::drop(events);
@@ -527,7 +517,7 @@ fn are_own(replies: &[Reply]) -> bool {
 fn is_own(reply: &Reply) -> bool {
     match reply {
         Reply::Publish(given) => *given == Ok(4),
-        Reply::Fetch(given) => fetched(given) == Answer::Own,
+        Reply::Fetch(given) => fetched(given, 1) == Answer::Own,
         Reply::Close(given) => given.is_ok(),
         Reply::Leave => true,
         _ => false,
