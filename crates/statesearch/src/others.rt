@@ -1,7 +1,7 @@
 //! What searches over the same program tell each other.
 
 use clauses::Clause;
-use pages::Lines;
+use pages::{Lines, Log};
 use std::alloc::{AllocError, Global};
 use std::collections::HashMap;
 
@@ -21,50 +21,55 @@ pub(crate) struct Told {
     pub(crate) clause: u32,
 }
 
-/// Lines of the log, from this place on, from 0.
-#[derive(Drop)]
-struct Part {
-    first: usize,
-    lines: Lines,
-}
-
 /// What others closed, and the lines by which they did, and what this search closed in the last batch. Nothing of it is trusted: a clause that isn't the
 /// state's is of no use, and no harm.
 #[derive(Drop)]
 pub(crate) struct Others {
+    alloc: Global,
     clauses: usize,
     numbers: HashMap<u64, u32>,
     pub(crate) told: Vec<Told>,
-    /// What is known of the log, in its order.
-    log: Vec<Part>,
+    /// The place in the log, from 0, of the first line that is known of it.
+    first: usize,
+    /// The lines that are known, from there on.
+    log: Log,
 }
 
 impl Others {
     /// Nothing, of a formula of so many clauses.
     pub(crate) fn new(alloc: Global, clauses: usize) -> Others {
         Others {
+            alloc,
             clauses,
             numbers: HashMap::new(alloc),
             told: Vec::new(alloc),
-            log: Vec::new(alloc),
+            first: 0,
+            log: Log::new(alloc),
         }
     }
 
-    /// Puts these lines of the log in, from this place on, which come after those that are in.
+    /// Puts these lines of the log in, from this place on, in place of those that are in from there on. Where lines between are missing, all others go.
     pub(crate) fn put_lines(&mut self, first: usize, lines: Lines) -> Result<(), AllocError> {
-        if lines.len() > 0 {
-            self.log.push(Part { first, lines })?;
+        if lines.len() == 0 {
+            return Ok(());
         }
-        Ok(())
+        match first.checked_sub(self.first) {
+            Some(from) if from <= self.log.len() => self.log.follow(self.alloc, from, &lines),
+            _ => self.put_first(first, &lines),
+        }
     }
 
-    /// Puts these states and lemmas in, whose clauses are those of the formula and then of the lines. As long as there are none, no lines are kept.
+    /// Puts these lines in alone.
+    fn put_first(&mut self, first: usize, lines: &Lines) -> Result<(), AllocError> {
+        self.log = Log::new(self.alloc);
+        self.first = first;
+        self.log.follow(self.alloc, 0, lines)
+    }
+
+    /// Puts these states and lemmas in, whose clauses are those of the formula and then of the lines.
     pub(crate) fn take_in(&mut self, closings: &[Closing]) -> Result<(), AllocError> {
         for closing in closings {
             self.numbers.insert(closing.state, closing.number)?;
-        }
-        if self.is_empty() {
-            self.log.clear();
         }
         Ok(())
     }
@@ -94,9 +99,7 @@ impl Others {
     /// The line of this number.
     fn line(&self, number: u32) -> Option<&Clause> {
         let place = (number as usize).checked_sub(self.clauses)?.checked_sub(1)?;
-        let after = self.log.partition_point(|part| part.first <= place);
-        let part = self.log.get(after.checked_sub(1)?)?;
-        let line = part.lines.get(place.checked_sub(part.first)?)?;
+        let line = self.log.get(place.checked_sub(self.first)?)?;
         Some(line.clause())
     }
 
