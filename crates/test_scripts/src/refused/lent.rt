@@ -79,7 +79,10 @@ fn split_twice(alloc: Global, tree: &mut Tree, depth: u32) -> Outcome {
 
 fn split_last(alloc: Global, tree: &mut Tree, depth: u32) -> Answer {
     let leaf = depth.saturating_mul(2);
-    if depth >= tree.variables() || !tree.is_leaf(leaf) {
+    if !tree.is_leaf(leaf) {
+        return Answer::Other;
+    }
+    if depth >= tree.variables() {
         return Answer::Other;
     }
     match tree.split_leaf(alloc, leaf, depth + 1) {

@@ -132,7 +132,7 @@ fn made_twice(alloc: Global, pool: &mut Pool, batch: &Batch, call: Call) -> Outc
 fn answer(alloc: Global, pool: &mut Pool, batch: &Batch, call: Call) -> Answer {
     match call {
         Call::Publish(number) => published(pool.publish(alloc, 0, batch), number),
-        Call::PublishAs(number) => published(pool.publish_as(alloc, 0, batch, false), number),
+        Call::PublishAs(number) => published(pool.publish_as(alloc, 0, batch, None), number),
         Call::Fetch(lines) => asked_lines(alloc, pool, lines),
         Call::Split(leaf, below) => split(pool.split_leaf(alloc, 0, leaf, 2), below),
         Call::Path(leaf, literals) => told_path(alloc, pool, leaf, literals),
