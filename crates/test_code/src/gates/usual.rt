@@ -1,8 +1,8 @@
 //! Searches with the usual options, past the opening, by workers that wait for one another.
 
-use super::{Counter, MANY, SENDERS, for_cubes, options, shown};
+use super::{MANY, SENDERS, for_cubes, options, shown};
 use prover::Gate;
-use std::sync::atomic::{AtomicBool, AtomicU64, Ordering};
+use std::sync::atomic::{AtomicBool, Ordering};
 use std::test::Fail;
 use std::thread;
 use workers::Searched;
@@ -73,19 +73,38 @@ fn two_workers_hold_each_other(rt: HostRuntime) -> Result<(), Fail> {
     Ok(())
 }
 
+/// Notes whether a search over sets of matched calls was followed by one below a cube.
+#[derive(Drop)]
+struct Turning {
+    over_sets: AtomicBool,
+    below_cubes: AtomicBool,
+}
+
+impl Gate for Turning {
+    fn before(&self, _worker: u32, _cube: u32) {}
+
+    fn after(&self, _worker: u32, searched: Searched) {
+        if searched.over_sets {
+            self.over_sets.store(true, Ordering::SeqCst);
+        } else if self.over_sets.load(Ordering::SeqCst) {
+            self.below_cubes.store(true, Ordering::SeqCst);
+        }
+    }
+}
+
 /// A worker that searches over sets of matched calls goes on to cubes in its turn.
 #[test]
 fn turns_come_to_cubes(rt: HostRuntime) -> Result<(), Fail> {
-    let gate = Counter {
-        asked: AtomicU64::new(0),
-        workers: AtomicU64::new(0),
+    let gate = Turning {
+        over_sets: AtomicBool::new(false),
+        below_cubes: AtomicBool::new(false),
     };
     let options = options(1, 4, 1_000_000)?;
     assert_eq!(rt;
         shown(&rt, rt.alloc(), MANY, options, &gate)?,
         "no deadlock"
     );
-    assert!(rt; gate.asked.load(Ordering::SeqCst) > 0);
+    assert!(rt; gate.below_cubes.load(Ordering::SeqCst));
     Ok(())
 }
 
