@@ -19,8 +19,8 @@ never_so text number p call taken never =
       narrowed = never.is_narrowed.narrowed;
       is = never.is_narrowed.is_narrowed;
       never = λ steps stuck.
-        let same : never.is_narrowed.narrowed ≡ never.never.p = one_program_of_bytes never.pinned never.is_narrowed.narrowed never.never.p never.is_narrowed.is_text never.never.text in
-        never.never.never steps (subst (λ (q : MpiProgram). IsStuckRun q steps) same stuck);
+          let same : never.is_narrowed.narrowed ≡ never.never.p = one_program_of_bytes never.pinned never.is_narrowed.narrowed never.never.p never.is_narrowed.is_text never.never.text in
+          never.never.never steps (subst (λ (q : MpiProgram). IsStuckRun q steps) same stuck);
     }
 
 pub known_is_taken : KnownIsTaken
@@ -30,4 +30,4 @@ known_is_taken text choice p steps weighed is_text stuck =
     let there : IsStuckRun known.p steps = subst (λ (q : MpiProgram). IsStuckRun q steps) same stuck in
     subst (λ (q : MpiProgram). IsTakenSo q (after_all (opening q) steps) choice.call choice.taken) (sym same)
     (taken_where_never_otherwise known.p choice.call choice.taken choice.others.items steps (is_program text known.p known.is_text) known.is_choice.leaves known.is_choice.ways known.none.some
-     (λ k d below. never_so text choice.line known.p choice.call _ (known.none.never k d below)) there)
+    (λ k d below. never_so text choice.line known.p choice.call _ (known.none.never k d below)) there)

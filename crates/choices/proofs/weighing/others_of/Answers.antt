@@ -19,9 +19,9 @@ loop-other-preserved g c =
     record {
       some = λ known. c.loop-other.invariant.some (c.is_known-known.ensures known).0;
       never = λ known.
-        let both = c.is_known-known.ensures known in
-        never_more c.args.text.now c.args.program.now c.args.choice.now c.deref-other-items.result.now c.args.choice.now.others.items c.loop-other.other-index _ c.in_ok-way.way (omega arith)
-        c.deref-other-items.ensures.value both.1 c.in_ok-way.ensures (c.loop-other.invariant.never both.0);
+          let both = c.is_known-known.ensures known in
+          never_more c.args.text.now c.args.program.now c.args.choice.now c.deref-other-items.result.now c.args.choice.now.others.items c.loop-other.other-index _ c.in_ok-way.way (omega arith)
+          c.deref-other-items.ensures.value both.1 c.in_ok-way.ensures (c.loop-other.invariant.never both.0);
     }
 
 pub returns-then-known : goal.returns-then-known
