@@ -14,15 +14,33 @@ use workers::{Begun, ClosedStates, Common, Cubes, EventCount, Exploring, KeptLin
 /// How often in a row a cube is asked for in vain at most while nothing is learnt.
 const PATIENCE: u32 = 3;
 
-/// Cubes that are handed out once nothing more is learnt without them.
+/// How long a worker is left without a cube: as long as it learns without one.
+#[derive(Drop)]
+struct Patience {
+    /// How many lines were learnt when a cube was asked for last.
+    lines: u64,
+    /// How often it was asked for since.
+    asked: u32,
+}
+
+impl Patience {
+    /// Whether the worker still waits, after so many lines.
+    fn waits(&mut self, lines: u64) -> bool {
+        if lines > self.lines {
+            self.lines = lines;
+            self.asked = 0;
+        }
+        self.asked = self.asked.saturating_add(1);
+        self.asked <= PATIENCE
+    }
+}
+
+/// Cubes that are handed out once nothing more is learnt without them, and no room for more.
 #[derive(Drop)]
 struct Late<'s> {
     share: &'s Fake,
     cubes: Supply,
-    /// How many lines were learnt when it was asked for last.
-    lines: u64,
-    /// How often it was asked for since.
-    asked: u32,
+    patience: Patience,
 }
 
 impl Cubes for Late<'_> {
@@ -31,20 +49,14 @@ impl Cubes for Late<'_> {
     ghost deques = { λ late. deques_of late.cubes };
 
     fn take(&mut self) -> Option<u32> {
-        let lines = self.share.trail.noted().lines;
-        if lines > self.lines {
-            self.lines = lines;
-            self.asked = 0;
-        }
-        self.asked = self.asked.saturating_add(1);
-        if self.asked <= PATIENCE {
+        if self.patience.waits(self.share.trail.noted().lines) {
             return None;
         }
         self.cubes.take()
     }
 
     fn put(&mut self, cube: u32) -> Result<(), u32> {
-        self.cubes.put(cube)
+        Err(cube)
     }
 }
 
@@ -87,8 +99,7 @@ fn learnt_without_a_cube<R: Threads + Wait + Sync>(
     let mut cubes = Late {
         share,
         cubes: leaves(rt, alloc, share)?,
-        lines: 0,
-        asked: 0,
+        patience: Patience { lines: 0, asked: 0 },
     };
     let kept = KeptLines::new();
     worked_on(
@@ -101,7 +112,7 @@ fn learnt_without_a_cube<R: Threads + Wait + Sync>(
         Exploring::InTurn,
         0,
     )?;
-    Ok(cubes.lines)
+    Ok(cubes.patience.lines)
 }
 
 /// The first turn over sets of matched calls takes 4,000 lines; the formula needs more than 5,000.
