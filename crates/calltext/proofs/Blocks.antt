@@ -5,6 +5,7 @@ use Rattle.std.proofs.lemmas.List.{append-nil, map_push}
 use Rattle.plaintext.specs.Plain.{line_of}
 use Rattle.calltext.specs.declared.call.CallLine.{CallLine}
 use Rattle.calltext.specs.Grammar.{call_words, rank_words, rank_lines, CallFits}
+use Rattle.calltext.specs.declared.limits.Limits.{Limits}
 use Rattle.plaintext.proofs.FirstFaults.{heads}
 use Rattle.calltext.proofs.Verbs.{call_no_rank, call_no_end}
 
@@ -37,8 +38,8 @@ rank_lines-rank done = rank_lines-append 0 done ([] ∷ []) ∙ ap (λ (k : ℕ)
 abbrev pub AllKeep : (CallLine → Type 0) → List (List CallLine) → Type 0
 AllKeep P ranks = AllByRecursion (AllByRecursion P) ranks
 
-abbrev pub AllFit : List (List CallLine) → Type 0
-AllFit ranks = AllKeep CallFits ranks
+abbrev pub AllFit : Limits → List (List CallLine) → Type 0
+AllFit l ranks = AllKeep (CallFits l) ranks
 
 -- a call that keeps P where all do, the next rank's heading or the end
 abbrev pub Follows : (CallLine → Type 0) → Type 0 → ℕ → ℕ → ℕ → List ℕ → Type 0

@@ -1,5 +1,5 @@
 -- A text has one value, bytes have one fault, and never both.
-use Rattle.std.proofs.Common.{◌≡◌, ◌≢◌, ℕ, ◌+◌, ◌<◌, ◌≤◌, List, [], ◌∷◌, ◌++◌, length, get_or, refl, sym, ap, subst, ◌∙◌, append_assoc, arith, inl, inr, ◌⊎◌}
+use Rattle.std.proofs.Common.{◌≡◌, ◌≢◌, ℕ, ◌+◌, ◌<◌, ◌≤◌, List, [], ◌∷◌, ◌++◌, Option, None, Some, length, get_or, refl, sym, ap, subst, ◌∙◌, append_assoc, arith, inl, inr, ◌⊎◌}
 use Rattle.std.specs.List.{AllByRecursion, join_with_byte}
 use Rattle.plaintext.specs.Plain.{line_of, text_lines}
 use Rattle.plaintext.specs.Fronts.{to_end, IsClosedUnderFronts, IsFirstFaultyLine}
@@ -8,12 +8,15 @@ use Rattle.plaintext.proofs.Ascii.{ascii_clash}
 use Rattle.plaintext.proofs.Texts.{line_of_injective}
 use Rattle.plaintext.proofs.FirstFaults.{heads, same_line, no_faulty_line, closed_begin, begins_whole}
 use Rattle.calltext.specs.declared.call.CallLine.{CallLine}
+use Rattle.calltext.specs.declared.call.CallLine.TheVariants.{Send, Receive, MatchedProbe, Probe, MatchedReceive, Wait, WaitAll, SendReceive}
 use Rattle.calltext.specs.declared.call.Policy.{Policy}
 use Rattle.calltext.specs.declared.call.Policy.TheVariants as policies
 use Rattle.calltext.specs.declared.fault.ReadFault.{ReadFault}
 use Rattle.calltext.specs.declared.fault.ReadFault.TheVariants as faults
-use Rattle.calltext.specs.Grammar.{ProgramText, call_words, ranks_words, policy_word, policy_words, rank_words, rank_lines, program_lines, HasNames, AllHaveNames, Fits, IsText}
-use Rattle.calltext.specs.Fault.{CanGoOn, Why, HasFault}
+use Rattle.calltext.specs.Grammar.{ProgramText, call_words, ranks_words, policy_word, policy_words, rank_words, rank_lines, program_lines, HasNames, AllHaveNames, Fits, IsTextWithin, IsText, UpTo, IsCommunicator, IsInRange, CallFits}
+use Rattle.calltext.specs.Fault.{CanGoOn, Why, HasFaultWithin, HasFault}
+use Rattle.calltext.specs.Limits.{short, IsWithin}
+use Rattle.calltext.specs.declared.limits.Limits.{Limits}
 use Rattle.calltext.specs.RefusedWords.{refused_word, refused_words}
 use Rattle.calltext.proofs.Places.{refused_word_injective}
 use Rattle.calltext.proofs.RefusedLaws.{plain_refused}
@@ -62,8 +65,8 @@ second_word a b x y e = cc
 policy_line_injective : (p q : Policy) → line_of (policy_words p) ≡ line_of (policy_words q) → p ≡ q
 policy_line_injective p q e = policy_key p q (second_word _ _ (policy_word p) (policy_word q) (line_of_injective (policy_words p) (policy_words q) (omega arith) (omega arith) (plain_policy p) (plain_policy q) e))
 
-pub lines_of_text : (bytes : List ℕ) (p : ProgramText) → IsText bytes p → text_lines bytes ≡ to_end (program_lines p)
-lines_of_text bytes p t = ap text_lines t.text ∙ text_of_lines p (have_names p t.fits)
+pub lines_of_text : (limits : Limits) (bytes : List ℕ) (p : ProgramText) → IsTextWithin limits bytes p → text_lines bytes ≡ to_end (program_lines p)
+lines_of_text limits bytes p t = ap text_lines t.text ∙ text_of_lines p (have_names limits p t.fits)
 
 pub one_program : (p q : ProgramText) → AllHaveNames p → AllHaveNames q → to_end (program_lines p) ≡ to_end (program_lines q) → p ≡ q
 one_program p q names names' e =
@@ -73,24 +76,30 @@ one_program p q names names' e =
     let ranks : p.ranks ≡ q.ranks = ranks_injective 0 p.ranks q.ranks names names' two.1 in
     λ i. record { policy = policy i; ranks = ranks i }
 
+pub one_value_within : (limits : Limits) (bytes : List ℕ) (p q : ProgramText) → IsTextWithin limits bytes p → IsTextWithin limits bytes q → p ≡ q
+one_value_within limits bytes p q s t = one_program p q (have_names limits p s.fits) (have_names limits q t.fits) (sym (lines_of_text limits bytes p s) ∙ lines_of_text limits bytes q t)
+
 pub one_value : (bytes : List ℕ) (p q : ProgramText) → IsText bytes p → IsText bytes q → p ≡ q
-one_value bytes p q s t = one_program p q (have_names p s.fits) (have_names q t.fits) (sym (lines_of_text bytes p s) ∙ lines_of_text bytes q t)
+one_value = one_value_within short
 
 -- ---- a text has no fault
 
-closed : IsClosedUnderFronts CanGoOn
-closed = closed_begin ProgramText Fits program_lines
+closed : (limits : Limits) → IsClosedUnderFronts (CanGoOn limits)
+closed limits = closed_begin ProgramText (Fits limits) program_lines
 
-no_first_fault : (bytes : List ℕ) (p : ProgramText) (before : List (List ℕ)) (line : List ℕ) → IsText bytes p → IsFirstFaultyLine CanGoOn bytes before line → ⊥
-no_first_fault bytes p before line t f = no_faulty_line CanGoOn bytes before line closed (begins_whole ProgramText Fits program_lines p bytes t.fits (lines_of_text bytes p t)) f
+no_first_fault : (limits : Limits) (bytes : List ℕ) (p : ProgramText) (before : List (List ℕ)) (line : List ℕ) → IsTextWithin limits bytes p → IsFirstFaultyLine (CanGoOn limits) bytes before line → ⊥
+no_first_fault limits bytes p before line t f = no_faulty_line (CanGoOn limits) bytes before line (closed limits) (begins_whole ProgramText (Fits limits) program_lines p bytes t.fits (lines_of_text limits bytes p t)) f
+
+pub text_has_no_fault_within : (limits : Limits) (bytes : List ℕ) (p : ProgramText) (fault : ReadFault) → IsTextWithin limits bytes p → HasFaultWithin limits bytes fault → fault ≡ faults.Memory
+text_has_no_fault_within limits bytes p faults.Memory t h = refl
+text_has_no_fault_within limits bytes p faults.TooLarge t h = absurd (omega (arith, t.small, h))
+text_has_no_fault_within limits bytes p (faults.NotAscii k) t h = absurd (no_first_fault limits bytes p h.1 h.2 t h.3)
+text_has_no_fault_within limits bytes p (faults.Syntax k) t h = absurd (no_first_fault limits bytes p h.1 h.2 t h.3)
+text_has_no_fault_within limits bytes p (faults.OutOfProfile k w) t h = absurd (no_first_fault limits bytes p h.1 h.2 t h.3)
+text_has_no_fault_within limits bytes p (faults.Range k) t h = absurd (no_first_fault limits bytes p h.1 h.2 t h.3)
 
 pub text_has_no_fault : (bytes : List ℕ) (p : ProgramText) (fault : ReadFault) → IsText bytes p → HasFault bytes fault → fault ≡ faults.Memory
-text_has_no_fault bytes p faults.Memory t h = refl
-text_has_no_fault bytes p faults.TooLarge t h = absurd (omega (arith, t.small, h))
-text_has_no_fault bytes p (faults.NotAscii k) t h = absurd (no_first_fault bytes p h.1 h.2 t h.3)
-text_has_no_fault bytes p (faults.Syntax k) t h = absurd (no_first_fault bytes p h.1 h.2 t h.3)
-text_has_no_fault bytes p (faults.OutOfProfile k w) t h = absurd (no_first_fault bytes p h.1 h.2 t h.3)
-text_has_no_fault bytes p (faults.Range k) t h = absurd (no_first_fault bytes p h.1 h.2 t h.3)
+text_has_no_fault = text_has_no_fault_within short
 
 -- ---- bytes have one fault
 
@@ -129,37 +138,82 @@ one_why a faults.Memory before line v w = absurd w
 one_why a faults.TooLarge before line v w = absurd w
 
 -- a fault of a line
-OfLine : List ℕ → ReadFault → Type 0
-OfLine bytes fault = (length bytes ≤ 1048576) × (before : List (List ℕ)) × (line : List ℕ) × IsFirstFaultyLine CanGoOn bytes before line × Why fault before line
+OfLine : Limits → List ℕ → ReadFault → Type 0
+OfLine limits bytes fault = (length bytes ≤ limits.bytes) × (before : List (List ℕ)) × (line : List ℕ) × IsFirstFaultyLine (CanGoOn limits) bytes before line × Why fault before line
 
-one_of_line : (bytes : List ℕ) (a b : ReadFault) → OfLine bytes a → OfLine bytes b → a ≡ b
+one_of_line : (limits : Limits) (bytes : List ℕ) (a b : ReadFault) → OfLine limits bytes a → OfLine limits bytes b → a ≡ b
 unfolding OfLine
-one_of_line bytes a b (s, x, l, f, v) (t, y, m, g, w) =
-    let same = same_line CanGoOn bytes x y l m closed f g in
+one_of_line limits bytes a b (s, x, l, f, v) (t, y, m, g, w) =
+    let same = same_line (CanGoOn limits) bytes x y l m (closed limits) f g in
     one_why a b x l v (subst (λ (k : List ℕ). Why b x k) (sym same.1) (subst (λ (k : List (List ℕ)). Why b k m) (sym same.0) w))
 
-cases : (bytes : List ℕ) (a : ReadFault) → HasFault bytes a → a ≢ faults.Memory → OfLine bytes a ⊎ ((a ≡ faults.TooLarge) × (1048576 < length bytes))
+cases : (limits : Limits) (bytes : List ℕ) (a : ReadFault) → HasFaultWithin limits bytes a → a ≢ faults.Memory → OfLine limits bytes a ⊎ ((a ≡ faults.TooLarge) × (limits.bytes < length bytes))
 unfolding OfLine
-cases bytes faults.Memory h n = absurd (n refl)
-cases bytes faults.TooLarge h n = inr (refl, h)
-cases bytes (faults.NotAscii k) h n = inl h
-cases bytes (faults.Syntax k) h n = inl h
-cases bytes (faults.OutOfProfile k w) h n = inl h
-cases bytes (faults.Range k) h n = inl h
+cases limits bytes faults.Memory h n = absurd (n refl)
+cases limits bytes faults.TooLarge h n = inr (refl, h)
+cases limits bytes (faults.NotAscii k) h n = inl h
+cases limits bytes (faults.Syntax k) h n = inl h
+cases limits bytes (faults.OutOfProfile k w) h n = inl h
+cases limits bytes (faults.Range k) h n = inl h
 
-size : (bytes : List ℕ) (a : ReadFault) → OfLine bytes a → length bytes ≤ 1048576
+size : (limits : Limits) (bytes : List ℕ) (a : ReadFault) → OfLine limits bytes a → length bytes ≤ limits.bytes
 unfolding OfLine
-size bytes a h = h.0
+size limits bytes a h = h.0
 
-pub one_fault : (bytes : List ℕ) (a b : ReadFault) → HasFault bytes a → HasFault bytes b → a ≢ faults.Memory → b ≢ faults.Memory → a ≡ b
-one_fault bytes a b h k m n =
-    elim (cases bytes a h m) [
-      | inl x ↦ elim (cases bytes b k n) [
-        | inl y ↦ one_of_line bytes a b x y
-        | inr y ↦ absurd (omega (arith, size bytes a x, y.1))
+pub one_fault_within : (limits : Limits) (bytes : List ℕ) (a b : ReadFault) → HasFaultWithin limits bytes a → HasFaultWithin limits bytes b → a ≢ faults.Memory → b ≢ faults.Memory → a ≡ b
+one_fault_within limits bytes a b h k m n =
+    elim (cases limits bytes a h m) [
+      | inl x ↦ elim (cases limits bytes b k n) [
+        | inl y ↦ one_of_line limits bytes a b x y
+        | inr y ↦ absurd (omega (arith, size limits bytes a x, y.1))
       ]
-      | inr x ↦ elim (cases bytes b k n) [
-        | inl y ↦ absurd (omega (arith, size bytes b y, x.1))
+      | inr x ↦ elim (cases limits bytes b k n) [
+        | inl y ↦ absurd (omega (arith, size limits bytes b y, x.1))
         | inr y ↦ x.0 ∙ sym y.0
       ]
     ]
+
+pub one_fault : (bytes : List ℕ) (a b : ReadFault) → HasFault bytes a → HasFault bytes b → a ≢ faults.Memory → b ≢ faults.Memory → a ≡ b
+one_fault = one_fault_within short
+
+-- ---- wider limits
+
+upto_wider : (a b : ℕ) (n : Option ℕ) → a ≤ b → UpTo a n → UpTo b n
+upto_wider a b None le fits = tt
+upto_wider a b (Some n) le fits = omega arith
+
+comm_wider : (a b : ℕ) (n : Option ℕ) → a ≤ b → IsCommunicator a n → IsCommunicator b n
+comm_wider a b None le fits = tt
+comm_wider a b (Some n) le fits = (fits.0, omega (arith, fits.1))
+
+module _ (one other : Limits) (within : IsWithin one other) where
+  pattern_wider : (s t k : Option ℕ) → UpTo one.peer s × UpTo one.tag t × IsCommunicator one.communicator k → UpTo other.peer s × UpTo other.tag t × IsCommunicator other.communicator k
+  pattern_wider s t k fits = (upto_wider one.peer other.peer s within.peer fits.0, upto_wider one.tag other.tag t within.tag fits.1, comm_wider one.communicator other.communicator k within.communicator fits.2)
+
+  range_wider : (c : CallLine) → IsInRange one c → IsInRange other c
+  range_wider (Send m r d t k) fits = (omega (arith, within.peer, fits.0), omega (arith, within.tag, fits.1), comm_wider one.communicator other.communicator k within.communicator fits.2)
+  range_wider (Receive r s t k) fits = pattern_wider s t k fits
+  range_wider (MatchedProbe h s t k) fits = pattern_wider s t k fits
+  range_wider (Probe s t k) fits = pattern_wider s t k fits
+  range_wider (MatchedReceive r h) fits = tt
+  range_wider (Wait r) fits = tt
+  range_wider (WaitAll rs) fits = tt
+  range_wider (SendReceive d t s u k) fits = let p = pattern_wider s u k (fits.2, fits.3, fits.4) in (omega (arith, within.peer, fits.0), omega (arith, within.tag, fits.1), p.0, p.1, p.2)
+
+  calls_wider : (calls : List CallLine) → AllByRecursion (CallFits one) calls → AllByRecursion (CallFits other) calls
+  calls_wider [] fit = tt
+  calls_wider (c ∷ calls) fit = ((fit.0.0, range_wider c fit.0.1), calls_wider calls fit.1)
+
+  ranks_wider : (ranks : List (List CallLine)) → AllByRecursion (AllByRecursion (CallFits one)) ranks → AllByRecursion (AllByRecursion (CallFits other)) ranks
+  ranks_wider [] fit = tt
+  ranks_wider (r ∷ ranks) fit = (calls_wider r fit.0, ranks_wider ranks fit.1)
+
+  pub text_wider : (bytes : List ℕ) (p : ProgramText) → IsTextWithin one bytes p → IsTextWithin other bytes p
+  text_wider bytes p t = record {
+    fits = record { some = t.fits.some; ranks = omega (arith, t.fits.ranks, within.ranks); calls = ranks_wider p.ranks t.fits.calls };
+    small = omega (arith, t.small, within.bytes);
+    text = t.text;
+  }
+
+pub same_text_within : (one other : Limits) (bytes : List ℕ) (p : ProgramText) → IsWithin one other → IsTextWithin one bytes p → IsTextWithin other bytes p × ((q : ProgramText) → IsTextWithin other bytes q → q ≡ p)
+same_text_within one other bytes p within t = let wide = text_wider one other within bytes p t in (wide, λ q u. one_value_within other bytes q p u wide)

@@ -13,11 +13,12 @@ use Rattle.calltext.specs.declared.call.Policy.{Policy}
 use Rattle.calltext.specs.declared.call.Policy.TheVariants as policies
 use Rattle.calltext.specs.declared.line.LineFault.{LineFault}
 use Rattle.calltext.specs.declared.line.LineFault.TheVariants as wrong
-use Rattle.calltext.specs.Grammar.{ProgramText, call_words, ranks_words, policy_words, rank_words, rank_lines, program_lines, HasNames, AllHaveNames, IsInRange, CallFits, Fits, IsText, IsReadable}
-use Rattle.calltext.specs.Fault.{HasShape, CanGoOn, IsOutOfProfile, HasFault}
+use Rattle.calltext.specs.Grammar.{ProgramText, call_words, ranks_words, policy_words, rank_words, rank_lines, program_lines, HasNames, AllHaveNames, IsInRange, CallFits, Fits, IsTextWithin, IsReadableWithin}
+use Rattle.calltext.specs.Fault.{HasShape, CanGoOn, IsOutOfProfile, HasFaultWithin}
 use Rattle.calltext.specs.Item.{IsWrong, IsRanksLine, AreRanksWithin, IsPolicyLine, IsFirstRankLine, IsWrongHeading, BeginsWrong}
 use Rattle.calltext.specs.Body.{HasRanks, StopsAt, IsStopped}
 use Rattle.calltext.specs.AtLine.{at_line}
+use Rattle.calltext.specs.declared.limits.Limits.{Limits}
 use Rattle.calltext.proofs.Lines.{plain_ranks, ranks_injective}
 use Rattle.calltext.proofs.Once.{call_line_injective, ascii_in_program, have_names, rank_names}
 use Rattle.calltext.proofs.Blocks.{AllFit, AllKeep, call_lines, Follows, after_ranks, rank_lines-append}
@@ -25,26 +26,26 @@ use Rattle.calltext.proofs.Verbs.{call_no_rank, call_no_end}
 
 -- ---- what is wrong with a line after the lines before it
 
-abbrev pub Judged : LineFault → List (List ℕ) → List ℕ → Type 0
-Judged wrong.Memory before line = ⊤
-Judged wrong.NotAscii before line = IsNotAscii line
-Judged wrong.Syntax before line = IsAscii line × ((place : ℕ) → IsOutOfProfile before line place → ⊥) × (HasShape (before ++ line ∷ []) → ⊥)
-Judged (wrong.OutOfProfile w) before line = IsAscii line × IsOutOfProfile before line w × (HasShape (before ++ line ∷ []) → ⊥)
-Judged wrong.Range before line = IsAscii line × HasShape (before ++ line ∷ []) × (CanGoOn (before ++ line ∷ []) → ⊥)
+abbrev pub Judged : Limits → LineFault → List (List ℕ) → List ℕ → Type 0
+Judged limits wrong.Memory before line = ⊤
+Judged limits wrong.NotAscii before line = IsNotAscii line
+Judged limits wrong.Syntax before line = IsAscii line × ((place : ℕ) → IsOutOfProfile before line place → ⊥) × (HasShape (before ++ line ∷ []) → ⊥)
+Judged limits (wrong.OutOfProfile w) before line = IsAscii line × IsOutOfProfile before line w × (HasShape (before ++ line ∷ []) → ⊥)
+Judged limits wrong.Range before line = IsAscii line × HasShape (before ++ line ∷ []) × (CanGoOn limits (before ++ line ∷ []) → ⊥)
 
-shape_from : (lines : List (List ℕ)) → CanGoOn lines → HasShape lines
-shape_from lines (p, fits, begins) = (p, have_names p fits, begins)
+shape_from : (limits : Limits) (lines : List (List ℕ)) → CanGoOn limits lines → HasShape lines
+shape_from limits lines (p, fits, begins) = (p, have_names limits p fits, begins)
 
-pub judged_fault : (fault : LineFault) (bytes : List ℕ) (before : List (List ℕ)) (line : List ℕ) (after : List (List ℕ)) (k : ℕ) → length bytes ≤ 1048576
-    → text_lines bytes ≡ before ++ line ∷ after → k ≡ length before + 1 → CanGoOn before → Judged fault before line → HasFault bytes (at_line fault k)
-judged_fault wrong.Memory bytes before line after k small cut at good j = tt
-judged_fault wrong.NotAscii bytes before line after k small cut at good j =
-    (small, before, line, record { cut = (after, cut); good = good; bad = λ (p, fits, (more, e)). ascii_in_program p before line more (have_names p fits) e j }, (at, j))
-judged_fault wrong.Syntax bytes before line after k small cut at good j =
-    (small, before, line, record { cut = (after, cut); good = good; bad = λ g. j.2 (shape_from (before ++ line ∷ []) g) }, (at, j.0, j.1, j.2))
-judged_fault (wrong.OutOfProfile w) bytes before line after k small cut at good j =
-    (small, before, line, record { cut = (after, cut); good = good; bad = λ g. j.2 (shape_from (before ++ line ∷ []) g) }, (at, j.0, j.1, j.2))
-judged_fault wrong.Range bytes before line after k small cut at good j =
+pub judged_fault : (limits : Limits) (fault : LineFault) (bytes : List ℕ) (before : List (List ℕ)) (line : List ℕ) (after : List (List ℕ)) (k : ℕ) → length bytes ≤ limits.bytes
+    → text_lines bytes ≡ before ++ line ∷ after → k ≡ length before + 1 → CanGoOn limits before → Judged limits fault before line → HasFaultWithin limits bytes (at_line fault k)
+judged_fault limits wrong.Memory bytes before line after k small cut at good j = tt
+judged_fault limits wrong.NotAscii bytes before line after k small cut at good j =
+    (small, before, line, record { cut = (after, cut); good = good; bad = λ (p, fits, (more, e)). ascii_in_program p before line more (have_names limits p fits) e j }, (at, j))
+judged_fault limits wrong.Syntax bytes before line after k small cut at good j =
+    (small, before, line, record { cut = (after, cut); good = good; bad = λ g. j.2 (shape_from limits (before ++ line ∷ []) g) }, (at, j.0, j.1, j.2))
+judged_fault limits (wrong.OutOfProfile w) bytes before line after k small cut at good j =
+    (small, before, line, record { cut = (after, cut); good = good; bad = λ g. j.2 (shape_from limits (before ++ line ∷ []) g) }, (at, j.0, j.1, j.2))
+judged_fault limits wrong.Range bytes before line after k small cut at good j =
     (small, before, line, record { cut = (after, cut); good = good; bad = j.2 }, (at, j.0, j.1))
 
 -- ---- programs that begin with given lines
@@ -81,43 +82,43 @@ filled_begins n policy done le =
           ∙ ap (λ (ls : List (List ℕ)). line_of (ranks_words n) ∷ line_of (policy_words policy) ∷ ls) (append_assoc (rank_lines 0 done) (rank_lines (0 + length done) e) ([] ∷ [])),
     )
 
-filled_fits : (n : ℕ) (policy : Policy) (done : List (List CallLine)) → 1 ≤ n → n ≤ 64 → length done ≤ n → AllFit done → Fits (filled n policy done)
+filled_fits : (limits : Limits) (n : ℕ) (policy : Policy) (done : List (List CallLine)) → 1 ≤ n → n ≤ limits.ranks → length done ≤ n → AllFit limits done → Fits limits (filled n policy done)
 unfolding filled
-filled_fits n policy done low high le fit = record {
+filled_fits limits n policy done low high le fit = record {
   some = omega (arith, length-filled n policy done le);
   ranks = omega (arith, length-filled n policy done le);
-  calls = keep-empties CallFits done (n - length done) fit;
+  calls = keep-empties (CallFits limits) done (n - length done) fit;
 }
 
 filled_names : (n : ℕ) (policy : Policy) (done : List (List CallLine)) → AllKeep HasNames done → AllHaveNames (filled n policy done)
 unfolding filled
 filled_names n policy done names = keep-empties HasNames done (n - length done) names
 
-pub good_body : (n : ℕ) (policy : Policy) (done : List (List CallLine)) → 1 ≤ n → n ≤ 64 → length done ≤ n → AllFit done → CanGoOn (line_of (ranks_words n) ∷ line_of (policy_words policy) ∷ rank_lines 0 done)
-good_body n policy done low high le fit = (filled n policy done, filled_fits n policy done low high le fit, filled_begins n policy done le)
+pub good_body : (limits : Limits) (n : ℕ) (policy : Policy) (done : List (List CallLine)) → 1 ≤ n → n ≤ limits.ranks → length done ≤ n → AllFit limits done → CanGoOn limits (line_of (ranks_words n) ∷ line_of (policy_words policy) ∷ rank_lines 0 done)
+good_body limits n policy done low high le fit = (filled n policy done, filled_fits limits n policy done low high le fit, filled_begins n policy done le)
 
 -- a front of what can go on can go on
-front : (x y : List (List ℕ)) → CanGoOn (x ++ y) → CanGoOn x
-front = closed_begin ProgramText Fits program_lines
+front : (limits : Limits) (x y : List (List ℕ)) → CanGoOn limits (x ++ y) → CanGoOn limits x
+front limits = closed_begin ProgramText (Fits limits) program_lines
 
-good_nothing : CanGoOn []
-good_nothing = front [] (line_of (ranks_words 1) ∷ line_of (policy_words policies.Any) ∷ []) (good_body 1 policies.Any [] (omega arith) (omega arith) (omega arith) tt)
+good_nothing : (limits : Limits) → 1 ≤ limits.ranks → CanGoOn limits []
+good_nothing limits some = front limits [] (line_of (ranks_words 1) ∷ line_of (policy_words policies.Any) ∷ []) (good_body limits 1 policies.Any [] (omega arith) some (omega arith) tt)
 
-good_ranks : (n : ℕ) → 1 ≤ n → n ≤ 64 → CanGoOn (line_of (ranks_words n) ∷ [])
-good_ranks n low high = front (line_of (ranks_words n) ∷ []) (line_of (policy_words policies.Any) ∷ []) (good_body n policies.Any [] low high (omega arith) tt)
+good_ranks : (limits : Limits) (n : ℕ) → 1 ≤ n → n ≤ limits.ranks → CanGoOn limits (line_of (ranks_words n) ∷ [])
+good_ranks limits n low high = front limits (line_of (ranks_words n) ∷ []) (line_of (policy_words policies.Any) ∷ []) (good_body limits n policies.Any [] low high (omega arith) tt)
 
 -- ---- the headings
 
 ranks_line_injective : (m n : ℕ) → line_of (ranks_words m) ≡ line_of (ranks_words n) → m ≡ n
 ranks_line_injective m n e = ranks_injective m n (line_of_injective (ranks_words m) (ranks_words n) (omega arith) (omega arith) (plain_ranks m) (plain_ranks n) e)
 
-pub first_heading : (fault : LineFault) (bytes : List ℕ) → length bytes ≤ 1048576 → BeginsWrong IsRanksLine AreRanksWithin fault bytes → HasFault bytes (at_line fault 1)
-first_heading fault bytes small (line, after, cut, w) = judged_fault fault bytes [] line after 1 small cut (omega arith) good_nothing (judge fault w)
+pub first_heading : (limits : Limits) (fault : LineFault) (bytes : List ℕ) → 1 ≤ limits.ranks → length bytes ≤ limits.bytes → BeginsWrong IsRanksLine (AreRanksWithin limits) fault bytes → HasFaultWithin limits bytes (at_line fault 1)
+first_heading limits fault bytes some small (line, after, cut, w) = judged_fault limits fault bytes [] line after 1 small cut (omega arith) (good_nothing limits some) (judge fault w)
   where
     begins : (p : ProgramText) (more : List (List ℕ)) → to_end (program_lines p) ≡ ([] ++ line ∷ []) ++ more → line_of (ranks_words (length p.ranks)) ≡ line
     begins p more e = (heads (line_of (ranks_words (length p.ranks))) line _ more e).0
 
-    judge : (fault : LineFault) → IsWrongHeading IsRanksLine AreRanksWithin fault line → Judged fault [] line
+    judge : (fault : LineFault) → IsWrongHeading IsRanksLine (AreRanksWithin limits) fault line → Judged limits fault [] line
     judge wrong.Memory w = tt
     judge wrong.NotAscii w = w
     judge wrong.Syntax w = (w.0, λ x o. omega (arith, o.0), λ (p, _, (more, e)). w.1 (length p.ranks, begins p more e))
@@ -128,24 +129,24 @@ first_heading fault bytes small (line, after, cut, w) = judged_fault fault bytes
       λ (p, fits, (more, e)). over (length p.ranks, fits.some, fits.ranks, begins p more e),
     )
 
-pub second_heading : (fault : LineFault) (bytes rest : List ℕ) (n : ℕ) → length bytes ≤ 1048576 → 1 ≤ n → n ≤ 64 → text_lines bytes ≡ line_of (ranks_words n) ∷ text_lines rest
-    → BeginsWrong IsPolicyLine IsPolicyLine fault rest → HasFault bytes (at_line fault 2)
-second_heading fault bytes rest n small low high first (line, after, cut, w) =
-    judged_fault fault bytes (line_of (ranks_words n) ∷ []) line after 2 small (first ∙ ap (λ (ls : List (List ℕ)). line_of (ranks_words n) ∷ ls) cut) (omega arith) (good_ranks n low high) (judge fault w)
+pub second_heading : (limits : Limits) (fault : LineFault) (bytes rest : List ℕ) (n : ℕ) → length bytes ≤ limits.bytes → 1 ≤ n → n ≤ limits.ranks → text_lines bytes ≡ line_of (ranks_words n) ∷ text_lines rest
+    → BeginsWrong IsPolicyLine IsPolicyLine fault rest → HasFaultWithin limits bytes (at_line fault 2)
+second_heading limits fault bytes rest n small low high first (line, after, cut, w) =
+    judged_fault limits fault bytes (line_of (ranks_words n) ∷ []) line after 2 small (first ∙ ap (λ (ls : List (List ℕ)). line_of (ranks_words n) ∷ ls) cut) (omega arith) (good_ranks limits n low high) (judge fault w)
   where
-    judge : (fault : LineFault) → IsWrongHeading IsPolicyLine IsPolicyLine fault line → Judged fault (line_of (ranks_words n) ∷ []) line
+    judge : (fault : LineFault) → IsWrongHeading IsPolicyLine IsPolicyLine fault line → Judged limits fault (line_of (ranks_words n) ∷ []) line
     judge wrong.Memory w = tt
     judge wrong.NotAscii w = w
     judge wrong.Syntax w = (w.0, λ x o. omega (arith, o.0), λ (p, _, (more, e)). w.1 (p.policy, (heads (line_of (policy_words p.policy)) line _ more (heads _ (line_of (ranks_words n)) _ _ e).1).0))
     judge (wrong.OutOfProfile x) w = absurd w
     judge wrong.Range w = absurd (w.2 w.1)
 
-pub third_heading : (fault : LineFault) (bytes rest rest2 : List ℕ) (n : ℕ) (policy : Policy) → length bytes ≤ 1048576 → 1 ≤ n → n ≤ 64
+pub third_heading : (limits : Limits) (fault : LineFault) (bytes rest rest2 : List ℕ) (n : ℕ) (policy : Policy) → length bytes ≤ limits.bytes → 1 ≤ n → n ≤ limits.ranks
     → text_lines bytes ≡ line_of (ranks_words n) ∷ text_lines rest → text_lines rest ≡ line_of (policy_words policy) ∷ text_lines rest2
-    → BeginsWrong IsFirstRankLine IsFirstRankLine fault rest2 → HasFault bytes (at_line fault 3)
-third_heading fault bytes rest rest2 n policy small low high first second (line, after, cut, w) =
-    judged_fault fault bytes (line_of (ranks_words n) ∷ line_of (policy_words policy) ∷ []) line after 3 small
-    (first ∙ ap (λ (ls : List (List ℕ)). line_of (ranks_words n) ∷ ls) (second ∙ ap (λ (ls : List (List ℕ)). line_of (policy_words policy) ∷ ls) cut)) (omega arith) (good_body n policy [] low high (omega arith) tt) (judge fault w)
+    → BeginsWrong IsFirstRankLine IsFirstRankLine fault rest2 → HasFaultWithin limits bytes (at_line fault 3)
+third_heading limits fault bytes rest rest2 n policy small low high first second (line, after, cut, w) =
+    judged_fault limits fault bytes (line_of (ranks_words n) ∷ line_of (policy_words policy) ∷ []) line after 3 small
+    (first ∙ ap (λ (ls : List (List ℕ)). line_of (ranks_words n) ∷ ls) (second ∙ ap (λ (ls : List (List ℕ)). line_of (policy_words policy) ∷ ls) cut)) (omega arith) (good_body limits n policy [] low high (omega arith) tt) (judge fault w)
   where
     first_rank : (ranks : List (List CallLine)) (more : List (List ℕ)) → 0 < length ranks → rank_lines 0 ranks ++ [] ∷ [] ≡ line ∷ more → line_of (rank_words 0) ≡ line
     first_rank [] more lt e = absurd (omega arith)
@@ -157,7 +158,7 @@ third_heading fault bytes rest rest2 n policy small low high first second (line,
         let two = heads (line_of (policy_words p.policy)) (line_of (policy_words policy)) _ _ one.1 in
         first_rank p.ranks more (omega (arith, ranks_line_injective (length p.ranks) n one.0)) two.1
 
-    judge : (fault : LineFault) → IsWrongHeading IsFirstRankLine IsFirstRankLine fault line → Judged fault (line_of (ranks_words n) ∷ line_of (policy_words policy) ∷ []) line
+    judge : (fault : LineFault) → IsWrongHeading IsFirstRankLine IsFirstRankLine fault line → Judged limits fault (line_of (ranks_words n) ∷ line_of (policy_words policy) ∷ []) line
     judge wrong.Memory w = tt
     judge wrong.NotAscii w = w
     judge wrong.Syntax w = (w.0, λ x o. omega (arith, o.0), λ (p, _, (more, e)). w.1 (begins p more e))
@@ -197,13 +198,13 @@ names-push_call [] c keep h = tt
 names-push_call (d ∷ []) c keep h = (calls_push HasNames d c keep.0 h, tt)
 names-push_call (d ∷ e ∷ done) c keep h = (keep.0, names-push_call (e ∷ done) c keep.1 h)
 
-pub in_ranks : (fault : LineFault) (k : ℕ) (bytes rest rest2 rest3 : List ℕ) (n : ℕ) (policy : Policy) → length bytes ≤ 1048576 → 1 ≤ n → n ≤ 64
+pub in_ranks : (limits : Limits) (fault : LineFault) (k : ℕ) (bytes rest rest2 rest3 : List ℕ) (n : ℕ) (policy : Policy) → length bytes ≤ limits.bytes → 1 ≤ n → n ≤ limits.ranks
     → text_lines bytes ≡ line_of (ranks_words n) ∷ text_lines rest → text_lines rest ≡ line_of (policy_words policy) ∷ text_lines rest2 → text_lines rest2 ≡ line_of (rank_words 0) ∷ text_lines rest3
-    → StopsAt fault k n rest3 → HasFault bytes (at_line fault k)
-in_ranks fault k bytes rest rest2 rest3 n policy small low high first second third stop =
-    judged_fault fault bytes before line stop.after k small
+    → StopsAt limits fault k n rest3 → HasFaultWithin limits bytes (at_line fault k)
+in_ranks limits fault k bytes rest rest2 rest3 n policy small low high first second third stop =
+    judged_fault limits fault bytes before line stop.after k small
     (first ∙ ap (λ (ls : List (List ℕ)). line_of (ranks_words n) ∷ ls) (second ∙ ap (λ (ls : List (List ℕ)). line_of (policy_words policy) ∷ ls) (third ∙ stop.cut)))
-    (omega (arith, stop.place)) (good_body n policy done low high stop.within stop.fit) (judge fault stop.why)
+    (omega (arith, stop.place)) (good_body limits n policy done low high stop.within stop.fit) (judge fault stop.why)
   where
     done : List (List CallLine)
     done = stop.done
@@ -235,20 +236,20 @@ in_ranks fault k bytes rest rest2 rest3 n policy small low high first second thi
     shaped : (c : CallLine) → HasNames c → line_of (call_words c) ≡ line → HasShape (before ++ line ∷ [])
     shaped c names spelled =
         let begins = filled_begins n policy (push_call done c) (omega (arith, length-push_call done c, stop.within)) in
-        (filled n policy (push_call done c), filled_names n policy (push_call done c) (names-push_call done c (rank_names done stop.fit) names), (begins.0, begins.1 ∙ ap (λ (ls : List (List ℕ)). line_of (ranks_words n) ∷ line_of (policy_words policy) ∷ (ls ++ begins.0)) (rank_lines-push_call 0 done c stop.some ∙ ap (λ (l : List ℕ). rank_lines 0 done ++ l ∷ []) spelled)))
+        (filled n policy (push_call done c), filled_names n policy (push_call done c) (names-push_call done c (rank_names limits done stop.fit) names), (begins.0, begins.1 ∙ ap (λ (ls : List (List ℕ)). line_of (ranks_words n) ∷ line_of (policy_words policy) ∷ (ls ++ begins.0)) (rank_lines-push_call 0 done c stop.some ∙ ap (λ (l : List ℕ). rank_lines 0 done ++ l ∷ []) spelled)))
 
-    over : (c : CallLine) → HasNames c → line_of (call_words c) ≡ line → (IsInRange c → ⊥) → CanGoOn (before ++ line ∷ []) → ⊥
+    over : (c : CallLine) → HasNames c → line_of (call_words c) ≡ line → (IsInRange limits c → ⊥) → CanGoOn limits (before ++ line ∷ []) → ⊥
     over c names spelled unfit (p, fits, (more, e)) =
-        let f = follows CallFits p more e in
+        let f = follows (CallFits limits) p more e in
         elim f.1 [
-          | inl x ↦ let fit = x.2 fits.calls in unfit (subst IsInRange (call_line_injective x.0 c fit.0 names (x.1 ∙ sym spelled)) fit.1)
+          | inl x ↦ let fit = x.2 fits.calls in unfit (subst (IsInRange limits) (call_line_injective x.0 c fit.0 names (x.1 ∙ sym spelled)) fit.1)
           | inr y ↦ elim y [
             | inl x ↦ call_no_rank c (0 + length done) (spelled ∙ sym x.0)
             | inr x ↦ call_no_end c (spelled ∙ x.0)
           ]
         ]
 
-    judge : (fault : LineFault) → IsWrong fault (length done) n line → Judged fault before line
+    judge : (fault : LineFault) → IsWrong limits fault (length done) n line → Judged limits fault before line
     judge wrong.Memory w = tt
     judge wrong.NotAscii w = w
     judge wrong.Syntax w = (w.0, λ x o. w.3 x (o.1, o.2, o.3), nothing w.1 w.2)
@@ -259,21 +260,21 @@ in_ranks fault k bytes rest rest2 rest3 n policy small low high first second thi
         long (d ∷ ds) some = omega arith
     judge wrong.Range w = (w.0, shaped w.1 w.2 w.3, over w.1 w.2 w.3 w.4)
 
-pub stopped : (fault : LineFault) (k : ℕ) (bytes rest rest2 rest3 : List ℕ) (n : ℕ) (policy : Policy) → length bytes ≤ 1048576 → 1 ≤ n → n ≤ 64
+pub stopped : (limits : Limits) (fault : LineFault) (k : ℕ) (bytes rest rest2 rest3 : List ℕ) (n : ℕ) (policy : Policy) → length bytes ≤ limits.bytes → 1 ≤ n → n ≤ limits.ranks
     → text_lines bytes ≡ line_of (ranks_words n) ∷ text_lines rest → text_lines rest ≡ line_of (policy_words policy) ∷ text_lines rest2 → text_lines rest2 ≡ line_of (rank_words 0) ∷ text_lines rest3
-    → IsStopped fault k n rest3 → HasFault bytes (at_line fault k)
-stopped wrong.Memory k bytes rest rest2 rest3 n policy small low high first second third stop = tt
-stopped wrong.NotAscii k bytes rest rest2 rest3 n policy small low high first second third stop = in_ranks wrong.NotAscii k bytes rest rest2 rest3 n policy small low high first second third stop
-stopped wrong.Syntax k bytes rest rest2 rest3 n policy small low high first second third stop = in_ranks wrong.Syntax k bytes rest rest2 rest3 n policy small low high first second third stop
-stopped (wrong.OutOfProfile w) k bytes rest rest2 rest3 n policy small low high first second third stop = in_ranks (wrong.OutOfProfile w) k bytes rest rest2 rest3 n policy small low high first second third stop
-stopped wrong.Range k bytes rest rest2 rest3 n policy small low high first second third stop = in_ranks wrong.Range k bytes rest rest2 rest3 n policy small low high first second third stop
+    → IsStopped limits fault k n rest3 → HasFaultWithin limits bytes (at_line fault k)
+stopped limits wrong.Memory k bytes rest rest2 rest3 n policy small low high first second third stop = tt
+stopped limits wrong.NotAscii k bytes rest rest2 rest3 n policy small low high first second third stop = in_ranks limits wrong.NotAscii k bytes rest rest2 rest3 n policy small low high first second third stop
+stopped limits wrong.Syntax k bytes rest rest2 rest3 n policy small low high first second third stop = in_ranks limits wrong.Syntax k bytes rest rest2 rest3 n policy small low high first second third stop
+stopped limits (wrong.OutOfProfile w) k bytes rest rest2 rest3 n policy small low high first second third stop = in_ranks limits (wrong.OutOfProfile w) k bytes rest rest2 rest3 n policy small low high first second third stop
+stopped limits wrong.Range k bytes rest rest2 rest3 n policy small low high first second third stop = in_ranks limits wrong.Range k bytes rest rest2 rest3 n policy small low high first second third stop
 
 -- ---- a text
 
-pub is_text : (bytes rest rest2 rest3 : List ℕ) (n : ℕ) (policy : Policy) (ranks : List (List CallLine)) → length bytes ≤ 1048576 → 1 ≤ n → n ≤ 64
+pub is_text : (limits : Limits) (bytes rest rest2 rest3 : List ℕ) (n : ℕ) (policy : Policy) (ranks : List (List CallLine)) → length bytes ≤ limits.bytes → 1 ≤ n → n ≤ limits.ranks
     → text_lines bytes ≡ line_of (ranks_words n) ∷ text_lines rest → text_lines rest ≡ line_of (policy_words policy) ∷ text_lines rest2 → text_lines rest2 ≡ line_of (rank_words 0) ∷ text_lines rest3
-    → HasRanks n rest3 ranks → IsText bytes (record { policy = policy; ranks = ranks })
-is_text bytes rest rest2 rest3 n policy ranks small low high first second third has =
+    → HasRanks limits n rest3 ranks → IsTextWithin limits bytes (record { policy = policy; ranks = ranks })
+is_text limits bytes rest rest2 rest3 n policy ranks small low high first second third has =
     let p : ProgramText = record { policy = policy; ranks = ranks } in
     let whole : text_lines bytes ≡ to_end (program_lines p) =
     first ∙ ap (λ (ls : List (List ℕ)). line_of (ranks_words n) ∷ ls) (second ∙ ap (λ (ls : List (List ℕ)). line_of (policy_words policy) ∷ ls) (third ∙ has.cut))
@@ -285,5 +286,5 @@ is_text bytes rest rest2 rest3 n policy ranks small low high first second third 
     }
 
 -- what has a text can be read
-pub readable : (bytes : List ℕ) (p : ProgramText) → IsText bytes p → IsReadable p
-readable bytes p t = subst (λ (b : List ℕ). IsText b p) t.text t
+pub readable : (limits : Limits) (bytes : List ℕ) (p : ProgramText) → IsTextWithin limits bytes p → IsReadableWithin limits p
+readable limits bytes p t = subst (λ (b : List ℕ). IsTextWithin limits b p) t.text t

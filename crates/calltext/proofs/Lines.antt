@@ -19,6 +19,8 @@ use Rattle.calltext.specs.RefusedWords.{refused_word, refused_words}
 use Rattle.calltext.specs.Capped.{capped_option, capped_call}
 use Rattle.calltext.specs.declared.line.LineFault.{LineFault}
 use Rattle.calltext.specs.declared.line.LineFault.TheVariants as wrong
+use Rattle.calltext.specs.Limits.{AreLimits}
+use Rattle.calltext.specs.declared.limits.Limits.{Limits}
 use Rattle.calltext.specs.Item.{IsRefused, IsUnended, BeginsWrong}
 use Rattle.calltext.proofs.Conjunctions.{and_true}
 use Rattle.calltext.proofs.RefusedLaws.{plain_refused}
@@ -104,69 +106,80 @@ upto_capped : (most : ℕ) (n : Option ℕ) → most < 2147483648 → UpTo most 
 upto_capped most None h fits = refl
 upto_capped most (Some n) h fits = ap (λ (x : ℕ). Some x) (capped_small n most h fits)
 
-comm_capped : (n : Option ℕ) → IsCommunicator (capped_option n) → capped_option n ≡ n
-comm_capped None fits = refl
-comm_capped (Some n) fits = ap (λ (x : ℕ). Some x) (capped_small n 255 (omega arith) fits.1)
+comm_capped : (most : ℕ) (n : Option ℕ) → most < 2147483648 → IsCommunicator most (capped_option n) → capped_option n ≡ n
+comm_capped most None h fits = refl
+comm_capped most (Some n) h fits = ap (λ (x : ℕ). Some x) (capped_small n most h fits.1)
 
-pattern_capped : (s t k : Option ℕ) → UpTo 63 (capped_option s) × UpTo 32767 (capped_option t) × IsCommunicator (capped_option k) → (capped_option s ≡ s) × (capped_option t ≡ t) × (capped_option k ≡ k)
-pattern_capped s t k fits = (upto_capped 63 s (omega arith) fits.0, upto_capped 32767 t (omega arith) fits.1, comm_capped k fits.2)
+-- the limits are below what each larger number is told as
+record AreSmall (l : Limits) : Type 0 where
+  peer : l.peer < 2147483648
+  tag : l.tag < 2147483648
+  communicator : l.communicator < 2147483648
 
-pub capped_same : (c : CallLine) → IsInRange (capped_call c) → capped_call c ≡ c
-capped_same (Send m r d t k) fits =
-    let a = capped_small d 63 (omega arith) fits.0 in
-    let b = capped_small t 32767 (omega arith) fits.1 in
-    let e = comm_capped k fits.2 in
+small_limits : (l : Limits) → AreLimits l → AreSmall l
+small_limits l are = record { peer = omega (arith, are.within.peer); tag = omega (arith, are.within.tag); communicator = omega (arith, are.within.communicator) }
+
+pattern_capped : (l : Limits) (s t k : Option ℕ) → AreSmall l → UpTo l.peer (capped_option s) × UpTo l.tag (capped_option t) × IsCommunicator l.communicator (capped_option k) → (capped_option s ≡ s) × (capped_option t ≡ t) × (capped_option k ≡ k)
+pattern_capped l s t k are fits = (upto_capped l.peer s are.peer fits.0, upto_capped l.tag t are.tag fits.1, comm_capped l.communicator k are.communicator fits.2)
+
+pub capped_same : (l : Limits) (c : CallLine) → AreLimits l → IsInRange l (capped_call c) → capped_call c ≡ c
+capped_same l (Send m r d t k) are fits =
+    let small = small_limits l are in
+    let a = capped_small d l.peer small.peer fits.0 in
+    let b = capped_small t l.tag small.tag fits.1 in
+    let e = comm_capped l.communicator k small.communicator fits.2 in
     rw (a, b, e) refl
-capped_same (Receive r s t k) fits =
-    let same = pattern_capped s t k fits in
+capped_same l (Receive r s t k) are fits =
+    let same = pattern_capped l s t k (small_limits l are) fits in
     rw (same.0, same.1, same.2) refl
-capped_same (MatchedProbe h s t k) fits =
-    let same = pattern_capped s t k fits in
+capped_same l (MatchedProbe h s t k) are fits =
+    let same = pattern_capped l s t k (small_limits l are) fits in
     rw (same.0, same.1, same.2) refl
-capped_same (Probe s t k) fits =
-    let same = pattern_capped s t k fits in
+capped_same l (Probe s t k) are fits =
+    let same = pattern_capped l s t k (small_limits l are) fits in
     rw (same.0, same.1, same.2) refl
-capped_same (MatchedReceive r h) fits = refl
-capped_same (Wait r) fits = refl
-capped_same (WaitAll rs) fits = refl
-capped_same (SendReceive d t s u k) fits =
-    let a = capped_small d 63 (omega arith) fits.0 in
-    let b = capped_small t 32767 (omega arith) fits.1 in
-    let x = upto_capped 63 s (omega arith) fits.2 in
-    let y = upto_capped 32767 u (omega arith) fits.3 in
-    let e = comm_capped k fits.4 in
+capped_same l (MatchedReceive r h) are fits = refl
+capped_same l (Wait r) are fits = refl
+capped_same l (WaitAll rs) are fits = refl
+capped_same l (SendReceive d t s u k) are fits =
+    let small = small_limits l are in
+    let a = capped_small d l.peer small.peer fits.0 in
+    let b = capped_small t l.tag small.tag fits.1 in
+    let x = upto_capped l.peer s small.peer fits.2 in
+    let y = upto_capped l.tag u small.tag fits.3 in
+    let e = comm_capped l.communicator k small.communicator fits.4 in
     rw (a, b, x, y, e) refl
 
 upto_fits : (most : ℕ) (n : Option ℕ) → UpTo most n → UpTo most (capped_option n)
 upto_fits most None fits = tt
 upto_fits most (Some n) fits = omega arith
 
-comm_fits : (n : Option ℕ) → IsCommunicator n → IsCommunicator (capped_option n)
-comm_fits None fits = tt
-comm_fits (Some n) fits = (omega arith, omega arith)
+comm_fits : (most : ℕ) (n : Option ℕ) → IsCommunicator most n → IsCommunicator most (capped_option n)
+comm_fits most None fits = tt
+comm_fits most (Some n) fits = (omega arith, omega arith)
 
-capped_fits : (c : CallLine) → IsInRange c → IsInRange (capped_call c)
-capped_fits (Send m r d t k) fits = (omega (arith, fits.0), omega (arith, fits.1), comm_fits k fits.2)
-capped_fits (Receive r s t k) fits = (upto_fits 63 s fits.0, upto_fits 32767 t fits.1, comm_fits k fits.2)
-capped_fits (MatchedProbe h s t k) fits = (upto_fits 63 s fits.0, upto_fits 32767 t fits.1, comm_fits k fits.2)
-capped_fits (Probe s t k) fits = (upto_fits 63 s fits.0, upto_fits 32767 t fits.1, comm_fits k fits.2)
-capped_fits (MatchedReceive r h) fits = tt
-capped_fits (Wait r) fits = tt
-capped_fits (WaitAll rs) fits = tt
-capped_fits (SendReceive d t s u k) fits = (omega (arith, fits.0), omega (arith, fits.1), upto_fits 63 s fits.2, upto_fits 32767 u fits.3, comm_fits k fits.4)
+capped_fits : (l : Limits) (c : CallLine) → IsInRange l c → IsInRange l (capped_call c)
+capped_fits l (Send m r d t k) fits = (omega (arith, fits.0), omega (arith, fits.1), comm_fits l.communicator k fits.2)
+capped_fits l (Receive r s t k) fits = (upto_fits l.peer s fits.0, upto_fits l.tag t fits.1, comm_fits l.communicator k fits.2)
+capped_fits l (MatchedProbe h s t k) fits = (upto_fits l.peer s fits.0, upto_fits l.tag t fits.1, comm_fits l.communicator k fits.2)
+capped_fits l (Probe s t k) fits = (upto_fits l.peer s fits.0, upto_fits l.tag t fits.1, comm_fits l.communicator k fits.2)
+capped_fits l (MatchedReceive r h) fits = tt
+capped_fits l (Wait r) fits = tt
+capped_fits l (WaitAll rs) fits = tt
+capped_fits l (SendReceive d t s u k) fits = (omega (arith, fits.0), omega (arith, fits.1), upto_fits l.peer s fits.2, upto_fits l.tag u fits.3, comm_fits l.communicator k fits.4)
 
 -- ---- what a line is, by its words
 
-pub item_call : (line : List ℕ) (words : List (List ℕ)) (found : CallLine) → words ≡ parts line → (c : CallLine) × HasNames c × (call_words c ≡ words) × (found ≡ capped_call c) → IsInRange found
-    → CallFits found × (line_of (call_words found) ≡ line ++ 10 ∷ [])
-item_call line words found seen (c, names, spelled, capped) fits =
-    let same : found ≡ c = capped ∙ capped_same c (subst IsInRange capped fits) in
+pub item_call : (l : Limits) (line : List ℕ) (words : List (List ℕ)) (found : CallLine) → AreLimits l → words ≡ parts line → (c : CallLine) × HasNames c × (call_words c ≡ words) × (found ≡ capped_call c) → IsInRange l found
+    → CallFits l found × (line_of (call_words found) ≡ line ++ 10 ∷ [])
+item_call l line words found are seen (c, names, spelled, capped) fits =
+    let same : found ≡ c = capped ∙ capped_same l c are (subst (IsInRange l) capped fits) in
     ((subst HasNames (sym same) names, fits), line_is (call_words found) line (ap call_words same ∙ spelled ∙ seen))
 
-pub item_range : (line : List ℕ) (words : List (List ℕ)) (found : CallLine) → words ≡ parts line → (c : CallLine) × HasNames c × (call_words c ≡ words) × (found ≡ capped_call c) → (IsInRange found → ⊥)
-    → (c : CallLine) × HasNames c × (line_of (call_words c) ≡ line ++ 10 ∷ []) × (IsInRange c → ⊥)
-item_range line words found seen (c, names, spelled, capped) over =
-    (c, names, line_is (call_words c) line (spelled ∙ seen), λ fits. over (subst IsInRange (sym capped) (capped_fits c fits)))
+pub item_range : (l : Limits) (line : List ℕ) (words : List (List ℕ)) (found : CallLine) → words ≡ parts line → (c : CallLine) × HasNames c × (call_words c ≡ words) × (found ≡ capped_call c) → (IsInRange l found → ⊥)
+    → (c : CallLine) × HasNames c × (line_of (call_words c) ≡ line ++ 10 ∷ []) × (IsInRange l c → ⊥)
+item_range l line words found seen (c, names, spelled, capped) over =
+    (c, names, line_is (call_words c) line (spelled ∙ seen), λ fits. over (subst (IsInRange l) (sym capped) (capped_fits l c fits)))
 
 -- ---- headings
 

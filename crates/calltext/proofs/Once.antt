@@ -15,6 +15,7 @@ use Rattle.calltext.specs.declared.call.CallLine.TheVariants.{Send, Receive, Mat
 use Rattle.calltext.specs.declared.verb.Verb.{Verb}
 use Rattle.calltext.specs.declared.verb.Verb.TheVariants as verb
 use Rattle.calltext.specs.Grammar.{ProgramText, or_star, communicator_words, call_words, policy_words, ranks_words, rank_words, rank_lines, program_lines, text_of, HasNames, AllHaveNames, CallFits, Fits}
+use Rattle.calltext.specs.declared.limits.Limits.{Limits}
 use Rattle.calltext.specs.Verbs.{is_started, verb_of, verb_word, operands, request_words, message_words, pattern_words}
 use Rattle.calltext.proofs.Verbs.{call_words_are, verb_word_injective}
 use Rattle.calltext.proofs.Lines.{plain_call, plain_rank, plain_ranks, plain_policy, some_words}
@@ -155,13 +156,13 @@ ascii_in_program p before line more names e =
 
 -- ---- what fits has names
 
-call_names : (calls : List CallLine) → AllByRecursion CallFits calls → AllByRecursion HasNames calls
-call_names [] fit = tt
-call_names (c ∷ calls) fit = (fit.0.0, call_names calls fit.1)
+call_names : (l : Limits) (calls : List CallLine) → AllByRecursion (CallFits l) calls → AllByRecursion HasNames calls
+call_names l [] fit = tt
+call_names l (c ∷ calls) fit = (fit.0.0, call_names l calls fit.1)
 
-pub rank_names : (ranks : List (List CallLine)) → AllByRecursion (AllByRecursion CallFits) ranks → AllByRecursion (AllByRecursion HasNames) ranks
-rank_names [] fit = tt
-rank_names (r ∷ ranks) fit = (call_names r fit.0, rank_names ranks fit.1)
+pub rank_names : (l : Limits) (ranks : List (List CallLine)) → AllByRecursion (AllByRecursion (CallFits l)) ranks → AllByRecursion (AllByRecursion HasNames) ranks
+rank_names l [] fit = tt
+rank_names l (r ∷ ranks) fit = (call_names l r fit.0, rank_names l ranks fit.1)
 
-pub have_names : (p : ProgramText) → Fits p → AllHaveNames p
-have_names p fits = rank_names p.ranks fits.calls
+pub have_names : (l : Limits) (p : ProgramText) → Fits l p → AllHaveNames p
+have_names l p fits = rank_names l p.ranks fits.calls

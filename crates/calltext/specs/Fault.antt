@@ -4,7 +4,9 @@ use Rattle.std.specs.Prelude.{◌≡◌, ◌≢◌, ℕ, ◌+◌, ◌<◌, ◌�
 use Rattle.std.specs.Str.{IsAscii, IsNotAscii}
 use Rattle.plaintext.specs.Plain.{line_of}
 use Rattle.plaintext.specs.Fronts.{CanBegin, IsFirstFaultyLine}
-use Rattle.calltext.specs.Grammar.{ProgramText, AllHaveNames, Fits, IsText, program_lines}
+use Rattle.calltext.specs.Grammar.{ProgramText, AllHaveNames, Fits, IsTextWithin, program_lines}
+use Rattle.calltext.specs.Limits.{short, IsWithin}
+use Rattle.calltext.specs.declared.limits.Limits.{Limits}
 use Rattle.calltext.specs.RefusedWords.{refused_word, refused_words}
 use Rattle.calltext.specs.declared.fault.ReadFault.{ReadFault}
 use Rattle.calltext.specs.declared.fault.ReadFault.TheVariants as faults
@@ -14,8 +16,8 @@ abbrev pub HasShape : List (List ℕ) → Type 0
 HasShape = CanBegin ProgramText AllHaveNames program_lines
 
 -- The lines can go on if some program within the limits begins so.
-abbrev pub CanGoOn : List (List ℕ) → Type 0
-CanGoOn = CanBegin ProgramText Fits program_lines
+abbrev pub CanGoOn : Limits → List (List ℕ) → Type 0
+CanGoOn l = CanBegin ProgramText (Fits l) program_lines
 
 -- The line's first word is the one at this place, from 0, of the list of words that are refused by name, and it stands where a call may stand: after the two headings and the first rank's.
 abbrev pub IsOutOfProfile : List (List ℕ) → List ℕ → ℕ → Type 0
@@ -29,22 +31,30 @@ Why (faults.OutOfProfile k place) before line = (k ≡ length before + 1) × IsA
 Why (faults.Range k) before line = (k ≡ length before + 1) × IsAscii line × HasShape (before ++ line ∷ [])
 Why other before line = ⊥
 
--- The bytes have the fault: they are more than 1,048,576, or they are not and their first faulty line has it. Want of memory is no matter of the bytes.
+-- The bytes have the fault within the limits: they are more than these allow, or they are not and their first faulty line has it. Want of memory is no matter of the bytes.
+abbrev pub HasFaultWithin : Limits → List ℕ → ReadFault → Type 0
+HasFaultWithin l bytes faults.Memory = ⊤
+HasFaultWithin l bytes faults.TooLarge = l.bytes < length bytes
+HasFaultWithin l bytes fault = (length bytes ≤ l.bytes) × (before : List (List ℕ)) × (line : List ℕ) × IsFirstFaultyLine (CanGoOn l) bytes before line × Why fault before line
+
+-- The bytes have the fault within the short limits.
 abbrev pub HasFault : List ℕ → ReadFault → Type 0
-HasFault bytes faults.Memory = ⊤
-HasFault bytes faults.TooLarge = 1048576 < length bytes
-HasFault bytes fault = (length bytes ≤ 1048576) × (before : List (List ℕ)) × (line : List ℕ) × IsFirstFaultyLine CanGoOn bytes before line × Why fault before line
+HasFault = HasFaultWithin short
 
 -- ---- the laws
 
 -- Bytes are the text of one program at most.
 abbrev pub OneValue : Type 0
-OneValue = (bytes : List ℕ) (p q : ProgramText) → IsText bytes p → IsText bytes q → p ≡ q
+OneValue = (l : Limits) (bytes : List ℕ) (p q : ProgramText) → IsTextWithin l bytes p → IsTextWithin l bytes q → p ≡ q
 
 -- A program's text has no fault.
 abbrev pub TextHasNoFault : Type 0
-TextHasNoFault = (bytes : List ℕ) (p : ProgramText) (fault : ReadFault) → IsText bytes p → HasFault bytes fault → fault ≡ faults.Memory
+TextHasNoFault = (l : Limits) (bytes : List ℕ) (p : ProgramText) (fault : ReadFault) → IsTextWithin l bytes p → HasFaultWithin l bytes fault → fault ≡ faults.Memory
 
 -- Bytes have one fault at most.
 abbrev pub OneFault : Type 0
-OneFault = (bytes : List ℕ) (a b : ReadFault) → HasFault bytes a → HasFault bytes b → a ≢ faults.Memory → b ≢ faults.Memory → a ≡ b
+OneFault = (l : Limits) (bytes : List ℕ) (a b : ReadFault) → HasFaultWithin l bytes a → HasFaultWithin l bytes b → a ≢ faults.Memory → b ≢ faults.Memory → a ≡ b
+
+-- Bytes that are a text within some limits are the same program's text within any wider ones, and no other's.
+abbrev pub SameTextWithin : Type 0
+SameTextWithin = (l m : Limits) (bytes : List ℕ) (p : ProgramText) → IsWithin l m → IsTextWithin l bytes p → IsTextWithin m bytes p × ((q : ProgramText) → IsTextWithin m bytes q → q ≡ p)

@@ -10,6 +10,8 @@ use Rattle.calltext.specs.declared.call.Mode.TheVariants.{Standard, Synchronous,
 use Rattle.calltext.specs.declared.call.Policy.{Policy}
 use Rattle.calltext.specs.declared.call.Policy.TheVariants as policies
 use Rattle.calltext.specs.Names.{is_name, AreNames}
+use Rattle.calltext.specs.Limits.{short}
+use Rattle.calltext.specs.declared.limits.Limits.{Limits}
 
 -- What a program's text says: the policy for standard sends, and the call lines of each rank, from rank 0 on.
 pub record ProgramText : Type 0 where
@@ -92,9 +94,9 @@ text_of p = flat_map (λ line. line) (program_lines p)
 abbrev pub UpTo : ℕ → Option ℕ → Type 0
 UpTo most n = IfSome n (λ x. x ≤ most)
 
--- A communicator that is named is 1 to 255, since 0 is what is meant where none is named.
-abbrev pub IsCommunicator : Option ℕ → Type 0
-IsCommunicator n = IfSome n (λ c. (1 ≤ c) × (c ≤ 255))
+-- A communicator that is named is 1 to the highest, since 0 is what is meant where none is named.
+abbrev pub IsCommunicator : ℕ → Option ℕ → Type 0
+IsCommunicator most n = IfSome n (λ c. (1 ≤ c) × (c ≤ most))
 
 -- Names are names; numbers may be of any size.
 abbrev pub HasNames : CallLine → Type 0
@@ -107,38 +109,46 @@ HasNames (Wait request) = IsTrue (is_name request)
 HasNames (WaitAll requests) = AreNames requests
 HasNames (SendReceive destination send_tag source receive_tag communicator) = ⊤
 
--- Peers are at most 63 and tags at most 32,767.
-abbrev pub IsInRange : CallLine → Type 0
-IsInRange (Send mode request destination tag communicator) = (destination ≤ 63) × (tag ≤ 32767) × IsCommunicator communicator
-IsInRange (Receive request source tag communicator) = UpTo 63 source × UpTo 32767 tag × IsCommunicator communicator
-IsInRange (MatchedProbe handle source tag communicator) = UpTo 63 source × UpTo 32767 tag × IsCommunicator communicator
-IsInRange (Probe source tag communicator) = UpTo 63 source × UpTo 32767 tag × IsCommunicator communicator
-IsInRange (MatchedReceive request handle) = ⊤
-IsInRange (Wait request) = ⊤
-IsInRange (WaitAll requests) = ⊤
-IsInRange (SendReceive destination send_tag source receive_tag communicator) =
-    (destination ≤ 63) × (send_tag ≤ 32767) × UpTo 63 source × UpTo 32767 receive_tag × IsCommunicator communicator
+-- Peers, tags and communicators are within the limits.
+abbrev pub IsInRange : Limits → CallLine → Type 0
+IsInRange l (Send mode request destination tag communicator) = (destination ≤ l.peer) × (tag ≤ l.tag) × IsCommunicator l.communicator communicator
+IsInRange l (Receive request source tag communicator) = UpTo l.peer source × UpTo l.tag tag × IsCommunicator l.communicator communicator
+IsInRange l (MatchedProbe handle source tag communicator) = UpTo l.peer source × UpTo l.tag tag × IsCommunicator l.communicator communicator
+IsInRange l (Probe source tag communicator) = UpTo l.peer source × UpTo l.tag tag × IsCommunicator l.communicator communicator
+IsInRange l (MatchedReceive request handle) = ⊤
+IsInRange l (Wait request) = ⊤
+IsInRange l (WaitAll requests) = ⊤
+IsInRange l (SendReceive destination send_tag source receive_tag communicator) =
+    (destination ≤ l.peer) × (send_tag ≤ l.tag) × UpTo l.peer source × UpTo l.tag receive_tag × IsCommunicator l.communicator communicator
 
 -- Names are names, and numbers are within the limits.
-abbrev pub CallFits : CallLine → Type 0
-CallFits call = HasNames call × IsInRange call
+abbrev pub CallFits : Limits → CallLine → Type 0
+CallFits l call = HasNames call × IsInRange l call
 
 -- Each call's names are names; this is what a program's text with numbers of any size keeps.
 abbrev pub AllHaveNames : ProgramText → Type 0
 AllHaveNames p = AllByRecursion (AllByRecursion HasNames) p.ranks
 
--- A program is within the limits if it has 1 to 64 ranks and each call's numbers are in range.
-pub record Fits (p : ProgramText) : Type 0 where
+-- A program is within the limits if it has one rank or more, no more than they allow, and each call's numbers are in range.
+pub record Fits (l : Limits) (p : ProgramText) : Type 0 where
   pub some : 1 ≤ length p.ranks
-  pub ranks : length p.ranks ≤ 64
-  pub calls : AllByRecursion (AllByRecursion CallFits) p.ranks
+  pub ranks : length p.ranks ≤ l.ranks
+  pub calls : AllByRecursion (AllByRecursion (CallFits l)) p.ranks
 
--- The bytes are the text of the program, which is within the limits, and they are at most 1,048,576.
-pub record IsText (bytes : List ℕ) (p : ProgramText) : Type 0 where
-  pub fits : Fits p
-  pub small : length bytes ≤ 1048576
+-- The bytes are the text of the program, which is within the limits, and they are no more than these allow.
+pub record IsTextWithin (l : Limits) (bytes : List ℕ) (p : ProgramText) : Type 0 where
+  pub fits : Fits l p
+  pub small : length bytes ≤ l.bytes
   pub text : bytes ≡ text_of p
 
--- The program can be read: its text is a program's text.
+-- The program can be read within the limits: its text is a program's text.
+abbrev pub IsReadableWithin : Limits → ProgramText → Type 0
+IsReadableWithin l p = IsTextWithin l (text_of p) p
+
+-- The bytes are the text of the program, which is within the short limits.
+abbrev pub IsText : List ℕ → ProgramText → Type 0
+IsText = IsTextWithin short
+
+-- The program can be read within the short limits.
 abbrev pub IsReadable : ProgramText → Type 0
-IsReadable p = IsText (text_of p) p
+IsReadable = IsReadableWithin short

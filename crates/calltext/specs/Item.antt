@@ -10,25 +10,26 @@ use Rattle.calltext.specs.declared.line.Item.{Item}
 use Rattle.calltext.specs.declared.line.Item.TheVariants as items
 use Rattle.calltext.specs.declared.line.LineFault.{LineFault}
 use Rattle.calltext.specs.declared.line.LineFault.TheVariants as wrong
+use Rattle.calltext.specs.declared.limits.Limits.{Limits}
 
 -- ---- once the first rank has begun
 
 -- The line is this call's, or the heading of the next rank, of so many in all.
-abbrev pub IsItem : Item → ℕ → ℕ → List ℕ → Type 0
-IsItem (items.Call c) next total line = CallFits c × (line_of (call_words c) ≡ line)
-IsItem items.Rank next total line = (next < total) × (line_of (rank_words next) ≡ line)
+abbrev pub IsItem : Limits → Item → ℕ → ℕ → List ℕ → Type 0
+IsItem l (items.Call c) next total line = CallFits l c × (line_of (call_words c) ≡ line)
+IsItem l items.Rank next total line = (next < total) × (line_of (rank_words next) ≡ line)
 
 -- The line's first word is the one at this place of the list of words that are refused by name.
 abbrev pub IsRefused : ℕ → List ℕ → Type 0
 IsRefused place line = (place < length refused_words) × (others : List (List ℕ)) × (line ≡ line_of (refused_word place ∷ others))
 
 -- Why the line is neither a call's within the limits nor the next rank's heading.
-abbrev pub IsWrong : LineFault → ℕ → ℕ → List ℕ → Type 0
-IsWrong wrong.Memory next total line = ⊤
-IsWrong wrong.NotAscii next total line = IsNotAscii line
-IsWrong wrong.Syntax next total line = IsAscii line × ((c : CallLine) → HasNames c → line_of (call_words c) ≢ line) × (next < total → line_of (rank_words next) ≢ line) × ((place : ℕ) → IsRefused place line → ⊥)
-IsWrong (wrong.OutOfProfile place) next total line = IsAscii line × ((c : CallLine) → HasNames c → line_of (call_words c) ≢ line) × (next < total → line_of (rank_words next) ≢ line) × IsRefused place line
-IsWrong wrong.Range next total line = IsAscii line × (c : CallLine) × HasNames c × (line_of (call_words c) ≡ line) × (IsInRange c → ⊥)
+abbrev pub IsWrong : Limits → LineFault → ℕ → ℕ → List ℕ → Type 0
+IsWrong l wrong.Memory next total line = ⊤
+IsWrong l wrong.NotAscii next total line = IsNotAscii line
+IsWrong l wrong.Syntax next total line = IsAscii line × ((c : CallLine) → HasNames c → line_of (call_words c) ≢ line) × (next < total → line_of (rank_words next) ≢ line) × ((place : ℕ) → IsRefused place line → ⊥)
+IsWrong l (wrong.OutOfProfile place) next total line = IsAscii line × ((c : CallLine) → HasNames c → line_of (call_words c) ≢ line) × (next < total → line_of (rank_words next) ≢ line) × IsRefused place line
+IsWrong l wrong.Range next total line = IsAscii line × (c : CallLine) × HasNames c × (line_of (call_words c) ≡ line) × (IsInRange l c → ⊥)
 
 -- ---- the three lines that a text begins with
 
@@ -36,9 +37,9 @@ IsWrong wrong.Range next total line = IsAscii line × (c : CallLine) × HasNames
 abbrev pub IsRanksLine : List ℕ → Type 0
 IsRanksLine line = (n : ℕ) × (line_of (ranks_words n) ≡ line)
 
--- The line names 1 to 64 ranks.
-abbrev pub AreRanksWithin : List ℕ → Type 0
-AreRanksWithin line = (n : ℕ) × (1 ≤ n) × (n ≤ 64) × (line_of (ranks_words n) ≡ line)
+-- The line names one rank or more, and no more than the limits allow.
+abbrev pub AreRanksWithin : Limits → List ℕ → Type 0
+AreRanksWithin l line = (n : ℕ) × (1 ≤ n) × (n ≤ l.ranks) × (line_of (ranks_words n) ≡ line)
 
 -- The line names a policy.
 abbrev pub IsPolicyLine : List ℕ → Type 0

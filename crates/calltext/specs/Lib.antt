@@ -1,5 +1,6 @@
 pub mod RefusedWords
 pub mod Names
+pub mod Limits
 pub mod Grammar
 pub mod Fault
 pub mod Capped

@@ -1,12 +1,14 @@
 //! The ranks and their calls.
 
 ghost use Rattle.std.specs.Prelude.{◌≡◌, ◌≤◌, IfOk, IfErr, length};
+ghost use Rattle.calltext.specs.Limits.{AreLimits};
 ghost use Rattle.calltext.specs.Body.{HasRanks, IsStopped, views};
 ghost use Rattle.calltext.specs.declared.body.Stopped.{Stopped};
 ghost use Rattle.calltext.specs.declared.line.LineFault.TheVariants.{Memory};
 
 use crate::call::CallLine;
 use crate::heading::unended;
+use crate::limits::Limits;
 use crate::line::{Item, LineFault, item_of};
 use plaintext::next_line;
 use std::alloc::{AllocError, AllocFailed, Global};
@@ -16,11 +18,11 @@ use std::mem;
 #[derive(Clone, Copy)]
 pub struct Stopped {
     pub fault: LineFault,
-    pub line: u32,
+    pub line: usize,
 }
 
 impl Stopped {
-    fn at(line: u32, fault: LineFault) -> Stopped
+    fn at(line: usize, fault: LineFault) -> Stopped
         ensures { result ≡ record { fault = fault; line = line } }
     {
         Stopped { fault, line }
@@ -50,19 +52,25 @@ impl<T: Drop> From<AllocFailed<T>> for Stopped {
 }
 
 /// The calls of each rank, from the line after the first rank's heading to the end of the text.
-pub fn ranks_from(alloc: Global, total: u32, bytes: &[u8]) -> Result<Vec<Vec<CallLine>>, Stopped>
+pub fn ranks_from(
+    alloc: Global,
+    limits: Limits,
+    total: u32,
+    bytes: &[u8],
+) -> Result<Vec<Vec<CallLine>>, Stopped>
+    requires limits { AreLimits limits }
     requires low { 1 ≤ total }
-    requires high { total ≤ 64 }
-    requires small { length bytes.now ≤ 1048576 }
-    ensures ok { IfOk result (λ ranks. HasRanks total bytes.now (views ranks.items)) }
-    ensures err { IfErr result (λ stop. IsStopped stop.fault stop.line total bytes.now) }
+    requires high { total ≤ limits.ranks }
+    requires small { length bytes.now ≤ limits.bytes }
+    ensures ok { IfOk result (λ ranks. HasRanks limits total bytes.now (views ranks.items)) }
+    ensures err { IfErr result (λ stop. IsStopped limits stop.fault stop.line total bytes.now) }
 {
     let mut ranks: Vec<Vec<CallLine>> = Vec::new(alloc);
     let mut calls: Vec<CallLine> = Vec::new(alloc);
-    let mut number: u32 = 4;
+    let mut number: usize = 4;
     let mut rest = bytes;
     while let Some((line, after)) = next_line(rest) {
-        let item = match item_of(alloc, line, ranks.len() as u32 + 1, total) {
+        let item = match item_of(alloc, limits, line, ranks.len() as u32 + 1, total) {
             Ok(item) => item,
             Err(fault) => return Err(Stopped::at(number, fault)),
         };

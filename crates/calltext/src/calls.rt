@@ -14,51 +14,36 @@ use plaintext::number_of;
 use std::alloc::{AllocError, Global};
 
 /// The name that stands first, and the words after it.
-fn first_name<'a, 'b>(
-    alloc: Global,
-    words: &'a [&'b [u8]],
-) -> Result<Option<(Name, &'a [&'b [u8]])>, AllocError>
-    ensures none { IfOk result (λ found. IfNone found ((name : List ℕ) (others : List (List ℕ)) → IsTrue (is_name name) → name ∷ others ≢ map (λ w. w.now) words.now)) }
-    ensures some { IfOk result (λ found. IfSome found (λ split. IsTrue (is_name split.0) × (split.0 ∷ map (λ w. w.now) split.1.now ≡ map (λ w. w.now) words.now))) }
+fn first_name<'a, 'b>(words: &'a [&'b [u8]]) -> Option<(Name, &'a [&'b [u8]])>
+    ensures none { IfNone result ((name : List ℕ) (others : List (List ℕ)) → IsTrue (is_name name) → name ∷ others ≢ map (λ w. w.now) words.now) }
+    ensures some { IfSome result (λ split. IsTrue (is_name split.0) × (split.0 ∷ map (λ w. w.now) split.1.now ≡ map (λ w. w.now) words.now)) }
 {
     let [first, others @ ..] = words else {
-        return Ok(None);
+        return None;
     };
-    let Some(name) = name_of(alloc, first)? else {
-        return Ok(None);
-    };
-    Ok(Some((name, others)))
+    let name = name_of(first)?;
+    Some((name, others))
 }
 
 /// The request of a call, which stands first where the call is started, and the other words.
 fn request_of<'a, 'b>(
-    alloc: Global,
     started: bool,
     words: &'a [&'b [u8]],
-) -> Result<Option<(Option<Name>, &'a [&'b [u8]])>, AllocError>
-    ensures none { IfOk result (λ found. IfNone found ((request : Option (List ℕ)) (others : List (List ℕ)) → IsRequest request → is_started request ≡ started → request_words request ++ others ≢ map (λ w. w.now) words.now)) }
-    ensures some { IfOk result (λ found. IfSome found (λ split. IsRequest split.0 × (is_started split.0 ≡ started) × (request_words split.0 ++ map (λ w. w.now) split.1.now ≡ map (λ w. w.now) words.now))) }
+) -> Option<(Option<Name>, &'a [&'b [u8]])>
+    ensures none { IfNone result ((request : Option (List ℕ)) (others : List (List ℕ)) → IsRequest request → is_started request ≡ started → request_words request ++ others ≢ map (λ w. w.now) words.now) }
+    ensures some { IfSome result (λ split. IsRequest split.0 × (is_started split.0 ≡ started) × (request_words split.0 ++ map (λ w. w.now) split.1.now ≡ map (λ w. w.now) words.now)) }
 {
     if !started {
-        return Ok(Some((None, words)));
+        return Some((None, words));
     }
-    let Some((name, others)) = first_name(alloc, words)? else {
-        return Ok(None);
-    };
-    Ok(Some((Some(name), others)))
+    let (name, others) = first_name(words)?;
+    Some((Some(name), others))
 }
 
-fn send_of(
-    alloc: Global,
-    mode: Mode,
-    started: bool,
-    words: &[&[u8]],
-) -> Result<Option<CallLine>, AllocError>
-    ensures { IfOk result (IsReadAs (Verb.Send mode started) (map (λ w. w.now) words.now)) }
+fn send_of(mode: Mode, started: bool, words: &[&[u8]]) -> Option<CallLine>
+    ensures { IsReadAs (Verb.Send mode started) (map (λ w. w.now) words.now) result }
 {
-    let Some((request, others)) = request_of(alloc, started, words)? else {
-        return Ok(None);
-    };
+    let (request, others) = request_of(started, words)?;
     let Some(
         MessageNumbers {
             destination,
@@ -67,23 +52,21 @@ fn send_of(
         },
     ) = message_of(others)
     else {
-        return Ok(None);
+        return None;
     };
-    Ok(Some(CallLine::Send {
+    Some(CallLine::Send {
         mode,
         request,
         destination,
         tag,
         communicator,
-    }))
+    })
 }
 
-fn receive_of(alloc: Global, started: bool, words: &[&[u8]]) -> Result<Option<CallLine>, AllocError>
-    ensures { IfOk result (IsReadAs (Verb.Receive started) (map (λ w. w.now) words.now)) }
+fn receive_of(started: bool, words: &[&[u8]]) -> Option<CallLine>
+    ensures { IsReadAs (Verb.Receive started) (map (λ w. w.now) words.now) result }
 {
-    let Some((request, others)) = request_of(alloc, started, words)? else {
-        return Ok(None);
-    };
+    let (request, others) = request_of(started, words)?;
     let Some(
         PatternNumbers {
             source,
@@ -92,22 +75,20 @@ fn receive_of(alloc: Global, started: bool, words: &[&[u8]]) -> Result<Option<Ca
         },
     ) = pattern_of(others)
     else {
-        return Ok(None);
+        return None;
     };
-    Ok(Some(CallLine::Receive {
+    Some(CallLine::Receive {
         request,
         source,
         tag,
         communicator,
-    }))
+    })
 }
 
-fn matched_probe_of(alloc: Global, words: &[&[u8]]) -> Result<Option<CallLine>, AllocError>
-    ensures { IfOk result (IsReadAs Verb.MatchedProbe (map (λ w. w.now) words.now)) }
+fn matched_probe_of(words: &[&[u8]]) -> Option<CallLine>
+    ensures { IsReadAs Verb.MatchedProbe (map (λ w. w.now) words.now) result }
 {
-    let Some((handle, others)) = first_name(alloc, words)? else {
-        return Ok(None);
-    };
+    let (handle, others) = first_name(words)?;
     let Some(
         PatternNumbers {
             source,
@@ -116,14 +97,14 @@ fn matched_probe_of(alloc: Global, words: &[&[u8]]) -> Result<Option<CallLine>, 
         },
     ) = pattern_of(others)
     else {
-        return Ok(None);
+        return None;
     };
-    Ok(Some(CallLine::MatchedProbe {
+    Some(CallLine::MatchedProbe {
         handle,
         source,
         tag,
         communicator,
-    }))
+    })
 }
 
 fn probe_of(words: &[&[u8]]) -> Option<CallLine>
@@ -146,35 +127,25 @@ fn probe_of(words: &[&[u8]]) -> Option<CallLine>
     })
 }
 
-fn matched_receive_of(
-    alloc: Global,
-    started: bool,
-    words: &[&[u8]],
-) -> Result<Option<CallLine>, AllocError>
-    ensures { IfOk result (IsReadAs (Verb.MatchedReceive started) (map (λ w. w.now) words.now)) }
+fn matched_receive_of(started: bool, words: &[&[u8]]) -> Option<CallLine>
+    ensures { IsReadAs (Verb.MatchedReceive started) (map (λ w. w.now) words.now) result }
 {
-    let Some((request, others)) = request_of(alloc, started, words)? else {
-        return Ok(None);
-    };
+    let (request, others) = request_of(started, words)?;
     let [word] = others else {
-        return Ok(None);
+        return None;
     };
-    let Some(handle) = name_of(alloc, word)? else {
-        return Ok(None);
-    };
-    Ok(Some(CallLine::MatchedReceive { request, handle }))
+    let handle = name_of(word)?;
+    Some(CallLine::MatchedReceive { request, handle })
 }
 
-fn wait_of(alloc: Global, words: &[&[u8]]) -> Result<Option<CallLine>, AllocError>
-    ensures { IfOk result (IsReadAs Verb.Wait (map (λ w. w.now) words.now)) }
+fn wait_of(words: &[&[u8]]) -> Option<CallLine>
+    ensures { IsReadAs Verb.Wait (map (λ w. w.now) words.now) result }
 {
     let [word] = words else {
-        return Ok(None);
+        return None;
     };
-    let Some(request) = name_of(alloc, word)? else {
-        return Ok(None);
-    };
-    Ok(Some(CallLine::Wait { request }))
+    let request = name_of(word)?;
+    Some(CallLine::Wait { request })
 }
 
 fn wait_all_of(alloc: Global, words: &[&[u8]]) -> Result<Option<CallLine>, AllocError>
@@ -217,12 +188,12 @@ fn with_operands(alloc: Global, verb: Verb, words: &[&[u8]]) -> Result<Option<Ca
     ensures { IfOk result (IsReadAs verb (map (λ w. w.now) words.now)) }
 {
     match verb {
-        Verb::Send { mode, started } => send_of(alloc, mode, started, words),
-        Verb::Receive { started } => receive_of(alloc, started, words),
-        Verb::MatchedProbe => matched_probe_of(alloc, words),
+        Verb::Send { mode, started } => Ok(send_of(mode, started, words)),
+        Verb::Receive { started } => Ok(receive_of(started, words)),
+        Verb::MatchedProbe => Ok(matched_probe_of(words)),
         Verb::Probe => Ok(probe_of(words)),
-        Verb::MatchedReceive { started } => matched_receive_of(alloc, started, words),
-        Verb::Wait => wait_of(alloc, words),
+        Verb::MatchedReceive { started } => Ok(matched_receive_of(started, words)),
+        Verb::Wait => Ok(wait_of(words)),
         Verb::WaitAll => wait_all_of(alloc, words),
         Verb::SendReceive => Ok(send_receive_of(words)),
     }

@@ -17,18 +17,18 @@ pub enum ReadFault {
     Memory,
     /// The line has a byte of 128 or more.
     #[error("line {line} not ascii")]
-    NotAscii { line: u32 },
+    NotAscii { line: usize },
     /// A call may stand there, the line has its LF, and its first word is one that is refused by name.
     #[error("line {line} out of profile {word}")]
-    OutOfProfile { line: u32, word: RefusedWord },
+    OutOfProfile { line: usize, word: RefusedWord },
     /// The line has none of the shapes that may stand in its place, or it is missing or lacks its
     /// LF.
     #[error("line {line} syntax")]
-    Syntax { line: u32 },
+    Syntax { line: usize },
     /// The line has a right shape, and a number beyond the limits.
     #[error("line {line} range")]
-    Range { line: u32 },
-    /// The text has more than 1,048,576 bytes; told before any line is looked at.
+    Range { line: usize },
+    /// The text has more bytes than the limits allow; told before any line is looked at.
     #[error("text too large")]
     TooLarge,
 }

@@ -4,10 +4,12 @@ ghost use Rattle.std.specs.Prelude.{◌↔◌, ◌≡◌, ◌≤◌, ◌++◌, �
 ghost use Rattle.calltext.specs.Grammar.{IsInRange, IsCommunicator, UpTo, rank_words};
 ghost use Rattle.calltext.specs.RefusedWords.{refused_word, refused_words};
 ghost use Rattle.calltext.specs.Item.{IsItem, IsWrong};
+ghost use Rattle.calltext.specs.Limits.{AreLimits};
 ghost use Rattle.calltext.specs.declared.line.LineFault.TheVariants.{Memory};
 
 use crate::call::CallLine;
 use crate::calls::call_of;
+use crate::limits::Limits;
 use crate::refused::RefusedWord;
 use crate::words::is_rank;
 use plaintext::words_of;
@@ -38,12 +40,12 @@ impl From<AllocError> for LineFault {
     }
 }
 
-fn is_communicator(number: Option<u32>) -> bool
-    ensures { IsTrue result ↔ IsCommunicator number }
+fn is_communicator(most: u32, number: Option<u32>) -> bool
+    ensures { IsTrue result ↔ IsCommunicator most number }
 {
     match number {
         None => true,
-        Some(n) => n >= 1 && n <= 255,
+        Some(n) => n >= 1 && n <= most,
     }
 }
 
@@ -57,15 +59,22 @@ fn is_at_most(most: u32, number: Option<u32>) -> bool
 }
 
 /// Whether a source, a tag and a communicator are within the limits.
-fn pattern_is_in_range(source: Option<u32>, tag: Option<u32>, communicator: Option<u32>) -> bool
-    ensures { IsTrue result ↔ (UpTo 63 source × UpTo 32767 tag × IsCommunicator communicator) }
+fn pattern_is_in_range(
+    limits: Limits,
+    source: Option<u32>,
+    tag: Option<u32>,
+    communicator: Option<u32>,
+) -> bool
+    ensures { IsTrue result ↔ (UpTo limits.peer source × UpTo limits.tag tag × IsCommunicator limits.communicator communicator) }
 {
-    is_at_most(63, source) && is_at_most(32767, tag) && is_communicator(communicator)
+    is_at_most(limits.peer, source)
+        && is_at_most(limits.tag, tag)
+        && is_communicator(limits.communicator, communicator)
 }
 
 /// Whether the call's numbers are within the limits.
-fn is_in_range(call: &CallLine) -> bool
-    ensures { IsTrue result ↔ IsInRange call.now }
+fn is_in_range(limits: Limits, call: &CallLine) -> bool
+    ensures { IsTrue result ↔ IsInRange limits call.now }
 {
     match call {
         CallLine::Send {
@@ -73,7 +82,11 @@ fn is_in_range(call: &CallLine) -> bool
             tag,
             communicator,
             ..
-        } => *destination <= 63 && *tag <= 32767 && is_communicator(*communicator),
+        } => {
+            *destination <= limits.peer
+                && *tag <= limits.tag
+                && is_communicator(limits.communicator, *communicator)
+        }
         CallLine::Receive {
             source,
             tag,
@@ -90,7 +103,7 @@ fn is_in_range(call: &CallLine) -> bool
             source,
             tag,
             communicator,
-        } => pattern_is_in_range(*source, *tag, *communicator),
+        } => pattern_is_in_range(limits, *source, *tag, *communicator),
         CallLine::MatchedReceive { .. } | CallLine::Wait { .. } | CallLine::WaitAll { .. } => true,
         CallLine::SendReceive {
             destination,
@@ -99,16 +112,16 @@ fn is_in_range(call: &CallLine) -> bool
             receive_tag,
             communicator,
         } => {
-            *destination <= 63
-                && *send_tag <= 32767
-                && pattern_is_in_range(*source, *receive_tag, *communicator)
+            *destination <= limits.peer
+                && *send_tag <= limits.tag
+                && pattern_is_in_range(limits, *source, *receive_tag, *communicator)
         }
     }
 }
 
 /// Whether the words are the heading of the rank `next`, and that is below `total`.
 fn rank_follows(words: &[&[u8]], next: u32, total: u32) -> bool
-    requires { next ≤ 64 }
+    requires { next ≤ 2147483647 }
     ensures { IsTrue result ↔ ((next < total) × (rank_words next ≡ map (λ w. w.now) words.now)) }
 {
     next < total && is_rank(words, next)
@@ -128,10 +141,17 @@ fn refused_in(words: &[&[u8]]) -> Option<RefusedWord>
 
 /// The line, which an LF ends, as a call or as the heading of the rank `next`, which may stand
 /// here if it is below `total`.
-pub fn item_of(alloc: Global, line: &[u8], next: u32, total: u32) -> Result<Item, LineFault>
-    requires { next ≤ 64 }
-    ensures ok { IfOk result (λ item. IsItem item next total (line.now ++ 10 ∷ [])) }
-    ensures err { IfErr result (λ fault. IsWrong fault next total (line.now ++ 10 ∷ [])) }
+pub fn item_of(
+    alloc: Global,
+    limits: Limits,
+    line: &[u8],
+    next: u32,
+    total: u32,
+) -> Result<Item, LineFault>
+    requires limits { AreLimits limits }
+    requires next { next ≤ 2147483647 }
+    ensures ok { IfOk result (λ item. IsItem limits item next total (line.now ++ 10 ∷ [])) }
+    ensures err { IfErr result (λ fault. IsWrong limits fault next total (line.now ++ 10 ∷ [])) }
 {
     if !line.is_ascii() {
         return Err(LineFault::NotAscii);
@@ -139,7 +159,7 @@ pub fn item_of(alloc: Global, line: &[u8], next: u32, total: u32) -> Result<Item
     let words = words_of(alloc, line)?;
     let found = call_of(alloc, &words)?;
     if let Some(call) = found {
-        if is_in_range(&call) {
+        if is_in_range(limits, &call) {
             return Ok(Item::Call(call));
         }
         return Err(LineFault::Range);

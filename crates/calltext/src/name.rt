@@ -7,29 +7,39 @@ use std::alloc::{AllocError, Global};
 use std::marker::Model;
 
 /// The name of a request or of a handle: one letter a to z, and then up to 15 of a to z and 0 to 9.
+/// It stands in place, since a text has as many names as calls.
 #[derive(Drop)]
 pub struct Name {
-    letters: Vec<u8>,
+    letters: [u8; 16],
+    count: usize,
 }
 
 impl Model for Name {
-    ghost use Rattle.std.specs.Prelude.{ℕ, List, IsTrue};
+    ghost use Rattle.std.specs.Prelude.{ℕ, List, IsTrue, ◌≤◌, take};
     ghost use Rattle.calltext.specs.Names.{is_name};
 
     ghost Value = { List ℕ };
 
-    ghost view = { λ name. name.letters.items };
+    ghost view = { λ name. take name.count name.letters };
 
-    ghost invariant = { λ name. IsTrue (is_name name.letters.items) };
+    ghost invariant = { λ name. (name.count ≤ 16) × IsTrue (is_name (take name.count name.letters)) };
 }
 
 impl Name {
-    /// A name of these letters and digits.
-    pub(crate) fn new(letters: Vec<u8>) -> Name
-        requires { IsTrue (is_name letters.items) }
-        ensures { result ≡ letters.items }
+    /// The name of these letters and digits.
+    pub(crate) fn new(word: &[u8]) -> Name
+        requires name { IsTrue (is_name word.now) }
+        requires short { length word.now ≤ 16 }
+        ensures { result ≡ word.now }
     {
-        Name { letters }
+        let mut letters = [0; 16];
+        for (place, letter) in word.iter().enumerate() {
+            letters[place] = *letter;
+        }
+        Name {
+            letters,
+            count: word.len(),
+        }
     }
 
     /// The letters and digits of the name, in ASCII.
@@ -37,7 +47,7 @@ impl Name {
         ensures value { result.now ≡ self.now }
         ensures kept { IsTrue (is_name self.now) }
     {
-        self.letters.as_slice()
+        &self.letters[..self.count]
     }
 }
 
@@ -96,28 +106,26 @@ fn is_name(word: &[u8]) -> bool
     first.is_ascii_lowercase() && others.len() <= 15 && are_letters_or_digits(others)
 }
 
-/// The name that is spelled so; none where the word is no name. The only error is want of memory,
-/// here and below.
-pub(crate) fn name_of(alloc: Global, word: &[u8]) -> Result<Option<Name>, AllocError>
-    ensures none { IfOk result (λ found. IfNone found (is_name word.now ≡ false)) }
-    ensures some { IfOk result (λ found. IfSome found (λ name. (name ≡ word.now) × IsTrue (is_name name))) }
+/// The name that is spelled so; none where the word is no name.
+pub(crate) fn name_of(word: &[u8]) -> Option<Name>
+    ensures none { IfNone result (is_name word.now ≡ false) }
+    ensures some { IfSome result (λ name. (name ≡ word.now) × IsTrue (is_name name)) }
 {
     if !is_name(word) {
-        return Ok(None);
+        return None;
     }
-    let mut letters = Vec::new(alloc);
-    letters.extend_from_slice(word)?;
-    Ok(Some(Name::new(letters)))
+    Some(Name::new(word))
 }
 
-/// The names that are spelled so; none where there is no word, or one is no name.
+/// The names that are spelled so; none where there is no word, or one is no name. The only error is
+/// want of memory.
 pub(crate) fn names_of(alloc: Global, words: &[&[u8]]) -> Result<Option<Names>, AllocError>
     ensures none { IfOk result (λ found. IfNone found (AreNames (map (λ w. w.now) words.now) → ⊥)) }
     ensures some { IfOk result (λ found. IfSome found (λ names. (names ≡ map (λ w. w.now) words.now) × AreNames names)) }
 {
     let mut names = Vec::new(alloc);
     for word in words {
-        match name_of(alloc, word)? {
+        match name_of(word) {
             Some(name) => names.push(name)?,
             None => return Ok(None),
         }

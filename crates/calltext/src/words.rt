@@ -45,7 +45,7 @@ pub fn policy_of(words: &[&[u8]]) -> Option<Policy>
 
 /// Whether the words are the heading of this rank.
 pub fn is_rank(words: &[&[u8]], rank: u32) -> bool
-    requires { rank ≤ 1000 }
+    requires { rank ≤ 2147483647 }
     ensures { IsTrue result ↔ (rank_words rank ≡ map (λ w. w.now) words.now) }
 {
     match words {

@@ -10,7 +10,7 @@ use Rattle.plaintext.proofs.Ascii.{ascii_line}
 use Rattle.calltext.proofs.heading.ranks_line.Goals as goal
 
 pub returns-in_default-clause-err : goal.returns-in_default-clause-err
-returns-in_default-clause-err c = unended_wrong IsRanksLine AreRanksWithin c.unended.result c.args.bytes.now c.in_default.ensures.none c.unended.ensures (λ (n, e). (ranks_words n, e))
+returns-in_default-clause-err c = unended_wrong IsRanksLine (AreRanksWithin c.args.limits) c.unended.result c.args.bytes.now c.in_default.ensures.none c.unended.ensures (λ (n, e). (ranks_words n, e))
 
 pub returns-in_default-ranks_of-clause-err : goal.returns-in_default-ranks_of-clause-err
 returns-in_default-ranks_of-clause-err c =

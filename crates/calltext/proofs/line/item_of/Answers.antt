@@ -13,14 +13,14 @@ use Rattle.calltext.proofs.line.item_of.Goals as goal
 pub returns-then-is_in_range-clause-ok : goal.returns-then-is_in_range-clause-ok
 returns-then-is_in_range-clause-ok c =
     let seen : map (λ w. w.now) c.deref.result.now ≡ parts c.args.line.now = ap (map (λ w. w.now)) c.deref.ensures.value ∙ c.in_ok-words.ensures in
-    item_call c.args.line.now _ c.in-Some.call seen (some_of _ _ _ c.in-Some.is c.in_ok-found.ensures.some) (c.is_in_range.ensures.0 c.if-is_in_range.true)
+    item_call c.args.limits c.args.line.now _ c.in-Some.call c.requires.limits seen (some_of _ _ _ c.in-Some.is c.in_ok-found.ensures.some) (c.is_in_range.ensures.0 c.if-is_in_range.true)
 
 pub returns-in-Some-clause-err : goal.returns-in-Some-clause-err
 returns-in-Some-clause-err c =
     let seen : map (λ w. w.now) c.deref.result.now ≡ parts c.args.line.now = ap (map (λ w. w.now)) c.deref.ensures.value ∙ c.in_ok-words.ensures in
     let ascii : IsAscii c.args.line.now = search rules in
-    let no : IsInRange c.in-Some.call → ⊥ = λ fits. absurd (let t : c.is_in_range.result ≡ true = c.is_in_range.ensures.1 fits in let f = c.if-is_in_range.false in cc) in
-    let x = item_range c.args.line.now _ c.in-Some.call seen (some_of _ _ _ c.in-Some.is c.in_ok-found.ensures.some) no in
+    let no : IsInRange c.args.limits c.in-Some.call → ⊥ = λ fits. absurd (let t : c.is_in_range.result ≡ true = c.is_in_range.ensures.1 fits in let f = c.if-is_in_range.false in cc) in
+    let x = item_range c.args.limits c.args.line.now _ c.in-Some.call seen (some_of _ _ _ c.in-Some.is c.in_ok-found.ensures.some) no in
     (ascii_line c.args.line.now ascii, x.0, x.1, x.2, x.3)
 
 pub returns-then-rank_follows-clause-ok : goal.returns-then-rank_follows-clause-ok
