@@ -14,6 +14,8 @@ use Rattle.formulas.specs.Numbering.{formula_of}
 use Rattle.encode.specs.declared.fault.EncodeFault.TheVariants as encoding
 use Rattle.semantics.specs.declared.state.Step.{Step}
 use Rattle.semantics.specs.declared.schedule.End.TheVariants as ends
+use Rattle.calltext.specs.Limits.{short}
+use Rattle.semantics.specs.Headline.{IsNeverStuckWithin}
 use Rattle.semantics.specs.Machine.{IsStuckRun, IsFinishedRun, IsLiveRun, StopsAt}
 use Rattle.refutations.specs.Refutations.{Accepts, AreDerived, IsFirstFaulty}
 use Rattle.refutations.specs.Trees.{AcceptsTree, HasTreeFault}
@@ -33,10 +35,8 @@ use Rattle.checker.specs.declared.reason.Verdict.TheVariants as verdicts
 
 -- The program's bytes are the text of a program, and no list of steps is a run of it that ends where a rank is unfinished and no
 -- step is enabled.
-pub record IsNeverStuck (program : List ℕ) : Type 0 where
-  pub p : MpiProgram
-  pub text : IsTextOf program p
-  pub never : (steps : List Step) → IsStuckRun p steps → ⊥
+abbrev pub IsNeverStuck : List ℕ → Type 0
+IsNeverStuck = IsNeverStuckWithin short
 
 -- The program's bytes are the text of a program, the evidence's bytes are the text of a schedule, and the schedule is
 -- a run of that program that ends where a rank is unfinished and no step is enabled.

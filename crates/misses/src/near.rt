@@ -4,14 +4,14 @@ ghost use Rattle.std.specs.Prelude.{◌≡◌, IfOk, length};
 ghost use Rattle.misses.specs.Misses.{misses_in, is_unmatched_fit, is_near_miss, has_unmatched_fit, near_misses, unmatched_misses};
 
 use crate::parts::{Part, missed_by};
-use callorder::Program;
+use callorder::LongProgram;
 use semantics::State;
 use std::alloc::{AllocError, Global};
 use waits::fits_with;
 
 /// The one part in which the calls at two places miss each other, if one is a send, the other a receive or a matched probe, or, where
 /// the first call is that, a probe, and all other parts hold. A send misses no probe, as it looks for none.
-pub fn misses_in(program: &Program, call: usize, other: usize) -> Option<Part>
+pub fn misses_in(program: &LongProgram, call: usize, other: usize) -> Option<Part>
     ensures { result ≡ misses_in program.now call other }
 {
     match (program.call(call), program.call(other)) {
@@ -29,21 +29,21 @@ pub fn misses_in(program: &Program, call: usize, other: usize) -> Option<Part>
 }
 
 /// Whether the call at the second place is one that the first looks for, and has no partner.
-fn is_unmatched_fit(program: &Program, state: &State, call: usize, other: usize) -> bool
+fn is_unmatched_fit(program: &LongProgram, state: &State, call: usize, other: usize) -> bool
     ensures { result ≡ is_unmatched_fit program.now state.now call other }
 {
     fits_with(program, call, other) && state.partner(other).is_none()
 }
 
 /// Whether the call at the second place misses the first in one part, and has no partner.
-fn is_near_miss(program: &Program, state: &State, call: usize, other: usize) -> bool
+fn is_near_miss(program: &LongProgram, state: &State, call: usize, other: usize) -> bool
     ensures { result ≡ is_near_miss program.now state.now call other }
 {
     misses_in(program, call, other).is_some() && state.partner(other).is_none()
 }
 
 /// Whether a call that the one at this place looks for has no partner.
-fn has_unmatched_fit(program: &Program, state: &State, call: usize) -> bool
+fn has_unmatched_fit(program: &LongProgram, state: &State, call: usize) -> bool
     ensures { result ≡ has_unmatched_fit program.now state.now call }
 {
     (0..program.calls().len()).any(|other| is_unmatched_fit(program, state, call, other))
@@ -52,7 +52,7 @@ fn has_unmatched_fit(program: &Program, state: &State, call: usize) -> bool
 /// The places of the calls that have no partner and miss the one at this place in exactly one part, in rising order.
 fn unmatched_misses(
     alloc: Global,
-    program: &Program,
+    program: &LongProgram,
     state: &State,
     call: usize,
 ) -> Result<Vec<usize>, AllocError>
@@ -68,7 +68,7 @@ fn unmatched_misses(
 /// call without a partner fits. The only error is want of memory.
 pub fn near_misses(
     alloc: Global,
-    program: &Program,
+    program: &LongProgram,
     state: &State,
     call: usize,
 ) -> Result<Vec<usize>, AllocError>

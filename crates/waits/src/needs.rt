@@ -3,7 +3,7 @@
 ghost use Rattle.std.specs.Prelude.{◌≡◌};
 ghost use Rattle.waits.specs.Waiting.{operation_of_call, handled_receive, need_of_operation};
 
-use callorder::{Kind, Program};
+use callorder::{Kind, LongProgram};
 use semantics::State;
 
 /// What an operation that is not done waits for.
@@ -17,7 +17,7 @@ pub enum Need {
 }
 
 /// The place of the operation whose end the call at a place waits for: that of a wait, else the call itself.
-pub fn operation_of(program: &Program, call: usize) -> usize
+pub fn operation_of(program: &LongProgram, call: usize) -> usize
     ensures { result ≡ operation_of_call program.now call }
 {
     match program.call(call) {
@@ -30,7 +30,7 @@ pub fn operation_of(program: &Program, call: usize) -> usize
 }
 
 /// The place of the receive on the handle of the call at a place, where that is a matched probe.
-fn handled_receive(program: &Program, call: usize) -> Option<usize>
+fn handled_receive(program: &LongProgram, call: usize) -> Option<usize>
     ensures { result ≡ handled_receive program.now call }
 {
     match program.call(call) {
@@ -43,7 +43,7 @@ fn handled_receive(program: &Program, call: usize) -> Option<usize>
 }
 
 /// What the operation of the call at a place waits for; none where it is done, or where there is no such call.
-pub fn need_of(program: &Program, state: &State, operation: usize) -> Option<Need>
+pub fn need_of(program: &LongProgram, state: &State, operation: usize) -> Option<Need>
     ensures { result ≡ need_of_operation program.now state.now operation }
 {
     if program.call(operation).is_none() || state.is_done(program, operation) {

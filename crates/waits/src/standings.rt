@@ -4,7 +4,7 @@ ghost use Rattle.std.specs.Prelude.{◌≡◌, ◌↔◌, ℕ, IfSome, IfNone};
 ghost use Rattle.waits.specs.declared.standings.Standing.{Standing};
 ghost use Rattle.waits.specs.Waiting.{Stands, WaitsIn};
 
-use callorder::Program;
+use callorder::LongProgram;
 use semantics::State;
 
 /// Where a rank stands.
@@ -19,7 +19,7 @@ pub enum Standing {
 }
 
 /// The place of the call that a rank waits in, if it waits.
-fn pending(program: &Program, state: &State, rank: u32) -> Option<usize>
+fn pending(program: &LongProgram, state: &State, rank: u32) -> Option<usize>
     ensures some { IfSome result (λ call. WaitsIn program.now state.now rank call) }
     ensures none { IfNone result ((call : ℕ) → WaitsIn program.now state.now rank call → ⊥) }
 {
@@ -35,7 +35,7 @@ fn pending(program: &Program, state: &State, rank: u32) -> Option<usize>
 }
 
 /// Where a rank, from 0, stands. A rank that the program lacks is told as finished.
-pub fn standing_of(program: &Program, state: &State, rank: u32) -> Standing
+pub fn standing_of(program: &LongProgram, state: &State, rank: u32) -> Standing
     ensures { (standing : Standing) → (result ≡ standing) ↔ Stands program.now state.now rank standing }
 {
     if let Some(call) = pending(program, state, rank) {
