@@ -4,7 +4,7 @@ ghost use Rattle.std.specs.Prelude.{◌≡◌, IfOk};
 ghost use Rattle.semantics.specs.Machine.{IsStuckRun, after_all, opening};
 ghost use Rattle.charts.specs.Acts.{act_of, acts_from};
 
-use callorder::Program;
+use callorder::LongProgram;
 use semantics::{State, Step};
 use std::alloc::{AllocError, Global};
 
@@ -41,7 +41,7 @@ fn act_of(state: &State, step: Step) -> Act
 }
 
 /// Takes the steps of a run that ends stuck.
-pub fn play(alloc: Global, program: &Program, steps: &[Step]) -> Result<Played, AllocError>
+pub fn play(alloc: Global, program: &LongProgram, steps: &[Step]) -> Result<Played, AllocError>
     requires { IsStuckRun program.now steps.now }
     ensures acts { IfOk result (λ played. played.acts.items ≡ acts_from (opening program.now) steps.now) }
     ensures end { IfOk result (λ played. played.end ≡ after_all (opening program.now) steps.now) }

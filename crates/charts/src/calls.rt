@@ -4,7 +4,7 @@ ghost use Rattle.std.specs.Prelude.{◌≡◌, ◌==◌, ◌-◌, IfOk, map, tak
 ghost use Rattle.std.specs.List.{count_by, slice_split};
 ghost use Rattle.charts.specs.Calls.{line_at, part_words, part_of, shortened, told_calls, telling_at};
 
-use callorder::Program;
+use callorder::LongProgram;
 use calltext::Source;
 use explain::line_numbers;
 use std::alloc::{AllocError, Global};
@@ -140,7 +140,7 @@ pub fn told_calls(
     alloc: Global,
     text: &[u8],
     source: &Source,
-    program: &Program,
+    program: &LongProgram,
 ) -> Result<Vec<Told>, AllocError>
     ensures { IfOk result (λ calls. calls.items ≡ told_calls text.now source.now program.now) }
 {

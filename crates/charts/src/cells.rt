@@ -6,7 +6,7 @@ ghost use Rattle.charts.specs.Chart.{are_narrow, end_cell, end_word, find_cell, 
 
 use crate::calls::{Told, shortened};
 use crate::writing::put_number;
-use callorder::Program;
+use callorder::LongProgram;
 use semantics::State;
 use std::alloc::{AllocError, Global};
 
@@ -190,7 +190,7 @@ fn end_word(is_finished: bool) -> &'static str
 /// Writes a rank's cell of the last row.
 pub fn put_end_cell(
     out: &mut Vec<u8>,
-    program: &Program,
+    program: &LongProgram,
     end: &State,
     rank: u32,
 ) -> Result<(), AllocError>

@@ -9,7 +9,7 @@ use crate::acts::{Act, play};
 use crate::calls::{Told, told_calls};
 use crate::cells::{issue_mark, put_end_cell, put_find_cell, put_heading_cell, put_issue_cell};
 use crate::writing::put_number;
-use callorder::Program;
+use callorder::LongProgram;
 use calltext::Source;
 use semantics::{State, Step};
 use std::alloc::{AllocError, Global};
@@ -170,7 +170,7 @@ fn put_rows(
 }
 
 /// Writes the last row, of where each rank stands.
-fn put_end(out: &mut Vec<u8>, program: &Program, end: &State) -> Result<(), AllocError>
+fn put_end(out: &mut Vec<u8>, program: &LongProgram, end: &State) -> Result<(), AllocError>
     ensures { OnOk result (out.new.items ≡ out.old.items ++ end_row program.now end.now) }
 {
     for rank in 0..program.ranks() {
@@ -190,7 +190,7 @@ pub fn chart(
     alloc: Global,
     text: &[u8],
     source: &Source,
-    program: &Program,
+    program: &LongProgram,
     steps: &[Step],
 ) -> Result<Vec<u8>, AllocError>
     requires { IsStuckRun program.now steps.now }

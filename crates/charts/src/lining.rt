@@ -8,7 +8,7 @@ ghost use Rattle.charts.specs.Lining.{act_line, call_words, find_line, how_issue
 use crate::acts::{Act, play};
 use crate::calls::{Told, told_calls};
 use crate::writing::put_number;
-use callorder::Program;
+use callorder::LongProgram;
 use calltext::Source;
 use semantics::Step;
 use std::alloc::{AllocError, Global};
@@ -113,7 +113,7 @@ pub fn lined_steps(
     alloc: Global,
     text: &[u8],
     source: &Source,
-    program: &Program,
+    program: &LongProgram,
     steps: &[Step],
 ) -> Result<Vec<u8>, AllocError>
     requires { IsStuckRun program.now steps.now }

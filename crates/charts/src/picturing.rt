@@ -12,7 +12,7 @@ use crate::drawing::{
     put_short, put_stub, x_of, y_of,
 };
 use crate::writing::{put_number, put_text};
-use callorder::Program;
+use callorder::LongProgram;
 use calltext::Source;
 use semantics::{State, Step};
 use std::alloc::{AllocError, Global};
@@ -27,7 +27,7 @@ fn put_blank(out: &mut Vec<u8>, place: usize) -> Result<(), AllocError>
 }
 
 /// Whether the call is a send whose message is not received in the state.
-fn is_left(program: &Program, end: &State, call: usize) -> bool
+fn is_left(program: &LongProgram, end: &State, call: usize) -> bool
     ensures { result ≡ is_left program.now end.now call }
 {
     match program.call(call) {
@@ -114,7 +114,7 @@ fn put_find(
 fn put_drawn(
     out: &mut Vec<u8>,
     alloc: Global,
-    program: &Program,
+    program: &LongProgram,
     end: &State,
     calls: &[Told],
     place: usize,
@@ -136,7 +136,7 @@ fn put_drawn(
 fn put_drawn_at(
     out: &mut Vec<u8>,
     alloc: Global,
-    program: &Program,
+    program: &LongProgram,
     end: &State,
     calls: &[Told],
     acts: &[Act],
@@ -154,7 +154,7 @@ fn put_drawn_at(
 fn put_steps(
     out: &mut Vec<u8>,
     alloc: Global,
-    program: &Program,
+    program: &LongProgram,
     end: &State,
     calls: &[Told],
     acts: &[Act],
@@ -207,7 +207,7 @@ fn put_waits_at(
 fn put_end_text(
     out: &mut Vec<u8>,
     alloc: Global,
-    program: &Program,
+    program: &LongProgram,
     end: &State,
     calls: &[Told],
     rank: u32,
@@ -235,7 +235,7 @@ fn last_of(end: &State, rank: u32) -> usize
 fn put_drawn_end(
     out: &mut Vec<u8>,
     alloc: Global,
-    program: &Program,
+    program: &LongProgram,
     end: &State,
     calls: &[Told],
     steps: usize,
@@ -253,7 +253,7 @@ fn put_drawn_end(
 fn put_ends(
     out: &mut Vec<u8>,
     alloc: Global,
-    program: &Program,
+    program: &LongProgram,
     end: &State,
     calls: &[Told],
     steps: usize,
@@ -270,7 +270,7 @@ fn put_ends(
 fn put_picture(
     out: &mut Vec<u8>,
     alloc: Global,
-    program: &Program,
+    program: &LongProgram,
     end: &State,
     calls: &[Told],
     acts: &[Act],
@@ -296,7 +296,7 @@ pub fn picture(
     alloc: Global,
     text: &[u8],
     source: &Source,
-    program: &Program,
+    program: &LongProgram,
     steps: &[Step],
 ) -> Result<Vec<u8>, AllocError>
     requires { IsStuckRun program.now steps.now }

@@ -2,7 +2,7 @@
 
 use crate::missing::put_misses;
 use crate::placing::{MOST_TOLD, Scene, put_call_of, put_number_of, put_where};
-use callorder::Program;
+use callorder::LongProgram;
 use std::alloc::{AllocError, Global};
 use waits::{Fate, fate_of, fitting};
 
@@ -10,7 +10,7 @@ use waits::{Fate, fate_of, fitting};
 const MOST_CALLS: usize = 3;
 
 /// Whether the call is a send.
-pub fn is_send(program: &Program, call: usize) -> bool {
+pub fn is_send(program: &LongProgram, call: usize) -> bool {
     match program.call(call) {
         None => false,
         Some(known) => known.kind.message().is_some(),
@@ -20,7 +20,7 @@ pub fn is_send(program: &Program, call: usize) -> bool {
 /// Tells by which call a call that fits is taken, or which message it took.
 fn put_taken(
     out: &mut String,
-    program: &Program,
+    program: &LongProgram,
     scene: &Scene,
     call: usize,
     other: usize,
@@ -36,7 +36,7 @@ fn put_taken(
 /// Tells where the rank of a call stands.
 pub fn put_where_its_rank(
     out: &mut String,
-    program: &Program,
+    program: &LongProgram,
     scene: &Scene,
     call: usize,
 ) -> Result<(), AllocError> {
@@ -49,7 +49,7 @@ pub fn put_where_its_rank(
 /// Tells a call that fits, and what became of it.
 fn put_candidate(
     out: &mut String,
-    program: &Program,
+    program: &LongProgram,
     scene: &Scene,
     call: usize,
 ) -> Result<(), AllocError> {
@@ -70,7 +70,7 @@ fn put_candidate(
 /// Tells many calls of one rank that fit by their number and their lines.
 fn put_folded(
     out: &mut String,
-    program: &Program,
+    program: &LongProgram,
     scene: &Scene,
     calls: &[usize],
     reached: bool,
@@ -102,7 +102,7 @@ fn put_folded(
 /// The calls of a rank among these that are reached, or those that aren't.
 fn of_rank(
     alloc: Global,
-    program: &Program,
+    program: &LongProgram,
     scene: &Scene,
     calls: &[usize],
     rank: u32,
@@ -121,7 +121,7 @@ fn of_rank(
 /// Tells these calls of one rank, one by one where they are few.
 fn put_calls(
     out: &mut String,
-    program: &Program,
+    program: &LongProgram,
     scene: &Scene,
     calls: &[usize],
     reached: bool,
@@ -139,7 +139,7 @@ fn put_calls(
 fn put_of_rank(
     out: &mut String,
     alloc: Global,
-    program: &Program,
+    program: &LongProgram,
     scene: &Scene,
     calls: &[usize],
     rank: u32,
@@ -169,7 +169,7 @@ fn put_other_ranks(out: &mut String, scene: &Scene, count: usize) -> Result<(), 
 pub fn put_candidates(
     out: &mut String,
     alloc: Global,
-    program: &Program,
+    program: &LongProgram,
     scene: &Scene,
     operation: usize,
 ) -> Result<(), AllocError> {

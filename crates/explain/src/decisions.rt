@@ -4,7 +4,7 @@
 ghost use Rattle.semantics.specs.Machine.{IsStuckRun};
 
 use crate::placing::{Scene, put_call_of, put_finding, put_number_of};
-use callorder::{Policy, Program};
+use callorder::{LongProgram, Policy};
 use semantics::{State, Step};
 use std::alloc::{AllocError, Global};
 
@@ -12,7 +12,7 @@ use std::alloc::{AllocError, Global};
 const MOST_RIVALS: usize = 3;
 
 /// Whether the call is a receive, a matched probe or a probe with a star.
-pub fn is_wildcard(program: &Program, finder: usize) -> bool {
+pub fn is_wildcard(program: &LongProgram, finder: usize) -> bool {
     match program.call(finder) {
         None => false,
         Some(call) => match call.kind.pattern() {
@@ -23,12 +23,12 @@ pub fn is_wildcard(program: &Program, finder: usize) -> bool {
 }
 
 /// Whether the call is an unmatched send that fits the receive, matched probe or probe.
-fn is_free_send(program: &Program, state: &State, send: usize, finder: usize) -> bool {
+fn is_free_send(program: &LongProgram, state: &State, send: usize, finder: usize) -> bool {
     program.are_fit(send, finder) && state.partner(send).is_none()
 }
 
 /// Whether an earlier send of the send's rank would be found by the call first.
-fn is_behind(program: &Program, state: &State, send: usize, finder: usize) -> bool {
+fn is_behind(program: &LongProgram, state: &State, send: usize, finder: usize) -> bool {
     (0..send).any(|earlier| {
         program.are_of_one_rank(earlier, send) && is_free_send(program, state, earlier, finder)
     })
@@ -37,7 +37,7 @@ fn is_behind(program: &Program, state: &State, send: usize, finder: usize) -> bo
 /// The sends of other ranks that fit the call too, of each rank the first one that is not matched.
 pub fn rivals(
     alloc: Global,
-    program: &Program,
+    program: &LongProgram,
     state: &State,
     send: usize,
     finder: usize,
@@ -55,7 +55,7 @@ pub fn rivals(
 fn put_choice(
     out: &mut String,
     alloc: Global,
-    program: &Program,
+    program: &LongProgram,
     scene: &Scene,
     state: &State,
     send: usize,
@@ -100,7 +100,7 @@ fn put_buffered(out: &mut String, scene: &Scene, call: Option<usize>) -> Result<
 fn put_decision(
     out: &mut String,
     alloc: Global,
-    program: &Program,
+    program: &LongProgram,
     scene: &Scene,
     state: &State,
     step: Step,
@@ -123,7 +123,7 @@ fn put_decision(
 /// Tells what the steps decide, in their order.
 pub fn decisions(
     alloc: Global,
-    program: &Program,
+    program: &LongProgram,
     scene: &Scene,
     steps: &[Step],
 ) -> Result<String, AllocError>

@@ -1,11 +1,11 @@
 //! Receives that took another message than the one that a probe before them saw.
 
 use crate::placing::{Scene, put_finding, put_number_of};
-use callorder::Program;
+use callorder::LongProgram;
 use std::alloc::{AllocError, Global};
 
 /// The first receive or matched probe behind a probe, in its rank, that the send fits, if there is one.
-fn next_taker(program: &Program, send: usize, probe: usize) -> Option<usize> {
+fn next_taker(program: &LongProgram, send: usize, probe: usize) -> Option<usize> {
     (probe..program.calls().len()).find(|call| program.are_of_one_rank(*call, probe)
         && program.takes(send, *call))
 }
@@ -13,7 +13,7 @@ fn next_taker(program: &Program, send: usize, probe: usize) -> Option<usize> {
 /// Tells the receive or matched probe that stands behind a probe to take the message that this saw, where it took another one.
 fn put_exchange(
     out: &mut String,
-    program: &Program,
+    program: &LongProgram,
     scene: &Scene,
     probe: usize,
 ) -> Result<(), AllocError> {
@@ -37,7 +37,7 @@ fn put_exchange(
 
 /// Tells the receives and matched probes that took another message than the one that a probe right before them, among the calls of
 /// their rank that the message fits, had seen.
-pub fn exchanged(alloc: Global, program: &Program, scene: &Scene) -> Result<String, AllocError> {
+pub fn exchanged(alloc: Global, program: &LongProgram, scene: &Scene) -> Result<String, AllocError> {
     let mut out = String::new(alloc);
     for place in 0..program.calls().len() {
         if program.is_probe(place) {

@@ -4,7 +4,7 @@ ghost use Rattle.std.specs.Prelude.{◌≡◌, IsTrue, IfSome};
 ghost use Rattle.explain.specs.Links.{is_missing, IsNeeded};
 
 use crate::placing::{MOST_TOLD, Scene, are_in_one_line, are_several, put_line, put_more};
-use callorder::Program;
+use callorder::{LongProgram, Program};
 use semantics::State;
 use std::alloc::{AllocError, Global};
 use waits::{
@@ -37,7 +37,7 @@ pub fn next_on(ranks: &[u32], rank: u32) -> Option<u32> {
 }
 
 /// Whether the call is one of this rank that the operation looks for, and its rank has not come to it.
-fn is_missing(program: &Program, state: &State, operation: usize, rank: u32, call: usize) -> bool
+fn is_missing(program: &LongProgram, state: &State, operation: usize, rank: u32, call: usize) -> bool
     ensures { result ≡ is_missing program.now state.now operation rank call }
 {
     program.is_of_rank(call, rank)
@@ -46,7 +46,7 @@ fn is_missing(program: &Program, state: &State, operation: usize, rank: u32, cal
 }
 
 /// The first call of a rank that an operation looks for, and that its rank has not come to, if there is one.
-fn first_missing(program: &Program, state: &State, operation: usize, rank: u32) -> Option<usize>
+fn first_missing(program: &LongProgram, state: &State, operation: usize, rank: u32) -> Option<usize>
     ensures { IfSome result (λ call. IsTrue (is_missing program.now state.now operation rank call)) }
 {
     for call in 0..program.calls().len() {
@@ -58,7 +58,7 @@ fn first_missing(program: &Program, state: &State, operation: usize, rank: u32) 
 }
 
 /// The call of a rank that an operation needs, the first of them, if there is one.
-pub fn needed(program: &Program, state: &State, operation: usize, rank: u32) -> Option<usize>
+pub fn needed(program: &LongProgram, state: &State, operation: usize, rank: u32) -> Option<usize>
     ensures { IfSome result (λ call. IsNeeded program.now state.now operation rank call) }
 {
     match need_of(program, state, operation) {

@@ -1,7 +1,7 @@
 //! Calls that would match, but for one part of the matching rule.
 
 use crate::placing::Scene;
-use callorder::{Message, Pattern, Program};
+use callorder::{LongProgram, Message, Pattern};
 use misses::{Part, misses_in, near_misses};
 use std::alloc::{AllocError, Global};
 
@@ -49,7 +49,7 @@ fn put_looked_for(out: &mut String, pattern: &Pattern, part: Part) -> Result<(),
 /// Tells the rank of a call, what the call does, as far as a part is concerned, and its line.
 fn put_side(
     out: &mut String,
-    program: &Program,
+    program: &LongProgram,
     scene: &Scene,
     call: usize,
     part: Part,
@@ -72,7 +72,7 @@ fn put_side(
 /// Tells how a call misses an operation that waits.
 fn put_miss(
     out: &mut String,
-    program: &Program,
+    program: &LongProgram,
     scene: &Scene,
     operation: usize,
     other: usize,
@@ -90,7 +90,7 @@ fn put_miss(
 /// The near misses of an operation: those whose ranks have come to them, or all, where no rank has.
 pub fn likely_misses(
     alloc: Global,
-    program: &Program,
+    program: &LongProgram,
     scene: &Scene,
     operation: usize,
 ) -> Result<Vec<usize>, AllocError> {
@@ -108,7 +108,7 @@ pub fn likely_misses(
 pub fn put_misses(
     out: &mut String,
     alloc: Global,
-    program: &Program,
+    program: &LongProgram,
     scene: &Scene,
     operation: usize,
 ) -> Result<(), AllocError> {

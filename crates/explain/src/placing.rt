@@ -1,7 +1,7 @@
 //! Calls and ranks as they are told.
 
 use crate::written::Written;
-use callorder::Program;
+use callorder::LongProgram;
 use semantics::State;
 use std::alloc::AllocError;
 use waits::{RankSet, Standing, standing_of};
@@ -80,7 +80,7 @@ fn put_bare_number(out: &mut String, scene: &Scene, call: usize) -> Result<(), A
 /// Tells in which call a rank waits, if it does.
 pub fn put_where(
     out: &mut String,
-    program: &Program,
+    program: &LongProgram,
     scene: &Scene,
     rank: u32,
 ) -> Result<(), AllocError> {
@@ -103,7 +103,7 @@ pub fn put_more(out: &mut String, scene: &Scene, count: usize) -> Result<(), All
 /// Tells that a receive or matched probe took the message of a send, or that a probe saw it, and begins a line below.
 pub fn put_finding(
     out: &mut String,
-    program: &Program,
+    program: &LongProgram,
     calls: &[Written],
     finder: usize,
     send: usize,

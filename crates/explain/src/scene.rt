@@ -6,13 +6,13 @@ ghost use Rattle.semantics.specs.Machine.{opening, after_all, IsRun, IsStuck, Is
 
 use crate::placing::Scene;
 use crate::written::written_calls;
-use callorder::Program;
+use callorder::{LongProgram, Program};
 use calltext::Source;
 use semantics::{State, Step};
 use std::alloc::{AllocError, Global};
 
 /// The state after the steps of a run that ends stuck.
-fn end_of(alloc: Global, program: &Program, steps: &[Step]) -> Result<State, AllocError>
+fn end_of(alloc: Global, program: &LongProgram, steps: &[Step]) -> Result<State, AllocError>
     requires { IsStuckRun program.now steps.now }
     ensures { IfOk result (λ state. state ≡ after_all (opening program.now) steps.now) }
 {

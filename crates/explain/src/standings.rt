@@ -2,14 +2,14 @@
 
 use crate::candidates::{put_candidates, put_where_its_rank};
 use crate::placing::{MOST_TOLD, Scene, put_call, put_call_of, put_more};
-use callorder::Program;
+use callorder::LongProgram;
 use std::alloc::{AllocError, Global};
 use waits::{Need, RankSet, Standing, need_of, operation_of, standing_of};
 
 /// Tells the call that a rank waits in, and the operation that it waits for, where that is another call's.
 pub fn put_waiting(
     out: &mut String,
-    program: &Program,
+    program: &LongProgram,
     scene: &Scene,
     rank: u32,
     call: usize,
@@ -27,7 +27,7 @@ pub fn put_waiting(
 /// Tells by which matched probe a send was found, and where its receive stands.
 fn put_fetch(
     out: &mut String,
-    program: &Program,
+    program: &LongProgram,
     scene: &Scene,
     operation: usize,
     receive: usize,
@@ -48,7 +48,7 @@ fn put_fetch(
 pub fn put_need(
     out: &mut String,
     alloc: Global,
-    program: &Program,
+    program: &LongProgram,
     scene: &Scene,
     call: usize,
 ) -> Result<(), AllocError> {
@@ -64,7 +64,7 @@ pub fn put_need(
 fn put_standing(
     out: &mut String,
     alloc: Global,
-    program: &Program,
+    program: &LongProgram,
     scene: &Scene,
     rank: u32,
 ) -> Result<(), AllocError> {
@@ -79,12 +79,12 @@ fn put_standing(
 }
 
 /// Whether a rank is finished.
-fn is_finished(program: &Program, scene: &Scene, rank: u32) -> bool {
+fn is_finished(program: &LongProgram, scene: &Scene, rank: u32) -> bool {
     standing_of(program, &scene.state, rank) == Standing::Finished
 }
 
 /// Tells the ranks that are finished, on one line.
-fn put_finished(out: &mut String, program: &Program, scene: &Scene) -> Result<(), AllocError> {
+fn put_finished(out: &mut String, program: &LongProgram, scene: &Scene) -> Result<(), AllocError> {
     let mut before = "  finished: ";
     for rank in 0..program.ranks() {
         if is_finished(program, scene, rank) {
@@ -102,7 +102,7 @@ fn put_finished(out: &mut String, program: &Program, scene: &Scene) -> Result<()
 /// Tells where the ranks stand that weren't told before.
 pub fn standings(
     alloc: Global,
-    program: &Program,
+    program: &LongProgram,
     scene: &Scene,
     told: RankSet,
 ) -> Result<String, AllocError> {

@@ -1,7 +1,7 @@
 //! The messages that nobody received.
 
 use crate::placing::{MOST_TOLD, Scene, put_call_of, put_more, put_number_of};
-use callorder::Program;
+use callorder::LongProgram;
 use std::alloc::{AllocError, Global};
 
 /// Tells a send whose message nobody received, and the matched probe that found it, if one did.
@@ -16,7 +16,7 @@ fn put_message(out: &mut String, scene: &Scene, send: usize) -> Result<(), Alloc
 }
 
 /// Whether the call is a send whose message is sent and that nobody received.
-pub fn is_unreceived(program: &Program, scene: &Scene, call: usize) -> bool {
+pub fn is_unreceived(program: &LongProgram, scene: &Scene, call: usize) -> bool {
     match program.call(call) {
         None => false,
         Some(known) => {
@@ -28,7 +28,7 @@ pub fn is_unreceived(program: &Program, scene: &Scene, call: usize) -> bool {
 }
 
 /// Tells the messages that are sent and that nobody received.
-pub fn unreceived(alloc: Global, program: &Program, scene: &Scene) -> Result<String, AllocError> {
+pub fn unreceived(alloc: Global, program: &LongProgram, scene: &Scene) -> Result<String, AllocError> {
     let mut out = String::new(alloc);
     let mut told: usize = 0;
     for place in 0..program.calls().len() {

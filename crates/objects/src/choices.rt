@@ -2,7 +2,7 @@
 
 ghost use Rattle.semantics.specs.Machine.{IsStuckRun};
 
-use callorder::{Policy, Program};
+use callorder::{LongProgram, Policy};
 use explain::{is_wildcard, rivals};
 use semantics::{State, Step};
 use serde::Serialize;
@@ -32,7 +32,7 @@ fn numbers_of(alloc: Global, places: &[usize]) -> Result<Vec<usize>, AllocError>
 /// What a wildcard found, where others fitted too.
 fn found_by(
     alloc: Global,
-    program: &Program,
+    program: &LongProgram,
     state: &State,
     step: usize,
     send: usize,
@@ -72,7 +72,7 @@ fn buffered_by(alloc: Global, step: usize, send: Option<usize>) -> Option<Choice
 /// What a step decides in a state, if it does.
 fn choice_of(
     alloc: Global,
-    program: &Program,
+    program: &LongProgram,
     state: &State,
     place: usize,
     step: Step,
@@ -95,7 +95,7 @@ fn choice_of(
 /// The choices of a run, in the order of its steps.
 pub fn choices_of(
     alloc: Global,
-    program: &Program,
+    program: &LongProgram,
     steps: &[Step],
 ) -> Result<Vec<Choice>, AllocError>
     requires { IsStuckRun program.now steps.now }
