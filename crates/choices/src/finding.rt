@@ -7,7 +7,7 @@ ghost use Rattle.choices.specs.Weights.{AreChoicesOf, IsChoiceOf};
 
 use crate::items::Choice;
 use crate::places::{line_numbers, lines_of};
-use callorder::Program;
+use callorder::LongProgram;
 use narrowing::{Taken, is_open_send, other_ways, way_to};
 use semantics::{State, Step};
 use std::alloc::{AllocError, Global};
@@ -21,7 +21,7 @@ fn line_of_call(numbers: &[usize], call: usize) -> Option<usize> {
 /// A choice of this call, with all of its other ways.
 fn choice_of(
     alloc: Global,
-    program: &Program,
+    program: &LongProgram,
     line: usize,
     call: usize,
     step: usize,
@@ -51,7 +51,7 @@ enum Open {
 }
 
 /// Whether the call is a receive, a matched probe or a probe with a star.
-fn is_wildcard(program: &Program, finder: usize) -> bool {
+fn is_wildcard(program: &LongProgram, finder: usize) -> bool {
     let Some(call) = program.call(finder) else {
         return false;
     };
@@ -62,7 +62,7 @@ fn is_wildcard(program: &Program, finder: usize) -> bool {
 }
 
 /// What a step leaves open in a state, if anything.
-fn open_at(program: &Program, state: &State, step: Step) -> Option<Open> {
+fn open_at(program: &LongProgram, state: &State, step: Step) -> Option<Open> {
     match step {
         Step::Issue { rank, buffered } => {
             let call = state.next_of(rank)?;
@@ -74,7 +74,7 @@ fn open_at(program: &Program, state: &State, step: Step) -> Option<Open> {
 }
 
 /// That a call finds messages, if it has a star.
-fn open_message(program: &Program, send: usize, finder: usize) -> Option<Open> {
+fn open_message(program: &LongProgram, send: usize, finder: usize) -> Option<Open> {
     if is_wildcard(program, finder) {
         Some(Open::Message { send, finder })
     } else {
@@ -83,7 +83,7 @@ fn open_message(program: &Program, send: usize, finder: usize) -> Option<Open> {
 }
 
 /// The rank of a call.
-fn rank_of(program: &Program, call: usize) -> u32 {
+fn rank_of(program: &LongProgram, call: usize) -> u32 {
     match program.call(call) {
         None => 0,
         Some(known) => known.rank,
@@ -94,7 +94,7 @@ fn rank_of(program: &Program, call: usize) -> u32 {
 fn put_send(
     found: &mut Vec<Choice>,
     alloc: Global,
-    program: &Program,
+    program: &LongProgram,
     numbers: &[usize],
     step: usize,
     call: usize,
@@ -122,7 +122,7 @@ fn put_send(
 fn put_message(
     found: &mut Vec<Choice>,
     alloc: Global,
-    program: &Program,
+    program: &LongProgram,
     numbers: &[usize],
     step: usize,
     send: usize,
@@ -149,7 +149,7 @@ fn put_message(
 fn put_choice(
     found: &mut Vec<Choice>,
     alloc: Global,
-    program: &Program,
+    program: &LongProgram,
     numbers: &[usize],
     state: &State,
     place: usize,
@@ -172,7 +172,7 @@ fn put_choice(
 fn put_choices(
     found: &mut Vec<Choice>,
     alloc: Global,
-    program: &Program,
+    program: &LongProgram,
     numbers: &[usize],
     steps: &[Step],
 ) -> Result<(), AllocError>
@@ -191,7 +191,7 @@ fn put_choices(
 pub fn choices_of(
     alloc: Global,
     text: &[u8],
-    program: &Program,
+    program: &LongProgram,
     steps: &[Step],
 ) -> Result<Vec<Choice>, AllocError>
     requires { IsStuckRun program.now steps.now }

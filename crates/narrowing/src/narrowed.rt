@@ -4,7 +4,7 @@ ghost use Rattle.std.specs.Prelude.{◌≡◌, IsTrue};
 ghost use Rattle.narrowing.specs.Narrowed.{named, named_pattern, narrowed_kind, IsNarrowedAt, IsNarrowed};
 
 use crate::taken::Taken;
-use callorder::{Kind, Pattern, Program};
+use callorder::{Kind, LongProgram, Pattern};
 use calltext::Mode;
 
 /// A number in the place of a star.
@@ -75,7 +75,7 @@ fn narrowed_kind(way: Taken, kind: Kind) -> Kind
 }
 
 /// Whether the second program has at this place the first one's call, with no more left open where it is the one that is meant.
-fn is_narrowed_at(program: &Program, call: usize, way: Taken, other: &Program, place: usize) -> bool
+fn is_narrowed_at(program: &LongProgram, call: usize, way: Taken, other: &LongProgram, place: usize) -> bool
     ensures { IsTrue result → IsNarrowedAt program.now call way other.now place }
 {
     let (Some(old), Some(new)) = (program.call(place), other.call(place)) else {
@@ -90,7 +90,7 @@ fn is_narrowed_at(program: &Program, call: usize, way: Taken, other: &Program, p
 }
 
 /// Whether the second program is the first one, but that this call of it leaves open no more than this way. Takes no memory.
-pub fn is_narrowed(program: &Program, call: usize, way: Taken, other: &Program) -> bool
+pub fn is_narrowed(program: &LongProgram, call: usize, way: Taken, other: &LongProgram) -> bool
     ensures { IsTrue result → IsNarrowed program.now call way other.now }
 {
     let count = program.calls().len();

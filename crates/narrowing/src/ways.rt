@@ -10,7 +10,7 @@ use calltext::{Mode, Policy};
 use std::alloc::{AllocError, Global};
 
 /// Whether the call is a standard send, and the policy leaves it open whether it is buffered.
-pub fn is_open_send(program: &Program, call: usize) -> bool
+pub fn is_open_send(program: &LongProgram, call: usize) -> bool
     ensures { IsTrue result ↔ IsOpenSend program.now call }
 {
     match program.call(call) {
@@ -28,7 +28,7 @@ pub fn is_open_send(program: &Program, call: usize) -> bool
 }
 
 /// That a call finds the message of this send; none where there is no such send.
-pub fn way_to(program: &Program, send: usize) -> Option<Taken>
+pub fn way_to(program: &LongProgram, send: usize) -> Option<Taken>
     ensures { result ≡ way_to program.now send }
 {
     let call = program.call(send)?;
@@ -49,7 +49,7 @@ fn is_same(way: Taken, other: Taken) -> bool
 /// Adds the rank and the tag of a send that fits the call, unless they are those that it found, or are there.
 fn put_other(
     others: &mut Vec<Taken>,
-    program: &Program,
+    program: &LongProgram,
     call: usize,
     taken: Taken,
     send: usize,
@@ -72,7 +72,7 @@ fn put_other(
 /// The rank and the tag of each send of the program that fits the call, each once, but for those that it found.
 fn other_messages(
     alloc: Global,
-    program: &Program,
+    program: &LongProgram,
     call: usize,
     taken: Taken,
 ) -> Result<Vec<Taken>, AllocError>
@@ -98,7 +98,7 @@ fn one_way(alloc: Global, way: Taken) -> Result<Vec<Taken>, AllocError>
 /// the program that fits it, each once, but for those that it found. The only error is want of memory.
 pub fn other_ways(
     alloc: Global,
-    program: &Program,
+    program: &LongProgram,
     call: usize,
     taken: Taken,
 ) -> Result<Vec<Taken>, AllocError>

@@ -5,7 +5,7 @@ ghost use Rattle.semantics.specs.Machine.{IsEnabled, IsRun, IsStuckRun, opening}
 ghost use Rattle.prover.specs.Answers.{Replays, TellsRun};
 ghost use Rattle.prover.specs.Telling.{how_issued, issue_line, told_line, told_run, verb_of};
 
-use callorder::{Kind, Program};
+use callorder::{Kind, LongProgram};
 use calltext::{Verb, read};
 use charts::lined_steps;
 use checker::{NoRun, Reason, stuck_run_of};
@@ -55,7 +55,7 @@ fn how_issued(buffered: bool) -> &'static str
 /// Tells the issue of the call at a place. Ranks count from 0, calls from 1.
 fn put_issue(
     out: &mut Vec<u8>,
-    program: &Program,
+    program: &LongProgram,
     place: usize,
     rank: u32,
     buffered: bool,
@@ -80,7 +80,7 @@ fn put_issue(
 /// Tells a step that is enabled in a state.
 fn put_told(
     out: &mut Vec<u8>,
-    program: &Program,
+    program: &LongProgram,
     state: &State,
     step: Step,
 ) -> Result<(), AllocError>
@@ -101,7 +101,7 @@ fn put_told(
 }
 
 /// A line for each step of a run, and then `stuck`, by the numbers of calls.
-fn numbered(alloc: Global, program: &Program, steps: &[Step]) -> Result<Vec<u8>, AllocError>
+fn numbered(alloc: Global, program: &LongProgram, steps: &[Step]) -> Result<Vec<u8>, AllocError>
     requires { IsRun program.now (opening program.now) steps.now }
     ensures { IfOk result (λ text. text.items ≡ told_run program.now steps.now) }
 {
@@ -119,7 +119,7 @@ fn numbered(alloc: Global, program: &Program, steps: &[Step]) -> Result<Vec<u8>,
 fn lined(
     alloc: Global,
     text: &[u8],
-    program: &Program,
+    program: &LongProgram,
     steps: &[Step],
 ) -> Result<Vec<u8>, AllocError>
     requires { IsStuckRun program.now steps.now }
@@ -136,7 +136,7 @@ fn lined(
 fn text_of(
     alloc: Global,
     text: &[u8],
-    program: &Program,
+    program: &LongProgram,
     steps: &[Step],
     lines: bool,
 ) -> Result<Vec<u8>, AllocError>

@@ -7,7 +7,7 @@ ghost use Rattle.histories.specs.Places.{find_step};
 ghost use Rattle.prover.specs.Walks.{IsWalk, NothingButSees, NothingEnabled, NoFindBy, NoIssueOf, finds, is_open_finder, is_open_send, is_other};
 
 use crate::manner::Manner;
-use callorder::{Kind, Program};
+use callorder::{Kind, LongProgram};
 use semantics::{State, Step};
 use std::alloc::{AllocError, Global};
 
@@ -40,7 +40,7 @@ fn is_other(held_back: Option<u32>, rank: u32) -> bool
 }
 
 /// The issue of this rank, where one is enabled: buffered or not as is wanted, if that is allowed.
-fn issue_of(program: &Program, state: &State, rank: u32, buffers: bool) -> Option<Step>
+fn issue_of(program: &LongProgram, state: &State, rank: u32, buffers: bool) -> Option<Step>
     ensures some { IfSome result (IsEnabled program.now state.now) }
     ensures none { IfNone result (NoIssueOf program.now state.now rank) }
 {
@@ -62,7 +62,7 @@ fn issue_of(program: &Program, state: &State, rank: u32, buffers: bool) -> Optio
 }
 
 /// The first enabled issue of these ranks.
-fn next_issue(program: &Program, state: &State, ranks: &[u32], buffers: bool) -> Option<Step>
+fn next_issue(program: &LongProgram, state: &State, ranks: &[u32], buffers: bool) -> Option<Step>
     ensures some { IfSome result (IsEnabled program.now state.now) }
     ensures none { IfNone result ((rank : ℕ) → Contains ranks.now rank → NoIssueOf program.now state.now rank) }
 {
@@ -75,7 +75,7 @@ fn next_issue(program: &Program, state: &State, ranks: &[u32], buffers: bool) ->
     None
 }
 
-fn is_open_send(program: &Program, state: &State, call: usize) -> bool
+fn is_open_send(program: &LongProgram, state: &State, call: usize) -> bool
     ensures { result ≡ is_open_send program.now state.now call }
 {
     match program.call(call) {
@@ -94,7 +94,7 @@ fn finds(sees: bool, kind: &Kind) -> bool
     kind.pattern().is_some() && !kind.is_probe()
 }
 
-fn is_open_finder(program: &Program, state: &State, sees: bool, call: usize) -> bool
+fn is_open_finder(program: &LongProgram, state: &State, sees: bool, call: usize) -> bool
     ensures { result ≡ is_open_finder program.now state.now sees call }
 {
     match program.call(call) {
@@ -104,7 +104,7 @@ fn is_open_finder(program: &Program, state: &State, sees: bool, call: usize) -> 
 }
 
 /// The issued sends that are not matched.
-fn open_sends(alloc: Global, program: &Program, state: &State) -> Result<Vec<usize>, AllocError>
+fn open_sends(alloc: Global, program: &LongProgram, state: &State) -> Result<Vec<usize>, AllocError>
     ensures { IfOk result (λ sends. sends.items ≡ filter (is_open_send program.now state.now) (range_with_len 0 (length program.now.calls))) }
 {
     (0..program.calls().len())
@@ -115,7 +115,7 @@ fn open_sends(alloc: Global, program: &Program, state: &State) -> Result<Vec<usi
 /// The issued probes that have seen nothing, or the issued receives and matched probes that are not matched.
 fn open_finders(
     alloc: Global,
-    program: &Program,
+    program: &LongProgram,
     state: &State,
     sees: bool,
 ) -> Result<Vec<usize>, AllocError>
@@ -143,7 +143,7 @@ fn find_step(sees: bool, send: usize, finder: usize) -> Step
 }
 
 fn next_find_of(
-    program: &Program,
+    program: &LongProgram,
     state: &State,
     sees: bool,
     send: usize,
@@ -163,7 +163,7 @@ fn next_find_of(
 
 /// The first enabled step by which one of these finders finds one of these sends.
 fn find_of(
-    program: &Program,
+    program: &LongProgram,
     state: &State,
     sees: bool,
     sends: &[usize],
@@ -185,7 +185,7 @@ fn find_of(
 /// finder, the first or the last. It looks only at sends that are not matched and finders that have found nothing.
 fn next_find(
     alloc: Global,
-    program: &Program,
+    program: &LongProgram,
     state: &State,
     sees: bool,
     last_first: bool,
@@ -204,7 +204,7 @@ fn next_find(
 /// An enabled issue or match, where there is one; `ranks` are all but the one that is held back, in turn.
 fn next_issue_or_match(
     alloc: Global,
-    program: &Program,
+    program: &LongProgram,
     state: &State,
     ranks: &[u32],
     manner: Manner,
@@ -237,7 +237,7 @@ fn next_issue_or_match(
 /// An enabled step, where there is one; `ranks` are all but the one that is held back, in turn.
 fn next_step(
     alloc: Global,
-    program: &Program,
+    program: &LongProgram,
     state: &State,
     ranks: &[u32],
     manner: Manner,
@@ -263,7 +263,7 @@ fn next_step(
 
 /// A run from the opening state, which goes on until no step is enabled: so it ends stuck or finished. No run has more
 /// than two steps for each call.
-pub fn walk(alloc: Global, program: &Program, manner: Manner) -> Result<Vec<Step>, AllocError>
+pub fn walk(alloc: Global, program: &LongProgram, manner: Manner) -> Result<Vec<Step>, AllocError>
     ensures { IfOk result (λ steps. IsWalk program.now steps.items) }
 {
     let others = other_ranks(alloc, program.ranks(), manner.held_back)?;
