@@ -5,7 +5,7 @@ ghost use Rattle.std.specs.List.{count_by, slice_split};
 ghost use Rattle.charts.specs.Calls.{line_at, part_words, part_of, shortened, told_calls, telling_at};
 
 use callorder::LongProgram;
-use calltext::Source;
+use calltext::LongSource;
 use explain::line_numbers;
 use std::alloc::{AllocError, Global};
 use std::marker::Model;
@@ -139,7 +139,7 @@ fn told_at(
 pub fn told_calls(
     alloc: Global,
     text: &[u8],
-    source: &Source,
+    source: &LongSource,
     program: &LongProgram,
 ) -> Result<Vec<Told>, AllocError>
     ensures { IfOk result (λ calls. calls.items ≡ told_calls text.now source.now program.now) }

@@ -10,7 +10,7 @@ use crate::calls::{Told, told_calls};
 use crate::cells::{issue_mark, put_end_cell, put_find_cell, put_heading_cell, put_issue_cell};
 use crate::writing::put_number;
 use callorder::LongProgram;
-use calltext::Source;
+use calltext::LongSource;
 use semantics::{State, Step};
 use std::alloc::{AllocError, Global};
 
@@ -189,7 +189,7 @@ fn put_end(out: &mut Vec<u8>, program: &LongProgram, end: &State) -> Result<(), 
 pub fn chart(
     alloc: Global,
     text: &[u8],
-    source: &Source,
+    source: &LongSource,
     program: &LongProgram,
     steps: &[Step],
 ) -> Result<Vec<u8>, AllocError>

@@ -9,7 +9,7 @@ use crate::acts::{Act, play};
 use crate::calls::{Told, told_calls};
 use crate::writing::put_number;
 use callorder::LongProgram;
-use calltext::Source;
+use calltext::LongSource;
 use semantics::Step;
 use std::alloc::{AllocError, Global};
 
@@ -112,7 +112,7 @@ fn put_lines(out: &mut Vec<u8>, calls: &[Told], acts: &[Act]) -> Result<(), Allo
 pub fn lined_steps(
     alloc: Global,
     text: &[u8],
-    source: &Source,
+    source: &LongSource,
     program: &LongProgram,
     steps: &[Step],
 ) -> Result<Vec<u8>, AllocError>

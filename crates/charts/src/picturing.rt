@@ -13,7 +13,7 @@ use crate::drawing::{
 };
 use crate::writing::{put_number, put_text};
 use callorder::LongProgram;
-use calltext::Source;
+use calltext::LongSource;
 use semantics::{State, Step};
 use std::alloc::{AllocError, Global};
 
@@ -295,7 +295,7 @@ fn put_picture(
 pub fn picture(
     alloc: Global,
     text: &[u8],
-    source: &Source,
+    source: &LongSource,
     program: &LongProgram,
     steps: &[Step],
 ) -> Result<Vec<u8>, AllocError>

@@ -9,7 +9,8 @@ use Rattle.std.proofs.lemmas.Option.{slice_get_within, get_or_from_slice_get, sl
 use Rattle.plaintext.specs.Plain.{line_of}
 use Rattle.calltext.specs.declared.call.CallLine.{CallLine}
 use Rattle.calltext.specs.declared.call.CallLine.TheVariants.{Send, Receive, MatchedProbe, Probe, MatchedReceive, Wait, WaitAll, SendReceive}
-use Rattle.calltext.specs.Grammar.{ProgramText, IsReadable, call_words, rank_words, ranks_words, policy_words, rank_lines, program_lines}
+use Rattle.calltext.specs.Grammar.{ProgramText, IsReadableWithin, call_words, rank_words, ranks_words, policy_words, rank_lines, program_lines}
+use Rattle.calltext.specs.Limits.{long}
 use Rattle.callorder.specs.Expansion.{NamedPart, parts_of, parts_of_lines, parts_of_ranks, wait_for}
 use Rattle.explain.specs.Lines.{heading_of, line_of_part, LinesAreNumbered}
 
@@ -139,7 +140,7 @@ ranks_within rank (calls ∷ others) =
     in
     omega (arith, calls_within calls, ranks_within (rank + 1) others, whole, length-append (line_of (rank_words rank)) (flat_map (λ line. line) (own ++ more)), sum_by-cons (λ (l : List CallLine). length l) calls others)
 
-pub heading_within : (text : ProgramText) (rank : ℕ) (lines : List CallLine) → IsReadable text → slice_get text.ranks rank ≡ Some lines → heading_of text rank + length lines + 1 < 2 ^ 32
+pub heading_within : (text : ProgramText) (rank : ℕ) (lines : List CallLine) → IsReadableWithin long text → slice_get text.ranks rank ≡ Some lines → heading_of text rank + length lines + 1 < 2 ^ 64
 heading_within text rank lines readable there =
     let within : rank < length text.ranks = slice_get_within text.ranks rank lines there in
     let it : length (get_or text.ranks rank lines) ≡ length lines = ap (λ (l : List CallLine). length l) (get_or_from_slice_get text.ranks rank lines lines there) in

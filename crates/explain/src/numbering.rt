@@ -4,7 +4,7 @@ ghost use Rattle.std.specs.Prelude.{◌≡◌, ℕ, ◌+◌, ◌^◌, ◌<◌, �
 ghost use Rattle.callorder.specs.Expansion.{parts_of, parts_of_lines, parts_of_text};
 ghost use Rattle.explain.specs.Lines.{line_of_part, LinesAreNumbered};
 
-use calltext::{CallLine, Source};
+use calltext::{CallLine, LongSource};
 use std::alloc::{AllocError, Global};
 
 /// How many calls a line stands for.
@@ -55,7 +55,7 @@ fn push_rank(
 
 /// For each call of a program, in order, the number of the line that it stands in, from 1. The only error is want of
 /// memory.
-pub fn line_numbers(alloc: Global, source: &Source) -> Result<Vec<usize>, AllocError>
+pub fn line_numbers(alloc: Global, source: &LongSource) -> Result<Vec<usize>, AllocError>
     ensures { IfOk result (λ numbers. numbers.items ≡ map (line_of_part source.now) (parts_of_text source.now)) }
 {
     let mut numbers = Vec::new(alloc);

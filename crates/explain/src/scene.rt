@@ -6,8 +6,8 @@ ghost use Rattle.semantics.specs.Machine.{opening, after_all, IsRun, IsStuck, Is
 
 use crate::placing::Scene;
 use crate::written::written_calls;
-use callorder::{LongProgram, Program};
-use calltext::Source;
+use callorder::LongProgram;
+use calltext::LongSource;
 use semantics::{State, Step};
 use std::alloc::{AllocError, Global};
 
@@ -27,8 +27,8 @@ fn end_of(alloc: Global, program: &LongProgram, steps: &[Step]) -> Result<State,
 pub fn scene_of(
     alloc: Global,
     text: &[u8],
-    source: &Source,
-    program: &Program,
+    source: &LongSource,
+    program: &LongProgram,
     steps: &[Step],
     whole: bool,
 ) -> Result<Scene, AllocError>

@@ -4,8 +4,8 @@ ghost use Rattle.std.specs.Prelude.{◌^◌, ◌<◌, IfOk};
 ghost use Rattle.explain.specs.Calls.{IsTold, AreWritten};
 
 use crate::numbering::line_numbers;
-use callorder::Program;
-use calltext::Source;
+use callorder::LongProgram;
+use calltext::LongSource;
 use std::alloc::{AllocError, Global};
 use std::fmt;
 
@@ -93,7 +93,7 @@ fn written_call(
     place: usize,
     rank: u32,
 ) -> Result<Written, AllocError>
-    requires { place < 2 ^ 32 }
+    requires { place < 2 ^ 63 }
     ensures { IfOk result (λ call. IsTold numbers.now place rank call) }
 {
     let line = numbers.get(place).copied().unwrap_or(0);
@@ -126,8 +126,8 @@ fn written_call(
 pub fn written_calls(
     alloc: Global,
     text: &[u8],
-    source: &Source,
-    program: &Program,
+    source: &LongSource,
+    program: &LongProgram,
 ) -> Result<Vec<Written>, AllocError>
     ensures { IfOk result (λ calls. AreWritten source.now program.now calls.items) }
 {
