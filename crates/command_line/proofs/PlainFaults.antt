@@ -16,7 +16,7 @@ use Rattle.command_line.specs.CommandLine.{command_line}
 use Rattle.command_line.specs.UsualWords.{PlainWordsAreFaultless, SpellsPieces, begins_with_hyphen, form_words}
 use Rattle.command_line.proofs.OptionWords.{pieces_last, pieces_walk}
 use Rattle.command_line.proofs.PieceWords.{pieces_are_free, pieces_pass}
-use Rattle.command_line.proofs.PlainWords.{after_free, check_rules, check_walk, encode_rules, encode_walk, encode_word, explain_alone_walk, explain_rules, explain_walk, explain_word, export_out, export_out_walk, export_rules, export_walk, free_met, no_dashes, no_long, no_short, out_walk, prove_out, prove_rules, prove_walk, prove_word, replay_rules, replay_walk, shrink_out, shrink_out_walk, shrink_rules, shrink_walk, shrink_word, start, trim_out, trim_out_walk, trim_rules, trim_walk, trim_word, two_words, walked_free}
+use Rattle.command_line.proofs.PlainWords.{after_free, check_rules, check_walk, decide_out, decide_out_walk, decide_rules, decide_walk, decide_word, encode_rules, encode_walk, encode_word, explain_alone_walk, explain_rules, explain_walk, explain_word, export_out, export_out_walk, export_rules, export_walk, free_met, no_dashes, no_long, no_short, out_walk, prove_out, prove_rules, prove_walk, prove_word, replay_rules, replay_walk, shrink_out, shrink_out_walk, shrink_rules, shrink_walk, shrink_word, start, trim_out, trim_out_walk, trim_rules, trim_walk, trim_word, two_words, walked_free}
 
 -- ---- one free word
 
@@ -337,6 +337,50 @@ shrink_out_leaf p file fp ff =
     ap₂ (λ (a b : Kinds). or_else a b) (shrink_first p fp) (ap₂ (λ (a b : Kinds). or_else a (or_else b [])) second third) in
     leaf_by_walk shrink_shape (p ∷ codes "--out" ∷ file ∷ []) (shrink_out p file) turns (shrink_out_walk p file fp ff)
 
+abbrev decide_shape : Shape
+decide_shape =
+    shape_in (find (λ s. answers_to (codes "decide") (label_of s)) (built command_line).subs)
+
+decide_first : (p : Text) → begins_with_hyphen p ≡ false → turn_fault decide_shape [] start p ≡ []
+unfolding clap_on_literals
+decide_first p fp = turn_at_rest decide_shape start p fp
+
+decide_leaf : (p : Text) → begins_with_hyphen p ≡ false → leaf_fault decide_shape (p ∷ []) ≡ []
+unfolding clap_on_literals
+decide_leaf p fp =
+    let turns : walk_fault decide_shape [] start (p ∷ []) ≡ [] =
+    ap (λ (a : Kinds). or_else a []) (decide_first p fp) in
+    leaf_by_walk decide_shape (p ∷ []) (decide_word p) turns (decide_walk p fp)
+
+decide_json_leaf : (p : Text) → begins_with_hyphen p ≡ false
+    → leaf_fault decide_shape (p ∷ codes "--json" ∷ []) ≡ []
+unfolding clap_on_literals
+decide_json_leaf p fp =
+    let second : turn_fault decide_shape [] (walked decide_rules [] start p) (codes "--json") ≡ [] =
+    ap (λ (w : Walk). turn_fault decide_shape [] w (codes "--json")) (decide_walk p fp) in
+    let turns : walk_fault decide_shape [] start (p ∷ codes "--json" ∷ []) ≡ [] =
+    ap₂ (λ (a b : Kinds). or_else a (or_else b [])) (decide_first p fp) second in
+    leaf_by_walk decide_shape (p ∷ codes "--json" ∷ [])
+    (walked decide_rules [] (decide_word p) (codes "--json")) turns
+    (ap (λ (w : Walk). walked decide_rules [] w (codes "--json")) (decide_walk p fp))
+
+decide_out_leaf : (p file : Text) → begins_with_hyphen p ≡ false → begins_with_hyphen file ≡ false
+    → leaf_fault decide_shape (p ∷ codes "--out" ∷ file ∷ []) ≡ []
+unfolding clap_on_literals
+decide_out_leaf p file fp ff =
+    let second : turn_fault decide_shape [] (walked decide_rules [] start p) (codes "--out") ≡ [] =
+    ap (λ (w : Walk). turn_fault decide_shape [] w (codes "--out")) (decide_walk p fp) in
+    let third : turn_fault decide_shape []
+    (walked decide_rules [] (walked decide_rules [] start p) (codes "--out")) file ≡ [] =
+    ap (λ (w : Walk). turn_fault decide_shape [] (walked decide_rules [] w (codes "--out")) file)
+    (decide_walk p fp)
+    ∙ turn_at_rest decide_shape (walked decide_rules [] (decide_word p) (codes "--out")) file ff in
+    let turns : walk_fault decide_shape [] start (p ∷ codes "--out" ∷ file ∷ []) ≡ [] =
+    ap₂ (λ (a b : Kinds). or_else a b) (decide_first p fp)
+    (ap₂ (λ (a b : Kinds). or_else a (or_else b [])) second third) in
+    leaf_by_walk decide_shape (p ∷ codes "--out" ∷ file ∷ []) (decide_out p file) turns
+    (decide_out_walk p file fp ff)
+
 prove_first : (p : Text) → begins_with_hyphen p ≡ false → turn_fault prove_shape [] start p ≡ []
 unfolding clap_on_literals
 prove_first p fp = turn_at_rest prove_shape start p fp
@@ -455,6 +499,24 @@ pub shrink_out_faultless : (name p file : Text) → begins_with_hyphen p ≡ fal
 unfolding clap_on_literals
 shrink_out_faultless name p file fp ff = ap (whole_fault (codes "shrink" ∷ p ∷ codes "--out" ∷ file ∷ [])) (shrink_out_leaf p file fp ff)
 
+pub decide_faultless : (name p : Text) → begins_with_hyphen p ≡ false
+    → fault_of command_line (name ∷ codes "decide" ∷ p ∷ []) ≡ []
+unfolding clap_on_literals
+decide_faultless name p fp = ap (whole_fault (codes "decide" ∷ p ∷ [])) (decide_leaf p fp)
+
+pub decide_json_faultless : (name p : Text) → begins_with_hyphen p ≡ false
+    → fault_of command_line (name ∷ codes "decide" ∷ p ∷ codes "--json" ∷ []) ≡ []
+unfolding clap_on_literals
+decide_json_faultless name p fp =
+    ap (whole_fault (codes "decide" ∷ p ∷ codes "--json" ∷ [])) (decide_json_leaf p fp)
+
+pub decide_out_faultless : (name p file : Text) → begins_with_hyphen p ≡ false
+    → begins_with_hyphen file ≡ false
+    → fault_of command_line (name ∷ codes "decide" ∷ p ∷ codes "--out" ∷ file ∷ []) ≡ []
+unfolding clap_on_literals
+decide_out_faultless name p file fp ff =
+    ap (whole_fault (codes "decide" ∷ p ∷ codes "--out" ∷ file ∷ [])) (decide_out_leaf p file fp ff)
+
 pub replay_faultless : (name p e : Text) → begins_with_hyphen p ≡ false → begins_with_hyphen e ≡ false
     → fault_of command_line (name ∷ codes "replay" ∷ p ∷ e ∷ []) ≡ []
 unfolding clap_on_literals
@@ -495,6 +557,9 @@ plain_words_are_faultless = record {
   replay_lines = replay_lines_faultless;
   shrink = shrink_faultless;
   shrink_out = shrink_out_faultless;
+  decide = decide_faultless;
+  decide_as_json = decide_json_faultless;
+  decide_out = decide_out_faultless;
   prove = prove_faultless;
   prove_as_json = prove_json_faultless;
   prove_progress = prove_progress_faultless;

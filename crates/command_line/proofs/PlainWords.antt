@@ -11,7 +11,7 @@ use Rattle.clap.proofs.OnLiterals.{clap_on_literals}
 use Rattle.settings.specs.declared.form.Form.{Form}
 use Rattle.settings.specs.declared.form.Form.TheVariants.{Brief, Whole, Graph, Chart, Picture, Object}
 use Rattle.command_line.specs.CommandLine.{command_line}
-use Rattle.command_line.specs.Requests.{Makes, NamesTask, Task, to_check, to_encode, to_explain, to_export, to_prove, to_replay, to_shrink, to_trim}
+use Rattle.command_line.specs.Requests.{Makes, NamesTask, Task, to_check, to_decide, to_encode, to_explain, to_export, to_prove, to_replay, to_shrink, to_trim}
 use Rattle.command_line.specs.UsualWords.{PlainWordsAreRead, begins_with_hyphen, form_words}
 use Rattle.command_line.proofs.ReadTasks.{is_read, read}
 use Rattle.command_line.proofs.SecondWords.{at}
@@ -186,6 +186,34 @@ shrink_out_walk program file p f =
     ap (λ (w : Walk). walked shrink_rules [] (walked shrink_rules [] w (codes "--out")) file) (shrink_walk program p)
     ∙ walked_free shrink_rules (walked shrink_rules [] (shrink_word program) (codes "--out")) file refl refl f
 
+abbrev pub decide_rules : List Rule
+decide_rules =
+    rules_in (find (λ s. answers_to (codes "decide") (label_of s)) (built command_line).subs)
+
+-- the walk after a program's name
+abbrev pub decide_word : Text → Walk
+decide_word program = after_free decide_rules start program
+
+pub decide_walk : (program : Text) → begins_with_hyphen program ≡ false
+    → walked decide_rules [] start program ≡ decide_word program
+decide_walk program p = walked_free decide_rules start program refl refl p
+
+-- the walk after `--out` and a file's name too
+abbrev pub decide_out : Text → Text → Walk
+decide_out program file =
+    after_free decide_rules (walked decide_rules [] (decide_word program) (codes "--out")) file
+
+pub decide_out_walk : (program file : Text) → begins_with_hyphen program ≡ false
+    → begins_with_hyphen file ≡ false
+    → fold (walked decide_rules []) start (program ∷ codes "--out" ∷ file ∷ [])
+    ≡ decide_out program file
+unfolding clap_on_literals
+decide_out_walk program file p f =
+    ap (λ (w : Walk). walked decide_rules [] (walked decide_rules [] w (codes "--out")) file)
+    (decide_walk program p)
+    ∙ walked_free decide_rules (walked decide_rules [] (decide_word program) (codes "--out")) file
+    refl refl f
+
 -- the walk after the words of a form
 abbrev pub in_form : Walk → Form → Walk
 in_form w form = fold (walked explain_rules []) w (form_words form)
@@ -259,6 +287,24 @@ of_shrink_out : (p file : Text) → read (codes "shrink") (finished shrink_rules
 unfolding clap_on_literals
 of_shrink_out p file = refl
 
+of_decide : (p : Text)
+    → read (codes "decide") (finished decide_rules (decide_word p).held) ≡ to_decide p None false
+unfolding clap_on_literals
+of_decide p = refl
+
+of_decide_json : (p : Text)
+    → read (codes "decide")
+    (finished decide_rules (walked decide_rules [] (decide_word p) (codes "--json")).held)
+    ≡ to_decide p None true
+unfolding clap_on_literals
+of_decide_json p = refl
+
+of_decide_out : (p file : Text)
+    → read (codes "decide") (finished decide_rules (decide_out p file).held)
+    ≡ to_decide p (Some file) false
+unfolding clap_on_literals
+of_decide_out p file = refl
+
 of_export : (p e file : Text) → read (codes "export") (finished export_rules (export_out p e file).held) ≡ to_export p e file
 unfolding clap_on_literals
 of_export p e file = refl
@@ -322,6 +368,13 @@ made_shrink : (name : Text) (words : List Text) (task : Task) → NamesTask (nam
 unfolding clap_on_literals
 made_shrink name words task asks = at name (codes "shrink") words task refl asks
 
+made_decide : (name : Text) (words : List Text) (task : Task)
+    → NamesTask (name ∷ codes "decide" ∷ words) task
+    → Makes (codes "decide")
+    (finished decide_rules (fold (walked decide_rules []) start words).held) task
+unfolding clap_on_literals
+made_decide name words task asks = at name (codes "decide") words task refl asks
+
 pub made_prove : (name : Text) (words : List Text) (task : Task) → NamesTask (name ∷ codes "prove" ∷ words) task
     → Makes (codes "prove") (finished prove_rules (fold (walked prove_rules []) start words).held) task
 unfolding clap_on_literals
@@ -359,6 +412,21 @@ plain_words_are_read = record {
   shrink_out = λ name p file task fp ff asks.
       read_by (codes "shrink") shrink_rules (p ∷ codes "--out" ∷ file ∷ []) (shrink_out p file) task (to_shrink p (Some file)) (shrink_out_walk p file fp ff)
       (made_shrink name (p ∷ codes "--out" ∷ file ∷ []) task asks.named) (of_shrink_out p file);
+  decide = λ name p task fp asks.
+      read_by (codes "decide") decide_rules (p ∷ []) (decide_word p) task (to_decide p None false)
+      (decide_walk p fp)
+      (made_decide name (p ∷ []) task asks.named) (of_decide p);
+  decide_as_json = λ name p task fp asks.
+      read_by (codes "decide") decide_rules (p ∷ codes "--json" ∷ [])
+      (walked decide_rules [] (decide_word p) (codes "--json")) task
+      (to_decide p None true)
+      (ap (λ (w : Walk). walked decide_rules [] w (codes "--json")) (decide_walk p fp))
+      (made_decide name (p ∷ codes "--json" ∷ []) task asks.named) (of_decide_json p);
+  decide_out = λ name p file task fp ff asks.
+      read_by (codes "decide") decide_rules (p ∷ codes "--out" ∷ file ∷ []) (decide_out p file) task
+      (to_decide p (Some file) false)
+      (decide_out_walk p file fp ff)
+      (made_decide name (p ∷ codes "--out" ∷ file ∷ []) task asks.named) (of_decide_out p file);
   export = λ name p e file task fp fe ffile asks.
       read_by (codes "export") export_rules (p ∷ e ∷ codes "--out" ∷ file ∷ []) (export_out p e file) task (to_export p e file) (export_out_walk p e file fp fe ffile)
       (made_export name (p ∷ e ∷ codes "--out" ∷ file ∷ []) task asks.named) (of_export p e file);

@@ -5,7 +5,7 @@ use Rattle.std.specs.Str.{bytes_eq}
 use Rattle.clap.specs.Words.{Row, Text, first_of, one_of, subcommand_of}
 use Rattle.clap.proofs.OnLiterals.{clap_on_literals}
 use Rattle.command_line.specs.CommandLine.{command_line}
-use Rattle.command_line.specs.Requests.{Makes, MakesSome, OneTaskIsAsked, Reads, Task, form_in, is_true, number_of, to_check, to_encode, to_explain, to_export, to_prove, to_replay, to_shrink, to_trim}
+use Rattle.command_line.specs.Requests.{Makes, MakesSome, OneTaskIsAsked, Reads, Task, form_in, is_true, number_of, to_check, to_decide, to_encode, to_explain, to_export, to_prove, to_replay, to_shrink, to_trim}
 
 abbrev text_in : Option Text → Text
 text_in o = unwrap_or o []
@@ -34,7 +34,10 @@ read name rows =
     then to_export (text_in (first_of (codes "PROGRAM") rows)) (text_in (first_of (codes "EVIDENCE") rows)) (text_in (first_of (codes "out") rows))
     else (if bytes_eq name (codes "trim")
     then to_trim (text_in (first_of (codes "EVIDENCE") rows)) (text_in (first_of (codes "out") rows)) (is_true (one_of (codes "json") rows))
-    else to_shrink (text_in (first_of (codes "PROGRAM") rows)) (first_of (codes "out") rows)))))))
+    else (if bytes_eq name (codes "shrink")
+    then to_shrink (text_in (first_of (codes "PROGRAM") rows)) (first_of (codes "out") rows)
+    else to_decide (text_in (first_of (codes "PROGRAM") rows)) (first_of (codes "out") rows)
+    (is_true (one_of (codes "json") rows)))))))))
 
 given : (o : Option Text) (text : Text) → o ≡ Some text → text ≡ text_in o
 given o text e = sym (ap text_in e)
@@ -72,6 +75,10 @@ is_read name rows (to_trim e out json) makes =
 is_read name rows (to_shrink p out) makes =
     let v = makes.values in
     (λ i. to_shrink (given _ p v.0 i) (sym v.1 i)) ∙ ap (λ (n : Text). read n rows) (sym makes.command)
+is_read name rows (to_decide p out json) makes =
+    let v = makes.values in
+    (λ i. to_decide (given _ p v.0 i) (sym v.1 i) (v.2 i))
+    ∙ ap (λ (n : Text). read n rows) (sym makes.command)
 
 same : (found : Option (Text × List Row)) (one other : Task) → MakesSome found one → MakesSome found other → one ≡ other
 same None one other first second = absurd first

@@ -186,6 +186,11 @@ at_shrink : (w : Text) (rest : List Text) (task : Task) → NamesTask (w ∷ cod
 unfolding clap_on_literals
 at_shrink w rest task asks = (at w (codes "shrink") rest task refl asks).command
 
+at_decide : (w : Text) (rest : List Text) (task : Task) → NamesTask (w ∷ codes "decide" ∷ rest) task
+    → codes "decide" ≡ command_of task
+unfolding clap_on_literals
+at_decide w rest task asks = (at w (codes "decide") rest task refl asks).command
+
 at_help : (w : Text) (rest : List Text) (task : Task) → NamesTask (w ∷ codes "help" ∷ rest) task → codes "help" ≡ command_of task
 unfolding clap_on_literals
 at_help w rest task asks = (at w (codes "help") rest task refl asks).command
@@ -203,9 +208,10 @@ at_dashes w (word ∷ rest) task asks sound =
 
 unmet_by : (word : Text) → bytes_eq (codes "prove") word ≡ false → bytes_eq (codes "check") word ≡ false → bytes_eq (codes "replay") word ≡ false
     → bytes_eq (codes "encode") word ≡ false → bytes_eq (codes "explain") word ≡ false → bytes_eq (codes "export") word ≡ false
-    → bytes_eq (codes "trim") word ≡ false → bytes_eq (codes "shrink") word ≡ false → bytes_eq (codes "help") word ≡ false
-    → subcommand_met names idle word ≡ None
-unmet_by word a b c d x o t s e = rw (a, b, c, d, x, o, t, s, e) refl
+    → bytes_eq (codes "trim") word ≡ false → bytes_eq (codes "shrink") word ≡ false
+    → bytes_eq (codes "decide") word ≡ false
+    → bytes_eq (codes "help") word ≡ false → subcommand_met names idle word ≡ None
+unmet_by word a b c d x o t s i e = rw (a, b, c, d, x, o, t, s, i, e) refl
 
 turn_none : (w word : Text) (rest : List Text) → fault_of command_line (w ∷ word ∷ rest) ≡ [] → turn_fault top names (walk_from nothing_held) word ≡ []
 unfolding walk_fault
@@ -232,16 +238,29 @@ command_is_second (w ∷ word ∷ rest) task asks sound = ap Some (by_name (byte
     by_dashes false e unmet = absurd (first_word word unmet e (turn_none w word rest sound))
 
     by_help : (b : Bool) → bytes_eq (codes "help") word ≡ b → bytes_eq (codes "prove") word ≡ false → bytes_eq (codes "check") word ≡ false
-        → bytes_eq (codes "replay") word ≡ false → bytes_eq (codes "encode") word ≡ false → bytes_eq (codes "explain") word ≡ false
+        → bytes_eq (codes "replay") word ≡ false → bytes_eq (codes "encode") word ≡ false
+        → bytes_eq (codes "explain") word ≡ false
+        → bytes_eq (codes "export") word ≡ false → bytes_eq (codes "trim") word ≡ false
+        → bytes_eq (codes "shrink") word ≡ false → bytes_eq (codes "decide") word ≡ false → word ≡ command_of task
+    by_help true e p c r n x o t s d = sym (is _ e) ∙ at_help w rest task (asked _ (is _ e))
+    by_help false e p c r n x o t s d =
+        by_dashes (bytes_eq word dashes) refl (unmet_by word p c r n x o t s d e)
+
+    by_decide : (b : Bool) → bytes_eq (codes "decide") word ≡ b
+        → bytes_eq (codes "prove") word ≡ false → bytes_eq (codes "check") word ≡ false
+        → bytes_eq (codes "replay") word ≡ false → bytes_eq (codes "encode") word ≡ false
+        → bytes_eq (codes "explain") word ≡ false
         → bytes_eq (codes "export") word ≡ false → bytes_eq (codes "trim") word ≡ false → bytes_eq (codes "shrink") word ≡ false → word ≡ command_of task
-    by_help true e p c r n x o t s = sym (is _ e) ∙ at_help w rest task (asked _ (is _ e))
-    by_help false e p c r n x o t s = by_dashes (bytes_eq word dashes) refl (unmet_by word p c r n x o t s e)
+    by_decide true e p c r n x o t s = sym (is _ e) ∙ at_decide w rest task (asked _ (is _ e))
+    by_decide false e p c r n x o t s =
+        by_help (bytes_eq (codes "help") word) refl p c r n x o t s e
 
     by_shrink : (b : Bool) → bytes_eq (codes "shrink") word ≡ b → bytes_eq (codes "prove") word ≡ false → bytes_eq (codes "check") word ≡ false
         → bytes_eq (codes "replay") word ≡ false → bytes_eq (codes "encode") word ≡ false → bytes_eq (codes "explain") word ≡ false
         → bytes_eq (codes "export") word ≡ false → bytes_eq (codes "trim") word ≡ false → word ≡ command_of task
     by_shrink true e p c r n x o t = sym (is _ e) ∙ at_shrink w rest task (asked _ (is _ e))
-    by_shrink false e p c r n x o t = by_help (bytes_eq (codes "help") word) refl p c r n x o t e
+    by_shrink false e p c r n x o t =
+        by_decide (bytes_eq (codes "decide") word) refl p c r n x o t e
 
     by_trim : (b : Bool) → bytes_eq (codes "trim") word ≡ b → bytes_eq (codes "prove") word ≡ false → bytes_eq (codes "check") word ≡ false
         → bytes_eq (codes "replay") word ≡ false → bytes_eq (codes "encode") word ≡ false → bytes_eq (codes "explain") word ≡ false

@@ -101,6 +101,11 @@ trim_app = with_rule (with_rule (with_rule (new_app (codes "trim")) evidence_rul
 abbrev pub shrink_app : App
 shrink_app = with_rule (with_rule (new_app (codes "shrink")) program_rule) out_rule
 
+-- the command `decide`
+abbrev pub decide_app : App
+decide_app =
+    with_rule (with_rule (with_rule (new_app (codes "decide")) program_rule) out_rule) json_rule
+
 -- the command `prove`
 abbrev pub prove_app : App
 prove_app =
@@ -126,10 +131,11 @@ wants_subcommand a = record a { top = record a.top { subcommand_required = true 
 abbrev pub with_version : App → App
 with_version a = record a { top = record a.top { has_version = true } }
 
--- the whole command line: one of the eight commands, or a question for help or for the version
+-- the whole command line: one of the nine commands, or a question for help or for the version
 abbrev pub command_line : App
 command_line =
     with_subcommand
+    (with_subcommand
     (with_subcommand
     (with_subcommand
     (with_subcommand
@@ -143,7 +149,8 @@ command_line =
     explain_app.top)
     export_app.top)
     trim_app.top)
-    shrink_app.top
+    shrink_app.top)
+    decide_app.top
 
 -- the argument has this rule, and is of its own command alone
 pub record IsRuled (a : Arg) (rule : Rule) : Type 0 where

@@ -13,8 +13,9 @@ use Rattle.command_line.specs.declared.request.Request.TheVariants as ask
 -- budget, whether the progress is told, and whether the answer is a JSON object; to check a program by an evidence, in so many pieces, with
 -- the answer as a JSON object or not; to replay an evidence on a program, with lines of the text or not; to encode a program, in the DIMACS format or not; to explain what an
 -- evidence, or where none is named the answer to a search with these numbers, shows of a program, in a form; to export the proof that an
--- evidence makes of a program, to a file; to trim an evidence, to a file, with the answer as a JSON object or not; and to make a program smaller,
--- to a file, where one is named.
+-- evidence makes of a program, to a file; to trim an evidence, to a file, with the answer as a JSON object
+-- or not; to make a program smaller, to a file, where one is named; and to decide a program of any length by one
+-- run, with the file for the schedule of a deadlock, where one is named, and with the answer as a JSON object or not.
 pub data Task : Type 0 where
   to_prove : Text → Option Text → ℕ → ℕ → ℕ → Bool → Bool → Task
   to_check : Text → Text → ℕ → Bool → Task
@@ -24,6 +25,7 @@ pub data Task : Type 0 where
   to_export : Text → Text → Text → Task
   to_trim : Text → Text → Bool → Task
   to_shrink : Text → Option Text → Task
+  to_decide : Text → Option Text → Bool → Task
 
 -- what a request asks for
 abbrev pub task_of : Request → Task
@@ -37,6 +39,8 @@ task_of (ask.Explain program evidence options form) =
 task_of (ask.Export program evidence out) = to_export program.now evidence.now out.now
 task_of (ask.Trim evidence out json) = to_trim evidence.now out.now json
 task_of (ask.Shrink program out) = to_shrink program.now (option_map (λ path. path.now) out)
+task_of (ask.Decide program out json) =
+    to_decide program.now (option_map (λ path. path.now) out) json
 
 -- the word of a task's command
 abbrev pub command_of : Task → Text
@@ -48,6 +52,7 @@ command_of (to_explain program evidence workers depth budget form) = codes "expl
 command_of (to_export program evidence out) = codes "export"
 command_of (to_trim evidence out json) = codes "trim"
 command_of (to_shrink program out) = codes "shrink"
+command_of (to_decide program out json) = codes "decide"
 
 -- ---- what the words after a command give
 
@@ -101,6 +106,9 @@ HasValues rows (to_export program evidence out) =
 HasValues rows (to_trim evidence out json) =
     Gives rows (codes "EVIDENCE") evidence × Gives rows (codes "out") out × Flags rows (codes "json") json
 HasValues rows (to_shrink program out) = Gives rows (codes "PROGRAM") program × (first_of (codes "out") rows ≡ out)
+HasValues rows (to_decide program out json) =
+    Gives rows (codes "PROGRAM") program × (first_of (codes "out") rows ≡ out)
+    × Flags rows (codes "json") json
 
 -- a command's name and its matches make this task
 pub record Makes (name : Text) (rows : List Row) (task : Task) : Type 0 where

@@ -6,7 +6,7 @@ use Rattle.settings.specs.Ranges.{IsPieces}
 use Rattle.settings.specs.declared.form.Form.{Form}
 use Rattle.settings.specs.declared.form.Form.TheVariants.{Brief, Whole, Graph, Chart, Picture, Object}
 use Rattle.command_line.specs.CommandLine.{command_line}
-use Rattle.command_line.specs.Requests.{AskFor, Task, number_of, to_check, to_encode, to_explain, to_export, to_prove, to_replay, to_shrink, to_trim}
+use Rattle.command_line.specs.Requests.{AskFor, Task, number_of, to_check, to_decide, to_encode, to_explain, to_export, to_prove, to_replay, to_shrink, to_trim}
 
 -- the text's first byte is a hyphen
 abbrev pub begins_with_hyphen : Text → Bool
@@ -55,6 +55,14 @@ pub record PlainWordsAreRead : Type 0 where
       → AskFor (name ∷ codes "shrink" ∷ p ∷ []) task → task ≡ to_shrink p None
   pub shrink_out : (name p file : Text) (task : Task) → begins_with_hyphen p ≡ false → begins_with_hyphen file ≡ false
       → AskFor (name ∷ codes "shrink" ∷ p ∷ codes "--out" ∷ file ∷ []) task → task ≡ to_shrink p (Some file)
+  pub decide : (name p : Text) (task : Task) → begins_with_hyphen p ≡ false
+      → AskFor (name ∷ codes "decide" ∷ p ∷ []) task → task ≡ to_decide p None false
+  pub decide_as_json : (name p : Text) (task : Task) → begins_with_hyphen p ≡ false
+      → AskFor (name ∷ codes "decide" ∷ p ∷ codes "--json" ∷ []) task → task ≡ to_decide p None true
+  pub decide_out : (name p file : Text) (task : Task) → begins_with_hyphen p ≡ false
+      → begins_with_hyphen file ≡ false
+      → AskFor (name ∷ codes "decide" ∷ p ∷ codes "--out" ∷ file ∷ []) task
+      → task ≡ to_decide p (Some file) false
   pub prove : (name p : Text) (task : Task) → begins_with_hyphen p ≡ false
       → AskFor (name ∷ codes "prove" ∷ p ∷ []) task → task ≡ to_prove p None 4 4 1000000 false false
   pub prove_as_json : (name p : Text) (task : Task) → begins_with_hyphen p ≡ false
@@ -115,6 +123,13 @@ pub record PlainWordsAreFaultless : Type 0 where
   pub shrink : (name p : Text) → begins_with_hyphen p ≡ false → fault_of command_line (name ∷ codes "shrink" ∷ p ∷ []) ≡ []
   pub shrink_out : (name p file : Text) → begins_with_hyphen p ≡ false → begins_with_hyphen file ≡ false
       → fault_of command_line (name ∷ codes "shrink" ∷ p ∷ codes "--out" ∷ file ∷ []) ≡ []
+  pub decide : (name p : Text) → begins_with_hyphen p ≡ false
+      → fault_of command_line (name ∷ codes "decide" ∷ p ∷ []) ≡ []
+  pub decide_as_json : (name p : Text) → begins_with_hyphen p ≡ false
+      → fault_of command_line (name ∷ codes "decide" ∷ p ∷ codes "--json" ∷ []) ≡ []
+  pub decide_out : (name p file : Text) → begins_with_hyphen p ≡ false
+      → begins_with_hyphen file ≡ false
+      → fault_of command_line (name ∷ codes "decide" ∷ p ∷ codes "--out" ∷ file ∷ []) ≡ []
   pub prove : (name p : Text) → begins_with_hyphen p ≡ false → fault_of command_line (name ∷ codes "prove" ∷ p ∷ []) ≡ []
   pub prove_as_json : (name p : Text) → begins_with_hyphen p ≡ false → fault_of command_line (name ∷ codes "prove" ∷ p ∷ codes "--json" ∷ []) ≡ []
   pub prove_progress : (name p : Text) → begins_with_hyphen p ≡ false

@@ -163,6 +163,12 @@ pub fn smaller<'a>(alloc: Global) -> Arg<'a>
     )
 }
 
+pub fn schedule<'a>(alloc: Global) -> Arg<'a>
+    ensures { IsRuled result out_rule }
+{
+    written(alloc, "Write the schedule of a deadlock to this file")
+}
+
 /// The file to write.
 fn written<'a>(alloc: Global, about: &'a str) -> Arg<'a>
     ensures { IsRuled result out_rule }

@@ -2,15 +2,15 @@
 
 ghost use Rattle.std.specs.Prelude.{◌≡◌, IfOk};
 ghost use Rattle.clap.specs.Words.{App, Rule, new_app, with_rule, with_subcommand};
-ghost use Rattle.command_line.specs.CommandLine.{IsRuled, IsShaped, check_app, command_line, encode_app, explain_app, export_app, prove_app, replay_app, shrink_app, trim_app, version_line};
+ghost use Rattle.command_line.specs.CommandLine.{IsRuled, IsShaped, check_app, command_line, decide_app, encode_app, explain_app, export_app, prove_app, replay_app, shrink_app, trim_app, version_line};
 
 use crate::arguments::{
     all, budget, chart, depth, dimacs, dot, evidence, json, lines, object, optional_evidence, out,
-    pieces, program, progress, proof, smaller, svg, trimmed, workers,
+    pieces, program, progress, proof, schedule, smaller, svg, trimmed, workers,
 };
 use crate::help_ends::{
-    CHECK_END, ENCODE_END, EXPLAIN_END, EXPORT_END, HELP_END, PROVE_END, REPLAY_END, SHRINK_END,
-    TRIM_END,
+    CHECK_END, DECIDE_END, ENCODE_END, EXPLAIN_END, EXPORT_END, HELP_END, PROVE_END, REPLAY_END,
+    SHRINK_END, TRIM_END,
 };
 use clap::Arg;
 use clap::builder::Command;
@@ -64,7 +64,8 @@ pub fn command<'a>(alloc: Global) -> Result<Command<'a>, AllocError>
     let top = under(top, explain_command(alloc));
     let top = under(top, export_command(alloc));
     let top = under(top, trim_command(alloc));
-    under(top, shrink_command(alloc))
+    let top = under(top, shrink_command(alloc));
+    under(top, decide_command(alloc))
 }
 
 fn prove_command<'a>(alloc: Global) -> Result<Command<'a>, AllocError>
@@ -182,4 +183,18 @@ fn shrink_command<'a>(alloc: Global) -> Result<Command<'a>, AllocError>
     );
     let command = with(Ok(command), program(alloc));
     with(command, smaller(alloc))
+}
+
+fn decide_command<'a>(alloc: Global) -> Result<Command<'a>, AllocError>
+    ensures { IfOk result (λ c. IsShaped c decide_app) }
+{
+    let command = named(
+        alloc,
+        "decide",
+        "Decides by one run whether some run of a program of any length gets stuck",
+        DECIDE_END,
+    );
+    let command = with(Ok(command), program(alloc));
+    let command = with(command, schedule(alloc));
+    with(command, json(alloc))
 }

@@ -97,3 +97,13 @@ pub const SHRINK_END: &str = ending!(
   2  unknown: no run that was tried gets stuck
   3  refused: the program, with the reason"
 );
+
+/// Of `decide`.
+pub const DECIDE_END: &str = ending!(
+    "decide program.mpi --out program.evidence",
+    "
+  0  no deadlock: no run of the program gets stuck
+  1  deadlock: some run of it does
+  2  unknown race: messages race, so one run doesn't tell; prove may
+  3  refused: the program, with the reason"
+);

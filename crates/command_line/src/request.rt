@@ -68,6 +68,13 @@ pub enum Request<'a> {
         program: &'a str,
         out: Option<&'a str>,
     },
+    /// Decide by one run whether some run of a program of any length gets stuck, and write the
+    /// schedule of a deadlock to the file `out`.
+    Decide {
+        program: &'a str,
+        out: Option<&'a str>,
+        json: bool,
+    },
 }
 
 /// What the words ask for. The first word is the program's own name. An error is a fault of usage, a
@@ -115,6 +122,7 @@ fn requested<'a>(subcommand: (&'a str, &ArgMatches<'a>)) -> Option<Request<'a>>
         "export" => export_request(matches),
         "trim" => trim_request(matches),
         "shrink" => shrink_request(matches),
+        "decide" => decide_request(matches),
         _ => None,
     }
 }
@@ -209,6 +217,19 @@ fn shrink_request<'a>(matches: &ArgMatches<'a>) -> Option<Request<'a>>
     Some(Request::Shrink {
         program: matches.get_str(PROGRAM)?,
         out: matches.get_str(OUT),
+    })
+}
+
+/// The request of the matches of `decide`.
+fn decide_request<'a>(matches: &ArgMatches<'a>) -> Option<Request<'a>>
+    ensures { IfSome result (λ request.
+        Makes (codes "decide") (rows_of (found_of matches.now)) (task_of request)) }
+{
+    let json = is_set(matches, JSON);
+    Some(Request::Decide {
+        program: matches.get_str(PROGRAM)?,
+        out: matches.get_str(OUT),
+        json,
     })
 }
 

@@ -17,4 +17,5 @@ returns c =
     let five = c.under-top-5.ensures _ _ four c.explain_command.ensures in
     let six = c.under-top-6.ensures _ _ five c.export_command.ensures in
     let seven = c.under-top-7.ensures _ _ six c.trim_command.ensures in
-    c.under.ensures _ _ seven c.shrink_command.ensures
+    let eight = c.under-top-8.ensures _ _ seven c.shrink_command.ensures in
+    c.under.ensures _ _ eight c.decide_command.ensures

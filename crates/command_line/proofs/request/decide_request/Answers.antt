@@ -1,0 +1,16 @@
+use Rattle.std.proofs.Common.{◌∙◌, ap, refl, option_map}
+use Rattle.command_line.proofs.CommandLines.{given_by_rows}
+use Rattle.command_line.proofs.request.decide_request.Goals as goal
+
+pub returns : goal.returns
+returns c =
+    let m = c.args.matches.now in
+    record {
+      command = refl;
+      values = (
+        given_by_rows m _ c.get_str.result c.get_str.ensures
+            ∙ ap (option_map (λ s. s.now)) c.in_ok-get_str.was,
+        given_by_rows m _ c.get_str-2.result c.get_str-2.ensures,
+        c.is_set-json.ensures,
+      );
+    }
