@@ -1,0 +1,5 @@
+pub mod Written
+pub mod Decided
+pub mod Sources
+pub mod LawsOfDecisions
+pub mod Decimals

@@ -1,0 +1,73 @@
+-- What one run tells of all runs of a program, and of the program of a text.
+use Rattle.std.specs.Prelude.{◌≡◌, ◌⊎◌, ℕ, Bool, false, not, List, Option, Some, None, IsTrue, Result, Ok, Err}
+use Rattle.calltext.specs.declared.fault.ReadFault.{ReadFault}
+use Rattle.calltext.specs.declared.fault.ReadFault.TheVariants as reading
+use Rattle.calltext.specs.Fault.{HasFaultWithin}
+use Rattle.calltext.specs.Grammar.{ProgramText, IsTextWithin}
+use Rattle.calltext.specs.Limits.{long}
+use Rattle.callorder.specs.Calls.{pattern_of}
+use Rattle.callorder.specs.Programs.{MpiProgram, call_at, is_of_rank}
+use Rattle.callorder.specs.Resolving.{IsFirstFaultWithin, IsTextOfWithin}
+use Rattle.callorder.specs.declared.calls.Call.{Call}
+use Rattle.callorder.specs.declared.fault.ResolveFault.{ResolveFault}
+use Rattle.callorder.specs.declared.fault.ResolveFault.TheVariants as resolving
+use Rattle.semantics.specs.Headline.{NoStuckRun, IsNeverStuckWithin, IsStuckRunWithin}
+use Rattle.semantics.specs.Machine.{IsStuckRun}
+use Rattle.races.specs.Races.{names_source, NamesSources}
+use Rattle.deciding.specs.declared.decision.Caller.{Caller}
+use Rattle.deciding.specs.declared.decision.Decision.{Decision}
+use Rattle.deciding.specs.declared.decision.Decision.TheVariants as decisions
+use Rattle.deciding.specs.declared.texts.Undecided.{Undecided}
+use Rattle.deciding.specs.declared.texts.Undecided.TheVariants as undecided
+
+abbrev pub takes_any_source_call : Option Call → Bool
+takes_any_source_call None = false
+takes_any_source_call (Some call) = not (names_source (pattern_of call.kind))
+
+-- the call exists, and is a receive, matched probe or probe of any source
+abbrev pub takes_any_source : MpiProgram → ℕ → Bool
+takes_any_source p c = takes_any_source_call (call_at p c)
+
+-- the call at this place takes any source, and is of this rank
+pub record IsFreeFinder (p : MpiProgram) (finder : Caller) : Type 0 where
+  pub free : IsTrue (takes_any_source p finder.place)
+  pub own : IsTrue (is_of_rank (call_at p finder.place) finder.rank)
+
+-- What is decided of a program: no run of it gets stuck; the steps are a run of it that does; or neither, for this call takes any
+-- source.
+abbrev pub IsDecision : MpiProgram → Decision → Type 0
+IsDecision p decisions.NoDeadlock = NoStuckRun p
+IsDecision p (decisions.Deadlock steps) = IsStuckRun p steps.items
+IsDecision p (decisions.Race race) = IsFreeFinder p race.finder
+
+-- The bytes are the text of a program, within the long limits, one of whose calls takes any source.
+pub record HasFreeSource (program : List ℕ) (finder : Caller) : Type 0 where
+  pub p : MpiProgram
+  pub text : IsTextOfWithin long program p
+  pub free : IsFreeFinder p finder
+
+-- The same of the program that bytes are the text of, within the long limits.
+abbrev pub Decides : List ℕ → Decision → Type 0
+Decides program decisions.NoDeadlock = IsNeverStuckWithin long program
+Decides program (decisions.Deadlock steps) = IsStuckRunWithin long program steps.items
+Decides program (decisions.Race race) = HasFreeSource program race.finder
+
+-- want of memory is told alike, wherever it is met
+abbrev pub undecided_reading : ReadFault → Undecided
+undecided_reading reading.Memory = undecided.Memory
+undecided_reading fault = undecided.Read fault
+
+abbrev pub undecided_resolving : ResolveFault → Undecided
+undecided_resolving resolving.Memory = undecided.Memory
+undecided_resolving fault = undecided.Resolve fault
+
+-- Why bytes aren't decided: memory ran out; their first fault within the long limits; or the first fault of their call lines.
+abbrev pub IsUndecided : List ℕ → Undecided → Type 0
+IsUndecided program undecided.Memory = Unit {0}
+IsUndecided program (undecided.Read fault) = HasFaultWithin long program fault
+IsUndecided program (undecided.Resolve fault) = (text : ProgramText) × IsTextWithin long program text × IsFirstFaultWithin long text fault
+
+-- each of these for what it is
+abbrev pub IsDecided : List ℕ → Result Decision Undecided → Type 0
+IsDecided program (Ok decision) = Decides program decision
+IsDecided program (Err why) = IsUndecided program why

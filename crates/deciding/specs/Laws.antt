@@ -1,0 +1,22 @@
+-- What holds of each decision.
+use Rattle.std.specs.Prelude.{ℕ, List}
+use Rattle.calltext.specs.Limits.{long, short}
+use Rattle.callorder.specs.Programs.{MpiProgram}
+use Rattle.callorder.specs.Resolving.{IsTextOf, IsTextOfWithin}
+use Rattle.semantics.specs.declared.state.Step.{Step}
+use Rattle.semantics.specs.Headline.{IsNeverStuckWithin, IsStuckRunWithin}
+use Rattle.semantics.specs.Machine.{IsStuckRun}
+use Rattle.races.specs.Races.{NamesSources}
+use Rattle.deciding.specs.Decisions.{Decides}
+use Rattle.deciding.specs.declared.decision.Decision.TheVariants as decisions
+use Rattle.deciding.specs.declared.decision.Race.{Race}
+
+-- where each receive, matched probe and probe of the program names its source, it is never a race that is decided
+abbrev pub NamedSourcesAreDecided : Type 0
+NamedSourcesAreDecided =
+    (program : List ℕ) (race : Race) (p : MpiProgram) → Decides program (decisions.Race race) → IsTextOfWithin long program p → NamesSources p → ⊥
+
+-- what is decided of a text within the short limits is true of the program that it is within these
+pub record ShortTextsAreDecided : Type 0 where
+  pub never : (program : List ℕ) (p : MpiProgram) → IsTextOf program p → IsNeverStuckWithin long program → IsNeverStuckWithin short program
+  pub stuck : (program : List ℕ) (p : MpiProgram) (steps : List Step) → IsTextOf program p → IsStuckRunWithin long program steps → IsStuckRun p steps

@@ -1,0 +1,16 @@
+//! What one run tells of all runs of a program, of any length.
+//!
+//! The run that buffers as little as the policy allows is made. Where it gets stuck it is a deadlock. Where it finishes, and
+//! each receive, matched probe and probe names its source, no run gets stuck. Else messages may race, and the run alone tells
+//! nothing. `specs/Decisions.antt` says what each answer means.
+#![tactic(auto)]
+
+mod decision;
+mod laws;
+mod schedule;
+mod texts;
+
+pub use decision::{Caller, Decision, Race, decide_program};
+pub use laws::{named_sources_are_decided, short_texts_are_decided};
+pub use schedule::schedule_text;
+pub use texts::{Undecided, decide};
