@@ -104,6 +104,6 @@ pub const DECIDE_END: &str = ending!(
     "
   0  no deadlock: no run of the program gets stuck
   1  deadlock: some run of it does
-  2  unknown race: messages race, so one run doesn't tell; prove may
+  2  unknown race: a receive or probe takes any source, so one run may not tell; prove may
   3  refused: the program, with the reason"
 );

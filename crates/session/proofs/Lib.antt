@@ -2,7 +2,9 @@ pub mod DeadlockLines
 pub mod HeldFiles
 pub mod Deadlocks
 pub mod TaskEnds
+pub mod DecidedPages
 pub mod RunLaws
+pub mod DecidedRuns
 pub mod PlainAnswers
 pub mod StandIns
 pub mod StrayEvidences

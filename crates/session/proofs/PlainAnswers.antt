@@ -2,7 +2,7 @@
 use Rattle.std.proofs.Common.{◌≡◌, inl, inr, true, false, List, [], ◌∷◌, Some, None, codes, subst}
 use Rattle.clap.specs.Words.{Text, fault_of}
 use Rattle.command_line.specs.CommandLine.{command_line}
-use Rattle.command_line.specs.Requests.{AskFor, Task, number_of, to_check, to_encode, to_explain, to_export, to_prove, to_replay, to_shrink, to_trim}
+use Rattle.command_line.specs.Requests.{AskFor, Task, number_of, to_check, to_decide, to_encode, to_explain, to_export, to_prove, to_replay, to_shrink, to_trim}
 use Rattle.command_line.specs.UsualWords.{form_words}
 use Rattle.command_line.proofs.OptionWords.{option_words_are_read}
 use Rattle.command_line.proofs.PieceWords.{pieces_are_free}
@@ -63,6 +63,15 @@ plain_words_are_answered = record {
   shrink_out = λ name p file fp ff.
       answered (name ∷ codes "shrink" ∷ p ∷ codes "--out" ∷ file ∷ []) (to_shrink p (Some file)) (plain_words_are_faultless.shrink_out name p file fp ff)
       (λ task. plain_words_are_read.shrink_out name p file task fp ff);
+  decide = λ name p fp.
+      answered (name ∷ codes "decide" ∷ p ∷ []) (to_decide p None false) (plain_words_are_faultless.decide name p fp)
+      (λ task. plain_words_are_read.decide name p task fp);
+  decide_as_json = λ name p fp.
+      answered (name ∷ codes "decide" ∷ p ∷ codes "--json" ∷ []) (to_decide p None true) (plain_words_are_faultless.decide_as_json name p fp)
+      (λ task. plain_words_are_read.decide_as_json name p task fp);
+  decide_out = λ name p file fp ff.
+      answered (name ∷ codes "decide" ∷ p ∷ codes "--out" ∷ file ∷ []) (to_decide p (Some file) false) (plain_words_are_faultless.decide_out name p file fp ff)
+      (λ task. plain_words_are_read.decide_out name p file task fp ff);
   prove = λ name p fp.
       answered (name ∷ codes "prove" ∷ p ∷ []) (to_prove p None 4 4 1000000 false false) (plain_words_are_faultless.prove name p fp)
       (λ task. plain_words_are_read.prove name p task fp);

@@ -14,11 +14,11 @@ use Rattle.prover.specs.declared.steps.Replayed.{Replayed}
 use Rattle.prover.specs.declared.steps.Replayed.TheVariants as replays
 use Rattle.command_line.specs.CommandLine.{version_line}
 use Rattle.settings.specs.declared.form.Form.{Form}
-use Rattle.command_line.specs.Requests.{AskFor, Task, to_check, to_encode, to_explain, to_export, to_prove, to_replay, to_shrink, to_trim}
+use Rattle.command_line.specs.Requests.{AskFor, Task, to_check, to_decide, to_encode, to_explain, to_export, to_prove, to_replay, to_shrink, to_trim}
 use Rattle.session.specs.Deadlocks.{ReadFilesAreNotBlamed, AskToCheck, AskToExplain, AskToProve, AskToReplay, CheckedDeadlockIsPrinted, CheckedDeadlockIsShown, CheckedSafetyIsPrinted, CheckedSafetyIsTrue, EncodedFormulaIsPrinted, ExplainedDeadlockIsShown, ExplainedSafetyIsTrue, ExplainedUnknownFinishes, ExportedAnswerIsPrinted, ExportedProofIsWritten, ExportedSafetyIsTrue, IsRightlyTold, ProvedDeadlockIsPrinted, ProvedDeadlockIsShown, ProvedSafetyIsPrinted, ProvedSafetyIsTrue, ProvedUnknownFinishes, RefutedIsChecked, ReplayedDeadlockIsShown, ReplayedRunIsPrinted, ShownDeadlockIsChecked, ShownDeadlockIsReplayed, IsHandedOver, ShrunkProgramHangs, TellsDeadlock, TellsSafety, ToldDeadlockIsShown, TrimmedRefutationIsWritten, WrittenDeadlockIsShown, WrittenSafetyIsRefuted}
 use Rattle.session.specs.Endings.{Complains, Ends, EndsFollowed, EndsUnasked, Explains, FailsEarly, IsFollowed, Prints, PrintsAlone, SessionEnds, TaskEnds}
 use Rattle.session.specs.Lines.{IsLine, deadlock_line, early_line, line_text, lines_words, memory_line, no_deadlock_line, told_of_answer, told_of_untrimmed, told_of_verdict, told_status}
-use Rattle.session.specs.Pages.{FilesTold, HasTextOfFormula, IsProgram, IsChecked, IsEither, IsEncoded, IsExplained, IsExplainFile, IsExplainPage, is_object, IsExported, IsExportedTo, IsExportFile, IsProveFile, IsProved, IsReplayPage, IsReplayed, IsSearched, IsMadeSmaller, IsShrinkFile, IsSmallerPage, IsTrimFile, IsTrimmed, IsWritten, explain_want}
+use Rattle.session.specs.Pages.{FilesTold, HasTextOfFormula, IsProgram, IsChecked, IsDecidedPage, IsDecideFile, IsEither, IsEncoded, IsExplained, IsExplainFile, IsExplainPage, is_object, IsExported, IsExportedTo, IsExportFile, IsProveFile, IsProved, IsReplayPage, IsReplayed, IsSearched, IsMadeSmaller, IsShrinkFile, IsSmallerPage, IsTrimFile, IsTrimmed, IsWritten, explain_want}
 use Rattle.files.specs.Contents.{AreAll}
 use Rattle.shrinking.specs.Shrinking.{IsShrunk}
 use Rattle.reports.specs.Trimming.{Shortens}
@@ -31,6 +31,7 @@ use Rattle.session.specs.declared.page.Want.TheVariants as want
 use Rattle.session.specs.declared.told.Told.TheVariants as told
 use Rattle.session.proofs.DeadlockLines.{PageTells, PageTellsSafety, deadlock_page, deadlock_printed, deadlock_untold, dimacs_untold, formula_untold, help_untold, line_tells, lines_untold, one_told, safe_line, safety_page, safety_untold, unshrunk_untold, stuck_line, unknown_page, unknown_untold, version_untold, zero_told}
 use Rattle.session.proofs.Deadlocks.{all_are, check_never, check_shows, explained_finishes, explained_never, explained_shows, exported_checked, exported_proof, file_refutes, file_shows, held_as_read, prove_finishes, prove_never, prove_shows, helped_untold, read_as_held, read_shows, refused_above, refused_differs, replayed_shows, safe_differs, searched_shows}
+use Rattle.session.proofs.DecidedPages.{decided_hangs}
 use Rattle.session.proofs.TaskEnds.{task_ends}
 
 -- a run that complains with another status tells no deadlock
@@ -40,7 +41,7 @@ complaint_untold old new told_old told_new text status result other complains te
     deadlock_untold old new result (λ one. other (sym complains.0 ∙ one)) complains.1 tells
 
 -- where a run told a deadlock, its command ended by a page that tells it
-page_that_told : (IsPage : List ℕ → ℕ → Type 0) (IsFile : List ℕ → Type 0) (w : Want) (json : Bool) (before after : List ℕ → Option (List ℕ)) (old new told_old told_new : Option (List ℕ)) (status : ℕ)
+pub page_that_told : (IsPage : List ℕ → ℕ → Type 0) (IsFile : List ℕ → Type 0) (w : Want) (json : Bool) (before after : List ℕ → Option (List ℕ)) (old new told_old told_new : Option (List ℕ)) (status : ℕ)
     → Ends IsPage IsFile w json before after old new told_old told_new status ⊎ FailsEarly old new told_old told_new status
     → TellsDeadlock old new status → (text : List ℕ) × (page_status : ℕ) × IsPage text page_status × PageTells text page_status
 page_that_told IsPage IsFile w json before after old new told_old told_new status (inl ended) says = deadlock_page IsPage IsFile w json before after old new told_old told_new status ended says
@@ -48,7 +49,7 @@ page_that_told IsPage IsFile w json before after old new told_old told_new statu
     absurd (complaint_untold old new told_old told_new early_line 4 status (λ one. omega (arith, one)) fails says)
 
 -- and where it told that there is none, by a page that tells that
-page_that_reassured : (IsPage : List ℕ → ℕ → Type 0) (IsFile : List ℕ → Type 0) (w : Want) (json : Bool) (before after : List ℕ → Option (List ℕ)) (old new told_old told_new : Option (List ℕ)) (status : ℕ)
+pub page_that_reassured : (IsPage : List ℕ → ℕ → Type 0) (IsFile : List ℕ → Type 0) (w : Want) (json : Bool) (before after : List ℕ → Option (List ℕ)) (old new told_old told_new : Option (List ℕ)) (status : ℕ)
     → Ends IsPage IsFile w json before after old new told_old told_new status ⊎ FailsEarly old new told_old told_new status
     → TellsSafety old new status → (text : List ℕ) × (page_status : ℕ) × IsPage text page_status × PageTellsSafety text page_status
 page_that_reassured IsPage IsFile w json before after old new told_old told_new status (inl ended) says = safety_page IsPage IsFile w json before after old new told_old told_new status ended says
@@ -56,7 +57,7 @@ page_that_reassured IsPage IsFile w json before after old new told_old told_new 
     absurd (safety_untold old new status (λ zero. omega (arith, fails.0, zero)) fails.1 says)
 
 -- a run with a status below 4 printed the whole of its command's page
-page_printed : (own : ℕ) → own < 4 → (IsPage : List ℕ → ℕ → Type 0) (IsFile : List ℕ → Type 0) (w : Want) (json : Bool) (before after : List ℕ → Option (List ℕ)) (old new told_old told_new : Option (List ℕ)) (status : ℕ)
+pub page_printed : (own : ℕ) → own < 4 → (IsPage : List ℕ → ℕ → Type 0) (IsFile : List ℕ → Type 0) (w : Want) (json : Bool) (before after : List ℕ → Option (List ℕ)) (old new told_old told_new : Option (List ℕ)) (status : ℕ)
     → Ends IsPage IsFile w json before after old new told_old told_new status ⊎ FailsEarly old new told_old told_new status → status ≡ own
     → (text : List ℕ) × IsPage text own × PrintsAlone old new told_old told_new text own status
 page_printed own low IsPage IsFile w json before after old new told_old told_new status (inl (inl page)) is = elim page.3.0 [
@@ -80,7 +81,7 @@ text_printed own low line IsPage IsFile w json before after old new told_old tol
     subst (λ (text : List ℕ). PrintsAlone old new told_old told_new text own status) (known page.0 page.1) page.2
 
 -- the end of a task that changes no file
-ended : {A B F : Type 0} → (A × B) ⊎ F → B ⊎ F
+pub ended : {A B F : Type 0} → (A × B) ⊎ F → B ⊎ F
 ended (inl both) = inl both.1
 ended (inr fails) = inr fails
 
@@ -651,14 +652,24 @@ asked_told words tells before after old new told_old told_new status (to_trim e 
     let page = deadlock_page (IsTrimmed tells.writes before after e out as_json) (IsTrimFile tells.reads e out before after) want.Refused as_json before after old new told_old told_new status ends.1 says in
     absurd (trimmed_untold tells.writes before after e out as_json page.0 page.1 page.2 page.3)
 asked_told words tells before after old new told_old told_new status (to_shrink p out) asks ends says =
-    inr (inr (
+    inr (inr (inl (
       p,
       out,
       asks,
       λ program held.
           let page = deadlock_page (IsMadeSmaller tells.writes before after p out) (IsShrinkFile tells.reads p out before after) want.Refused false before after old new told_old told_new status ends.1 says in
           shrunk_hangs tells.writes before after p out page.0 page.1 program page.2 page.3 held,
-    ))
+    )))
+asked_told words tells before after old new told_old told_new status (to_decide p out as_json) asks ends says =
+    inr (inr (inr (
+      p,
+      out,
+      as_json,
+      asks,
+      λ program held.
+          let page = deadlock_page (IsDecidedPage tells.writes before after p out as_json) (IsDecideFile tells.reads p out before after) want.Unknown as_json before after old new told_old told_new status ends.1 says in
+          decided_hangs tells.writes before after p out as_json page.0 page.1 program page.2 page.3 held,
+    )))
 
 explained_untold : (kind : ErrorKind) (old new told_old told_new : Option (List ℕ)) (status : ℕ) → Explains kind old new told_old told_new status
     → TellsDeadlock old new status → ⊥

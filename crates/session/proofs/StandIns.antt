@@ -1,5 +1,5 @@
 -- What is read of a file stands for all of it.
-use Rattle.std.proofs.Common.{◌≡◌, ◌≢◌, ◌∙◌, ◌≤◌, ◌&&◌, Bool, true, false, not, leb, nat_eq, IsTrue, refl, inl, inr, subst, sym, ap, ℕ, List, ◌++◌, length, Some, None, arith, length-append, Bor, IfOk, Result, Ok, Err}
+use Rattle.std.proofs.Common.{◌≡◌, ◌≢◌, ◌∙◌, ◌≤◌, ◌<◌, ◌^◌, ◌&&◌, Bool, true, false, not, leb, nat_eq, IsTrue, refl, inl, inr, subst, sym, ap, ℕ, List, ◌++◌, length, Some, None, arith, length-append, Bor, IfOk, Result, Ok, Err}
 use Rattle.std.specs.Prelude.{Option, codes}
 use Rattle.std.specs.Global.{Vec}
 use Rattle.std.specs.List.{starts_with}
@@ -8,7 +8,7 @@ use Rattle.std.proofs.lemmas.List.{take-append-le}
 use Rattle.std.proofs.lemmas.Bool.Decides.{Decides-eqb}
 use Rattle.std.proofs.lemmas.Slice.Eq.{starts_is}
 use Rattle.std.proofs.lemmas.Bool.{leb-true}
-use Rattle.files.specs.Contents.{AreEnough, is_enough}
+use Rattle.files.specs.Contents.{AreAll, AreEnough, is_enough}
 use Rattle.files.specs.declared.extent.Extent.{Extent}
 use Rattle.files.specs.declared.extent.Extent.TheVariants.{Most, Begins}
 use Rattle.session.specs.Texts.{AreAlikeEvidences, AreAlikePrograms, IsStray, IsTooLarge, StandsFor}
@@ -58,6 +58,14 @@ evidence_front = record { ref_ptr = (0, 0); now = codes "evidence " }
 
 pub evidence_stands : (file : Option (List ℕ)) (read : List ℕ) → AreEnough (Begins evidence_front) file read → StandsFor AreAlikeEvidences file read
 evidence_stands = stands AreAlikeEvidences (Begins evidence_front) (λ bytes. inl refl) (cut_evidence evidence_front refl)
+
+-- all was read where nothing but the memory's size ends it
+pub whole_read : (file : Option (List ℕ)) (read : List ℕ) → length read < 2 ^ 64 → AreEnough (Most 18446744073709551615) file read → AreAll file read
+whole_read None read small enough = tt
+whole_read (Some known) read small (inl all) = all
+whole_read (Some known) read small (inr (enough, more)) =
+    let large : 18446744073709551615 < length read = grind arith in
+    absurd (omega (arith, small, large))
 
 -- what holds of bytes that were read
 pub if_read : {E : Type 0} (result : Result (Vec ℕ) E) (Was Is : List ℕ → Type 0) → ((bytes : List ℕ) → Was bytes → Is bytes) → IfOk result (λ v. Was v.items)

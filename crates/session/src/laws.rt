@@ -4,6 +4,7 @@ ghost use Rattle.session.specs.Deadlocks.{
   CheckedDeadlockIsShown,
   CheckedSafetyIsPrinted,
   CheckedSafetyIsTrue,
+  DecidedRunsAreRight,
   EncodedFormulaIsPrinted,
   ExplainedDeadlockIsShown,
   ExplainedSafetyIsTrue,
@@ -190,4 +191,11 @@ pub fn told_deadlock_is_shown()
 /// is known.
 pub fn plain_words_are_answered()
     ensures { PlainWordsAreAnswered }
+{}
+
+/// Where words ask to decide a program by one run: a deadlock that was told is a run of the program that gets stuck, and the file that is
+/// named holds it; where no deadlock was told, no run of the program gets stuck; and where neither was, some receive, matched probe or
+/// probe takes any source. The program may have any length.
+pub fn decided_runs_are_right()
+    ensures { DecidedRunsAreRight }
 {}

@@ -2,7 +2,7 @@
 use Rattle.std.proofs.Common.{IfErr, IfOk, ℕ, List, Bool, Result, Ok, Err, inl, inr, option_map, subst}
 use Rattle.std.specs.Prelude.{Option}
 use Rattle.session.specs.Endings.{Ends, Finishes}
-use Rattle.session.specs.Pages.{IsChecked, IsEither, IsEncoded, IsExplainFile, IsExplainPage, IsExported, IsExportFile, IsProveFile, IsProgram, IsProved, IsReplayed, IsMadeSmaller, IsShrinkFile, IsTrimFile, IsTrimmed, StopsBy, is_object}
+use Rattle.session.specs.Pages.{IsChecked, IsDecidedPage, IsDecideFile, IsEither, IsEncoded, IsExplainFile, IsExplainPage, IsExported, IsExportFile, IsProveFile, IsProgram, IsProved, IsReplayed, IsMadeSmaller, IsShrinkFile, IsTrimFile, IsTrimmed, StopsBy, is_object}
 use Rattle.session.specs.declared.commands.Stop.{Stop}
 use Rattle.session.specs.declared.commands.Stop.TheVariants as stop
 use Rattle.session.specs.declared.page.Page.{Page}
@@ -113,6 +113,19 @@ returns-in-Shrink g c =
       ended (IsMadeSmaller g.F.FileSet.tells_written before after program file) (IsShrinkFile (g.F.FileSet.reads c.args.files.now) program file before after) _ _ _
           before after _ _ _ _ _
           c.shrink_page-page.ensures.page c.shrink_page-page.ensures.stop c.finish-in-Shrink.ensures,
+    )
+
+pub returns-in-Decide : goal.returns-in-Decide
+returns-in-Decide g c =
+    let before = g.F.FileSet.held c.args.files.now in
+    let after = g.F.FileSet.held c.decide_page-page.new.files in
+    let program = c.in-Decide.program.now in
+    let file = option_map (λ path. path.now) c.in-Decide.file in
+    rw c.in-Decide.is (
+      c.decide_page-page.ensures.others,
+      ended (IsDecidedPage g.F.FileSet.tells_written before after program file c.in-Decide.json) (IsDecideFile (g.F.FileSet.reads c.args.files.now) program file before after) _ _ _
+          before after _ _ _ _ _
+          c.decide_page-page.ensures.page c.decide_page-page.ensures.stop c.finish-in-Decide.ensures,
     )
 
 pub returns-in-Trim : goal.returns-in-Trim

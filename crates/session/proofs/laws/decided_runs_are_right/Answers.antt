@@ -1,0 +1,5 @@
+use Rattle.session.proofs.DecidedRuns.{decided_runs}
+use Rattle.session.proofs.laws.decided_runs_are_right.Goals as goal
+
+pub returns : goal.returns
+returns c = decided_runs

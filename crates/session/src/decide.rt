@@ -1,0 +1,135 @@
+//! The command `decide`, from the file that it names to the page that it prints.
+ghost use Rattle.std.specs.Prelude.{◌≡◌, IfErr, IfOk, OnOk, Some, option_map};
+ghost use Rattle.deciding.specs.Decisions.{IsDecided};
+ghost use Rattle.deciding.specs.Schedules.{schedule_text};
+ghost use Rattle.files.specs.Contents.{AreAll};
+ghost use Rattle.session.specs.Lines.{IsLine};
+ghost use Rattle.session.specs.Pages.{ChangesAtMost, IsDecidedPage, IsDecideFile, IsDecisionPage, IsProgram, IsRacePage, IsScheduled, IsScheduleFile, IsWritten, StopsBy};
+
+use crate::commands::{Stop, decided_page, read};
+use crate::page::{Page, page_of};
+use crate::told::Told;
+use calltext::read_long;
+use deciding::{Decision, Race, Undecided, decide, schedule_text};
+use explain::line_numbers;
+use files::{Extent, FileSet};
+use prooflog::Text;
+use semantics::Step;
+use std::alloc::{AllocError, Global};
+
+/// Decides by one run whether some run of the program of a file gets stuck, and writes the schedule of a deadlock to a file
+/// where one is named. The page is made before the file is, so that no file changes where memory runs out.
+pub fn decide_page<'a, F: FileSet>(
+    alloc: Global,
+    program: &'a str,
+    out: Option<&'a str>,
+    json: bool,
+    files: &mut F,
+) -> Result<Page, Stop<'a>>
+    ensures page { IfOk result (λ page.
+        IsDecidedPage F.tells_written (F.held files.old) (F.held files.new) program.entry.now
+        (option_map (λ path. path.now) out.entry) json page.text.items page.status) }
+    ensures others { ChangesAtMost (option_map (λ path. path.now) out.entry) (F.held files.old) (F.held files.new) }
+    ensures stop { IfErr result (StopsBy
+        (IsDecideFile (F.reads files.old) program.entry.now (option_map (λ path. path.now) out.entry) (F.held files.old) (F.held files.new))
+        (F.held files.old) (F.held files.new)) }
+{
+    let text = read_whole(alloc, program, files)?;
+    let decided = decide(alloc, &text);
+    decision_page(alloc, &text, &decided, out, json, files)
+}
+
+/// The whole content of the file at a path.
+fn read_whole<'a, F: FileSet>(
+    alloc: Global,
+    path: &'a str,
+    files: &mut F,
+) -> Result<Vec<u8>, Stop<'a>>
+    ensures bytes { IfOk result (λ bytes. AreAll (F.held files.old path.entry.now) bytes.items) }
+    ensures same { F.held files.new ≡ F.held files.old }
+    ensures same_reads { F.reads files.new ≡ F.reads files.old }
+    ensures stop { IfErr result (StopsBy (IsProgram (F.reads files.old) path.entry.now)
+        (F.held files.old) (F.held files.new)) }
+{
+    let bytes = read(alloc, path, &Extent::Most(usize::MAX), files)?;
+    let _length = bytes.len();
+    Ok(bytes)
+}
+
+/// The page of what is decided of a text. The schedule of a deadlock is written where a file is named.
+fn decision_page<'a, F: FileSet>(
+    alloc: Global,
+    text: &[u8],
+    decided: &Result<Decision, Undecided>,
+    out: Option<&'a str>,
+    json: bool,
+    files: &mut F,
+) -> Result<Page, Stop<'a>>
+    ensures page { IfOk result (λ page. IsDecisionPage json decided.now page.text.items page.status) }
+    ensures scheduled { OnOk result (IsScheduled F.tells_written (F.held files.old) (F.held files.new)
+        (option_map (λ path. path.now) out.entry) decided.now) }
+    ensures others { ChangesAtMost (option_map (λ path. path.now) out.entry) (F.held files.old) (F.held files.new) }
+    ensures stop { IfErr result (StopsBy (IsScheduleFile decided.now (option_map (λ path. path.now) out.entry))
+        (F.held files.old) (F.held files.new)) }
+{
+    match decided {
+        Ok(Decision::NoDeadlock) => Ok(page_of(alloc, &Told::NoDeadlock, json)?),
+        Ok(Decision::Deadlock(steps)) => deadlock_page(alloc, steps, out, json, files),
+        Ok(Decision::Race(race)) => Ok(race_page(alloc, text, *race, json)?),
+        Err(why) => Ok(page_of(alloc, &Told::from(*why), json)?),
+    }
+}
+
+/// The page of a deadlock, whose schedule is written where a file is named.
+fn deadlock_page<'a, F: FileSet>(
+    alloc: Global,
+    steps: &[Step],
+    out: Option<&'a str>,
+    json: bool,
+    files: &mut F,
+) -> Result<Page, Stop<'a>>
+    ensures line { IfOk result (λ page. IsLine Told.Deadlock json page.text.items page.status) }
+    ensures written { OnOk result (IsWritten F.tells_written (F.held files.old) (F.held files.new)
+        (option_map (λ path. path.now) out.entry) (schedule_text steps.now)) }
+    ensures others { ChangesAtMost (option_map (λ path. path.now) out.entry) (F.held files.old) (F.held files.new) }
+    ensures stop { IfErr result (StopsBy (λ path. option_map (λ file. file.now) out.entry ≡ Some path)
+        (F.held files.old) (F.held files.new)) }
+{
+    if out.is_none() {
+        return Ok(page_of(alloc, &Told::Deadlock, json)?);
+    }
+    let schedule = Text::of(alloc, schedule_text(alloc, steps)?);
+    decided_page(alloc, &Told::Deadlock, &schedule, out, json, files)
+}
+
+/// The page of a race: the line that tells it, and below it the call that takes any source.
+fn race_page(alloc: Global, text: &[u8], race: Race, json: bool) -> Result<Page, AllocError>
+    ensures { IfOk result (λ page. IsRacePage json page.text.items page.status) }
+{
+    let mut page = page_of(alloc, &Told::Race, json)?;
+    if !json {
+        let words = race_words(alloc, text, race)?;
+        page.text.extend_from_slice(words.as_bytes())?;
+    }
+    Ok(page)
+}
+
+/// The line that tells the call that takes any source, and the send that it found in the run. Lines count from 1.
+fn race_words(alloc: Global, text: &[u8], race: Race) -> Result<String, AllocError> {
+    // The program was made of this text, so want of memory alone can be met.
+    let Ok(source) = read_long(alloc, text) else {
+        return Err(AllocError);
+    };
+    let numbers = line_numbers(alloc, &source)?;
+    let mut words = String::new(alloc);
+    let line = numbers.get(race.finder.place).copied().unwrap_or(0);
+    let rank = race.finder.rank;
+    write!(words, "line {line} of rank {rank} takes any source")?;
+    if let Some(send) = race.send {
+        let line = numbers.get(send.place).copied().unwrap_or(0);
+        let rank = send.rank;
+        write!(words, "; it found line {line} of rank {rank}")?;
+    }
+    words.push('\n')?;
+    Ok(words)
+}
