@@ -95,22 +95,30 @@ fn deadlock_page<'a, F: FileSet>(
     ensures stop { IfErr result (StopsBy (λ path. option_map (λ file. file.now) out.entry ≡ Some path)
         (F.held files.old) (F.held files.new)) }
 {
-    if out.is_none() {
-        return Ok(page_of(alloc, &Told::Deadlock, json)?);
+    if out.is_some() {
+        let schedule = Text::of(alloc, schedule_text(alloc, steps)?);
+        return decided_page(alloc, &Told::Deadlock, &schedule, out, json, files);
     }
-    let schedule = Text::of(alloc, schedule_text(alloc, steps)?);
-    decided_page(alloc, &Told::Deadlock, &schedule, out, json, files)
+    Ok(page_of(alloc, &Told::Deadlock, json)?)
 }
 
-/// The page of a race: the line that tells it, and below it the call that takes any source.
+/// The page of a race: the line that tells it, and below it, but for a JSON object, the call that takes any source.
 fn race_page(alloc: Global, text: &[u8], race: Race, json: bool) -> Result<Page, AllocError>
     ensures { IfOk result (λ page. IsRacePage json page.text.items page.status) }
 {
-    let mut page = page_of(alloc, &Told::Race, json)?;
-    if !json {
-        let words = race_words(alloc, text, race)?;
-        page.text.extend_from_slice(words.as_bytes())?;
+    if json {
+        return page_of(alloc, &Told::Race, true);
     }
+    told_race(alloc, text, race)
+}
+
+/// The page of a race as a text.
+fn told_race(alloc: Global, text: &[u8], race: Race) -> Result<Page, AllocError>
+    ensures { IfOk result (λ page. IsRacePage false page.text.items page.status) }
+{
+    let mut page = page_of(alloc, &Told::Race, false)?;
+    let words = race_words(alloc, text, race)?;
+    page.text.extend_from_slice(words.as_bytes())?;
     Ok(page)
 }
 
