@@ -1,10 +1,10 @@
 //! Whether a program is another one in which a call leaves less open.
 
-ghost use Rattle.std.specs.Prelude.{◌≡◌, IsTrue};
-ghost use Rattle.narrowing.specs.Narrowed.{named, named_pattern, narrowed_kind, IsNarrowedAt, IsNarrowed};
+ghost use Rattle.std.specs.Prelude.{◌≡◌, ◌↔◌, IsTrue};
+ghost use Rattle.narrowing.specs.Narrowed.{named, named_pattern, narrowed_kind, narrowed_call, IsNarrowedAt, IsNarrowed};
 
 use crate::taken::Taken;
-use callorder::{Kind, LongProgram, Pattern};
+use callorder::{Call, Kind, LongProgram, Pattern};
 use calltext::Mode;
 
 /// A number in the place of a star.
@@ -74,24 +74,45 @@ fn narrowed_kind(way: Taken, kind: Kind) -> Kind
     }
 }
 
-/// Whether the second program has at this place the first one's call, with no more left open where it is the one that is meant.
-fn is_narrowed_at(program: &LongProgram, call: usize, way: Taken, other: &LongProgram, place: usize) -> bool
-    ensures { IsTrue result → IsNarrowedAt program.now call way other.now place }
+/// The call with no more left open.
+fn narrowed_call(way: Taken, call: Call) -> Call
+    ensures { result ≡ narrowed_call way call }
 {
-    let (Some(old), Some(new)) = (program.call(place), other.call(place)) else {
-        return false;
-    };
-    let kind = if place == call {
-        narrowed_kind(way, old.kind)
+    Call {
+        rank: call.rank,
+        kind: narrowed_kind(way, call.kind),
+    }
+}
+
+/// Whether both are no call or the same one.
+fn is_same(call: Option<Call>, other: Option<Call>) -> bool
+    ensures { IsTrue result ↔ (call ≡ other) }
+{
+    call == other
+}
+
+/// Whether the second program has at this place the first one's call, with no more left open where it is the one that is meant.
+fn is_narrowed_at(
+    program: &LongProgram,
+    call: usize,
+    way: Taken,
+    other: &LongProgram,
+    place: usize,
+) -> bool
+    ensures { IsTrue result ↔ IsNarrowedAt program.now call way other.now place }
+{
+    let old = program.call(place);
+    let wanted = if place == call {
+        old.map(|old| narrowed_call(way, old))
     } else {
-        old.kind
+        old
     };
-    new.rank == old.rank && new.kind == kind
+    is_same(other.call(place), wanted)
 }
 
 /// Whether the second program is the first one, but that this call of it leaves open no more than this way. Takes no memory.
 pub fn is_narrowed(program: &LongProgram, call: usize, way: Taken, other: &LongProgram) -> bool
-    ensures { IsTrue result → IsNarrowed program.now call way other.now }
+    ensures { IsTrue result ↔ IsNarrowed program.now call way other.now }
 {
     let count = program.calls().len();
     if other.policy() != program.policy()

@@ -5,7 +5,7 @@ ghost use Rattle.narrowing.specs.Laws.{IsOpenSend};
 ghost use Rattle.narrowing.specs.Ways.{way_to, AreOtherMessages, AreOthersBelow, AreOtherWays};
 
 use crate::taken::Taken;
-use callorder::{Call, Kind, Program};
+use callorder::{Call, Kind, LongProgram};
 use calltext::{Mode, Policy};
 use std::alloc::{AllocError, Global};
 
