@@ -3,6 +3,7 @@ use Rattle.std.proofs.Common.{◌≡◌, ℕ, List, sym, subst}
 use Rattle.callorder.specs.Programs.{MpiProgram, IsProgram}
 use Rattle.callorder.specs.Resolving.{IsTextOf}
 use Rattle.callorder.proofs.FirstFaults.{one_program_of_bytes}
+use Rattle.calltext.specs.Limits.{short}
 use Rattle.callorder.proofs.ProgramsMade.{expansion_is_program}
 use Rattle.formulas.specs.Numbering.{formula_of}
 use Rattle.semantics.specs.Machine.{IsStuckRun}
@@ -14,7 +15,7 @@ use Rattle.checker.specs.Verdicts.{IsNeverStuck, Judges, NeverBoth, RefutedAreNe
 
 pub is_program : (program : List ℕ) (p : MpiProgram) → IsTextOf program p → IsProgram p
 is_program program p of =
-    subst IsProgram (sym of.is_program.is) (expansion_is_program of.text of.is_text.fits.some of.is_text.fits.ranks of.is_program.no_fault)
+    subst IsProgram (sym of.is_program.is) (expansion_is_program short of.text of.is_text.fits.some of.is_text.fits.ranks of.is_program.no_fault)
 
 pub refuted_are_never_stuck : RefutedAreNeverStuck
 refuted_are_never_stuck program evidence r = record {

@@ -37,7 +37,11 @@ fn put_exchange(
 
 /// Tells the receives and matched probes that took another message than the one that a probe right before them, among the calls of
 /// their rank that the message fits, had seen.
-pub fn exchanged(alloc: Global, program: &LongProgram, scene: &Scene) -> Result<String, AllocError> {
+pub fn exchanged(
+    alloc: Global,
+    program: &LongProgram,
+    scene: &Scene,
+) -> Result<String, AllocError> {
     let mut out = String::new(alloc);
     for place in 0..program.calls().len() {
         if program.is_probe(place) {

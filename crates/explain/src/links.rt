@@ -37,7 +37,13 @@ pub fn next_on(ranks: &[u32], rank: u32) -> Option<u32> {
 }
 
 /// Whether the call is one of this rank that the operation looks for, and its rank has not come to it.
-fn is_missing(program: &LongProgram, state: &State, operation: usize, rank: u32, call: usize) -> bool
+fn is_missing(
+    program: &LongProgram,
+    state: &State,
+    operation: usize,
+    rank: u32,
+    call: usize,
+) -> bool
     ensures { result ≡ is_missing program.now state.now operation rank call }
 {
     program.is_of_rank(call, rank)

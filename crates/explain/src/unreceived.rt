@@ -28,7 +28,11 @@ pub fn is_unreceived(program: &LongProgram, scene: &Scene, call: usize) -> bool 
 }
 
 /// Tells the messages that are sent and that nobody received.
-pub fn unreceived(alloc: Global, program: &LongProgram, scene: &Scene) -> Result<String, AllocError> {
+pub fn unreceived(
+    alloc: Global,
+    program: &LongProgram,
+    scene: &Scene,
+) -> Result<String, AllocError> {
     let mut out = String::new(alloc);
     let mut told: usize = 0;
     for place in 0..program.calls().len() {
