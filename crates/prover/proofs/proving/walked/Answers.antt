@@ -1,5 +1,5 @@
 use Rattle.std.proofs.Common.{subst, sym}
-use Rattle.std.specs.Option.{IfSome}
+use Rattle.std.specs.Option.{IfNone, IfSome}
 use Rattle.callorder.specs.Programs.{MpiProgram}
 use Rattle.semantics.specs.Machine.{IsStuckRun}
 use Rattle.prover.specs.Searches.{HasFinishedRun}
@@ -15,4 +15,5 @@ returns-in-Ok-Some-clause-some g c = λ text is.
     c.told_schedule.ensures.answer p text (subst (IsStuckRun p) (sym c.schedule_of_run-schedule.ensures) stuck) is
 
 pub returns-in-Ok-None-clause-none : goal.returns-in-Ok-None-clause-none
-returns-in-Ok-None-clause-none g c = subst HasFinishedRun c.deref.ensures c.in-Ok-None.ensures.none
+returns-in-Ok-None-clause-none g c =
+    subst HasFinishedRun c.deref.ensures (subst (λ o. IfNone o (HasFinishedRun c.deref.result.now)) c.in-Ok-None.field-0-is c.in-Ok-None.ensures.none)
