@@ -8,7 +8,7 @@ ghost use Rattle.prover.specs.Ends.{AreEndsOf};
 use crate::explore::is_stuck;
 use crate::manner::{manner_at, manners};
 use crate::walk::walk;
-use callorder::Program;
+use callorder::LongProgram;
 use checker::{Reason, program_of};
 use std::alloc::{AllocError, Global};
 
@@ -46,7 +46,7 @@ fn is_enough(until: Until, ends: WalkEnds) -> bool {
 /// How walks ended, once one more is taken.
 fn with_walk(
     alloc: Global,
-    program: &Program,
+    program: &LongProgram,
     turn: u32,
     before: WalkEnds,
 ) -> Result<WalkEnds, AllocError>
@@ -71,7 +71,7 @@ fn with_walk(
 }
 
 /// How the walks of a program end, one manner after another.
-fn ends_of(alloc: Global, program: &Program, until: Until) -> Result<WalkEnds, AllocError>
+fn ends_of(alloc: Global, program: &LongProgram, until: Until) -> Result<WalkEnds, AllocError>
     ensures holds { IfOk result (AreEndsOf program.now) }
     ensures some { IfOk result (λ ends. IsTrue (ends.stuck || ends.finished)) }
 {

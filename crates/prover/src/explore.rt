@@ -6,12 +6,12 @@ ghost use Rattle.prover.specs.Searches.{HasFinishedRun};
 
 use crate::manner::{manner_at, manners};
 use crate::walk::walk;
-use callorder::Program;
+use callorder::LongProgram;
 use semantics::{End, ReplayFault, Step, replay};
 use std::alloc::{AllocError, Global};
 
 /// Whether the steps are a run that ends stuck.
-pub fn is_stuck(alloc: Global, program: &Program, steps: &[Step]) -> Result<bool, AllocError>
+pub fn is_stuck(alloc: Global, program: &LongProgram, steps: &[Step]) -> Result<bool, AllocError>
     ensures { IfOk result (λ stuck. IsTrue stuck ↔ IsStuckRun program.now steps.now) }
 {
     match replay(alloc, program, steps) {
@@ -23,7 +23,7 @@ pub fn is_stuck(alloc: Global, program: &Program, steps: &[Step]) -> Result<bool
 }
 
 /// Walks in one manner after another, until a walk ends stuck: that walk, or none where all end finished.
-pub fn stuck_walk(alloc: Global, program: &Program) -> Result<Option<Vec<Step>>, AllocError>
+pub fn stuck_walk(alloc: Global, program: &LongProgram) -> Result<Option<Vec<Step>>, AllocError>
     ensures stuck { IfOk result (λ found. IfSome found (λ steps. IsStuckRun program.now steps.items)) }
     ensures none { IfOk result (λ found. IfNone found (HasFinishedRun program.now)) }
 {

@@ -1,6 +1,6 @@
 //! The steps of a schedule, told one by one.
 
-ghost use Rattle.std.specs.Prelude.{◌≡◌, ◌++◌, IfOk, IsSome, OnOk, slice_get, true};
+ghost use Rattle.std.specs.Prelude.{◌≡◌, ◌++◌, ◌≤◌, IfOk, IsSome, OnOk, length, slice_get, true};
 ghost use Rattle.semantics.specs.Machine.{IsEnabled, IsRun, IsStuckRun, opening};
 ghost use Rattle.prover.specs.Answers.{Replays, TellsRun};
 ghost use Rattle.prover.specs.Telling.{how_issued, issue_line, told_line, told_run, verb_of};
@@ -60,7 +60,8 @@ fn put_issue(
     rank: u32,
     buffered: bool,
 ) -> Result<(), AllocError>
-    requires { IsSome (slice_get program.now.calls place) }
+    requires there { IsSome (slice_get program.now.calls place) }
+    requires few { length program.now.calls ≤ 1024 }
     ensures { OnOk result (out.new.items ≡ out.old.items ++ issue_line program.now place rank buffered) }
 {
     let _calls = program.calls();
@@ -84,7 +85,8 @@ fn put_told(
     state: &State,
     step: Step,
 ) -> Result<(), AllocError>
-    requires { IsEnabled program.now state.now step }
+    requires enabled { IsEnabled program.now state.now step }
+    requires few { length program.now.calls ≤ 1024 }
     ensures { OnOk result (out.new.items ≡ out.old.items ++ told_line program.now state.now step) }
 {
     let _calls = program.calls();
@@ -102,7 +104,8 @@ fn put_told(
 
 /// A line for each step of a run, and then `stuck`, by the numbers of calls.
 fn numbered(alloc: Global, program: &LongProgram, steps: &[Step]) -> Result<Vec<u8>, AllocError>
-    requires { IsRun program.now (opening program.now) steps.now }
+    requires run { IsRun program.now (opening program.now) steps.now }
+    requires few { length program.now.calls ≤ 1024 }
     ensures { IfOk result (λ text. text.items ≡ told_run program.now steps.now) }
 {
     let mut state = State::start(alloc, program)?;
@@ -129,7 +132,8 @@ fn lined(
     let Ok(source) = read(alloc, text) else {
         return Err(AllocError);
     };
-    lined_steps(alloc, text, &source, program, steps)
+    let lines = lined_steps(alloc, text, &source, program, steps)?;
+    Ok(lines)
 }
 
 /// The text of a run of the program of this text that ends stuck, by lines or by numbers.
@@ -140,7 +144,8 @@ fn text_of(
     steps: &[Step],
     lines: bool,
 ) -> Result<Vec<u8>, AllocError>
-    requires { IsStuckRun program.now steps.now }
+    requires stuck { IsStuckRun program.now steps.now }
+    requires few { length program.now.calls ≤ 1024 }
     ensures { IfOk result (λ told. TellsRun lines text.now program.now steps.now told.items) }
 {
     if lines {
@@ -161,6 +166,7 @@ pub fn replay(alloc: Global, program: &[u8], evidence: &[u8], lines: bool) -> Re
         Err(NoRun::Refused(reason)) => return Replayed::Refused(reason),
         Err(NoRun::NotASchedule) => return Replayed::NotASchedule,
     };
+    let _calls = run.program.calls();
     match text_of(alloc, program, &run.program, run.schedule.steps(), lines) {
         Ok(text) => Replayed::Stuck(text),
         Err(_) => Replayed::Refused(Reason::Memory),

@@ -3,11 +3,11 @@ use Rattle.prover.proofs.Tellings.{told_more, told_all}
 use Rattle.prover.proofs.Walks.{enabled_there}
 use Rattle.prover.proofs.steps.numbered.Goals as goal
 
-pub put_told-requires : goal.put_told-requires
-put_told-requires c = enabled_there _ _ c.args.steps.now c.loop-step.step-index _ _ c.requires c.loop-step-test.true c.loop-step.invariant.now
+pub put_told-requires-clause-enabled : goal.put_told-requires-clause-enabled
+put_told-requires-clause-enabled c = enabled_there _ _ c.args.steps.now c.loop-step.step-index _ _ c.requires.run c.loop-step-test.true c.loop-step.invariant.now
 
 pub apply-requires-clause-enabled : goal.apply-requires-clause-enabled
-apply-requires-clause-enabled c = enabled_there _ _ c.args.steps.now c.loop-step.step-index _ _ c.requires c.loop-step-test.true c.loop-step.invariant.now
+apply-requires-clause-enabled c = enabled_there _ _ c.args.steps.now c.loop-step.step-index _ _ c.requires.run c.loop-step-test.true c.loop-step.invariant.now
 
 pub loop-step-preserved : goal.loop-step-preserved
 loop-step-preserved c =

@@ -11,5 +11,5 @@ returns-in-Ok-text_of c =
       shown.0,
       subst (λ (p : MpiProgram). TellsRun c.args.lines c.args.program.now p shown.0.steps text) (sym shown.1)
           (subst (λ (steps : List Step). TellsRun c.args.lines c.args.program.now c.in-Ok.run'.program steps text) (c.steps.ensures.same ∙ sym shown.2)
-          c.in-Ok-text_of.ensures),
+          (subst (λ (p : MpiProgram). TellsRun c.args.lines c.args.program.now p c.steps.result.now text) c.deref.ensures c.in-Ok-text_of.ensures)),
     )
