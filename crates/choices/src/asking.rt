@@ -1,13 +1,14 @@
 //! What is known of a text with one line pinned.
 
 ghost use Rattle.std.specs.Prelude.{IfOk, IsTrue};
+ghost use Rattle.narrowing.specs.Narrowed.{IsNarrowed};
 ghost use Rattle.semantics.specs.Machine.{IsStuckRun};
 ghost use Rattle.prover.specs.Answers.{CanHang};
 ghost use Rattle.choices.specs.Weights.{HangsWith, IsNarrowedText, IsWay, IsWayWith};
 
 use crate::items::Choice;
 use crate::pinning::with_choice;
-use callorder::Program;
+use callorder::{LongProgram, Program};
 use checker::program_of;
 use narrowing::{Taken, is_narrowed};
 use prover::{Answer, Gate, Options, Reason, Until, Why, prove, walk_ends};
@@ -68,10 +69,17 @@ fn walked(alloc: Global, text: &[u8]) -> Result<Way, AllocError>
     }
 }
 
+/// Whether the second program is the first one, but that this call of it leaves open no more than this way.
+fn is_narrowed_to(program: &LongProgram, call: usize, way: Taken, narrowed: &Program) -> bool
+    ensures { IsTrue result → IsNarrowed program.now call way narrowed.now }
+{
+    is_narrowed(program, call, way, narrowed)
+}
+
 /// Whether the text is that of the program in which this call leaves open no more than this way.
 fn is_narrowed_text(
     alloc: Global,
-    program: &Program,
+    program: &LongProgram,
     call: usize,
     way: Taken,
     text: &[u8],
@@ -79,7 +87,7 @@ fn is_narrowed_text(
     ensures { IfOk result (λ is. IsTrue is → IsNarrowedText program.now call way text.now) }
 {
     match program_of(alloc, text) {
-        Ok(narrowed) => Ok(is_narrowed(program, call, way, &narrowed)),
+        Ok(narrowed) => Ok(is_narrowed_to(program, call, way, &narrowed)),
         Err(Reason::Memory) => Err(AllocError),
         Err(_reason) => Ok(false),
     }
@@ -107,7 +115,7 @@ pub fn way_with<R: Threads + Wait + Sync>(
     rt: &R,
     alloc: Global,
     text: &[u8],
-    program: &Program,
+    program: &LongProgram,
     choice: &Choice,
     taken: Taken,
     search: Option<Options>,

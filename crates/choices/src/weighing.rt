@@ -10,7 +10,7 @@ use crate::asking::{Way, hangs_with, way_with};
 use crate::finding::choices_of;
 use crate::items::{Choice, Decided, Limits, Need, Weighed};
 use crate::sufficing::choose;
-use callorder::Program;
+use callorder::LongProgram;
 use checker::{NoRun, Reason, stuck_run_of};
 use narrowing::Taken;
 use semantics::Step;
@@ -48,7 +48,7 @@ fn others_of<R: Threads + Wait + Sync>(
     rt: &R,
     alloc: Global,
     text: &[u8],
-    program: &Program,
+    program: &LongProgram,
     choice: &Choice,
     search: Option<Options>,
 ) -> Result<Need, AllocError>
@@ -98,7 +98,7 @@ fn need_of<R: Threads + Wait + Sync>(
     rt: &R,
     alloc: Global,
     text: &[u8],
-    program: &Program,
+    program: &LongProgram,
     steps: &[Step],
     choice: &Choice,
     search: Option<Options>,
@@ -118,7 +118,7 @@ fn weigh<R: Threads + Wait + Sync>(
     rt: &R,
     alloc: Global,
     text: &[u8],
-    program: &Program,
+    program: &LongProgram,
     steps: &[Step],
     choice: Choice,
     search: Option<Options>,
@@ -142,7 +142,7 @@ fn weigh<R: Threads + Wait + Sync>(
 /// Adds a choice of the program, if it is to be kept.
 fn keep(
     found: &mut Vec<Choice>,
-    program: &Program,
+    program: &LongProgram,
     choice: Choice,
     keeps: bool,
 ) -> Result<(), AllocError>
@@ -159,7 +159,7 @@ fn keep(
 /// The choices of the program at these places, from 0.
 fn at_places(
     alloc: Global,
-    program: &Program,
+    program: &LongProgram,
     choices: Vec<Choice>,
     places: &[usize],
 ) -> Result<Vec<Choice>, AllocError>
@@ -180,7 +180,7 @@ fn weigh_all<R: Threads + Wait + Sync>(
     rt: &R,
     alloc: Global,
     text: &[u8],
-    program: &Program,
+    program: &LongProgram,
     steps: &[Step],
     choices: Vec<Choice>,
     search: Option<Options>,
@@ -200,7 +200,7 @@ fn weigh_all<R: Threads + Wait + Sync>(
 }
 
 /// How much a search may do that looks into another way: nothing where the program is large.
-fn search_for(program: &Program, limits: Limits) -> Option<Options> {
+fn search_for(program: &LongProgram, limits: Limits) -> Option<Options> {
     if program.calls().len() > MOST_CALLS {
         return None;
     }
@@ -212,7 +212,7 @@ fn decided_run<R: Threads + Wait + Sync>(
     rt: &R,
     alloc: Global,
     text: &[u8],
-    program: &Program,
+    program: &LongProgram,
     steps: &[Step],
     limits: Limits,
 ) -> Result<Decided, AllocError>

@@ -1,6 +1,8 @@
 //! The explanation of an answer.
 
-ghost use Rattle.std.specs.Prelude.{◌<◌, ◌≤◌, IfOk};
+ghost use Rattle.std.specs.Prelude.{◌<◌, ◌≡◌, ◌≤◌, IfOk};
+ghost use Rattle.charts.specs.Chart.{chart_of};
+ghost use Rattle.charts.specs.Picture.{picture_of};
 ghost use Rattle.semantics.specs.Machine.{IsStuckRun};
 ghost use Rattle.checker.specs.Verdicts.{AreRefuted, Shows};
 ghost use Rattle.reports.specs.Explanations.{Explains, IsDrawn};
@@ -74,6 +76,36 @@ fn told_text(
     }
 }
 
+/// The chart of a run.
+fn chart_text(
+    alloc: Global,
+    text: &[u8],
+    source: &Source,
+    program: &Program,
+    steps: &[Step],
+) -> Result<Vec<u8>, AllocError>
+    requires { IsStuckRun program.now steps.now }
+    ensures { IfOk result (λ told. told.items ≡ chart_of text.now source.now program.now steps.now) }
+{
+    let told = chart(alloc, text, source, program, steps)?;
+    Ok(told)
+}
+
+/// The picture of a run.
+fn picture_text(
+    alloc: Global,
+    text: &[u8],
+    source: &Source,
+    program: &Program,
+    steps: &[Step],
+) -> Result<Vec<u8>, AllocError>
+    requires { IsStuckRun program.now steps.now }
+    ensures { IfOk result (λ told. told.items ≡ picture_of text.now source.now program.now steps.now) }
+{
+    let told = picture(alloc, text, source, program, steps)?;
+    Ok(told)
+}
+
 /// The text, in this form, on the run of the program of this text that the evidence shows.
 fn deadlock_text<R: Threads + Wait + Sync>(
     rt: &R,
@@ -93,8 +125,8 @@ fn deadlock_text<R: Threads + Wait + Sync>(
     };
     match form {
         Form::Graph => wait_graph(alloc, text, &source, program, steps),
-        Form::Chart => chart(alloc, text, &source, program, steps),
-        Form::Picture => picture(alloc, text, &source, program, steps),
+        Form::Chart => chart_text(alloc, text, &source, program, steps),
+        Form::Picture => picture_text(alloc, text, &source, program, steps),
         Form::Brief | Form::Whole | Form::Object => {
             let decided = decided_text(rt, alloc, text, evidence)?;
             told_text(alloc, text, &source, program, steps, &decided, form)
