@@ -1,5 +1,5 @@
 -- What follows from a run that was asked to decide a program.
-use Rattle.std.proofs.Common.{◌≡◌, ℕ, Bool, true, List, Option, Some, refl, arith}
+use Rattle.std.proofs.Common.{◌≡◌, ◌⊎◌, ℕ, Bool, true, List, Option, Some, refl, arith}
 use Rattle.clap.specs.Words.{Text}
 use Rattle.command_line.specs.Requests.{AskFor, to_decide}
 use Rattle.session.specs.Deadlocks.{DecidedRunsAreRight, TellsDeadlock, TellsSafety}
