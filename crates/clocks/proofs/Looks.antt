@@ -1,0 +1,145 @@
+-- Which finders a send has to be looked at for.
+use Rattle.std.proofs.Common.{◌≡◌, ℕ, zero, suc, ◌+◌, ◌<◌, ◌≤◌, ◌⊎◌, inl, inr, Bool, true, false, ◌||◌, length, Option, Some, None, refl, sym, ap, ◌∙◌, subst, arith}
+use Rattle.std.proofs.lemmas.Bool.{cases_lt}
+use Rattle.std.proofs.lemmas.Option.{slice_get_within}
+use Rattle.calltext.proofs.Conjunctions.{and_both}
+use Rattle.calltext.specs.Limits.{long}
+use Rattle.callorder.specs.declared.calls.Call.{Call}
+use Rattle.callorder.specs.Programs.{MpiProgram, IsProgramWithin, call_at, fit_calls, are_fit, are_of_one_rank}
+use Rattle.semantics.specs.Machine.{Configuration, partner_of}
+use Rattle.semantics.proofs.RankOrder.{one_rank_between}
+use Rattle.races.specs.Blocks.{Blocks, HasFellow}
+use Rattle.races.specs.Tells.{Table, tells_return_call}
+use Rattle.races.proofs.Steps.{one_rank, one_rank_made}
+use Rattle.clocks.specs.Clocks.{IsNoRace, ShowsAll, HasEarlier, IsTakenUpTo, IsChecked, level}
+use Rattle.clocks.proofs.Levels.{or_left, level_within}
+
+-- what is known where a call is issued is known at each later call of its rank, some rounds later
+next_rank : (p : MpiProgram) (e : Configuration) (n b f : ℕ) → are_of_one_rank p b (suc b) ≡ true → level p e n b f ≡ true → level p e (suc n) (suc b) f ≡ true
+next_rank p e n b f one h =
+    and_both (are_of_one_rank p b (suc b)) (level p e n b f || tells_return_call p e (level p e n) b (call_at p b) f) one
+    (or_left (level p e n b f) (tells_return_call p e (level p e n) b (call_at p b) f) h)
+
+up : (n b : ℕ) → suc (n + b) ≡ n + suc b
+up n b = omega arith
+
+same_call : (p : MpiProgram) (c : ℕ) (x y : Call) → call_at p c ≡ Some x → call_at p c ≡ Some y → x ≡ y
+same_call p c x y a b = cc (a, b)
+
+from_ends : (p : MpiProgram) (c b : ℕ) → IsProgramWithin long p → c ≤ b → are_of_one_rank p c (suc b) ≡ true → are_of_one_rank p c b ≡ true
+from_ends p c b is below one =
+    let first = one_rank p c (suc b) one in
+    let second = one_rank p b (suc b) (one_rank_between long p is c b (suc b) below (omega arith) one) in
+    one_rank_made p c b first.0 second.0 first.2 second.2 (first.4 ∙ ap (λ (z : Call). z.rank) (same_call p (suc b) first.1 second.1 first.3 second.3) ∙ sym second.4)
+
+pub known_later : (p : MpiProgram) (e : Configuration) (n c o f : ℕ) → IsProgramWithin long p → c ≤ o → are_of_one_rank p c o ≡ true → level p e (n + c) c f ≡ true → level p e (n + o) o f ≡ true
+known_later p e n c zero f is le one h = let same : c ≡ zero = omega (arith, le) in subst (λ (z : ℕ). level p e (n + z) z f ≡ true) same h
+known_later p e n c (suc b) f is le one h =
+    elim (cases_lt c (suc b)) [
+      | inr ge ↦ let same : c ≡ suc b = omega (arith, le, ge) in subst (λ (z : ℕ). level p e (n + z) z f ≡ true) same h
+      | inl lt ↦
+          let below : c ≤ b = omega (arith, lt) in
+          let to_b : are_of_one_rank p c b ≡ true = from_ends p c b is below one in
+          let step : are_of_one_rank p b (suc b) ≡ true = one_rank_between long p is c b (suc b) below (omega arith) one in
+          subst (λ (z : ℕ). level p e z (suc b) f ≡ true) (up n b) (next_rank p e (n + b) b f step (known_later p e n c b f is below to_b h))
+    ]
+
+more_rounds : (p : MpiProgram) (e : Configuration) (n m c f : ℕ) → n ≤ m → level p e n c f ≡ true → level p e m c f ≡ true
+more_rounds p e n zero c f le h = let same : n ≡ zero = omega (arith, le) in subst (λ (z : ℕ). level p e z c f ≡ true) same h
+more_rounds p e n (suc m) c f le h =
+    elim (cases_lt n (suc m)) [
+      | inr ge ↦ let same : n ≡ suc m = omega (arith, le, ge) in subst (λ (z : ℕ). level p e z c f ≡ true) same h
+      | inl lt ↦ level_within p e m c f (more_rounds p e n m c f (omega (arith, lt)) h)
+    ]
+
+-- what a send shows, some rounds later
+abbrev pub Later : MpiProgram → Blocks → Configuration → Configuration → ℕ → ℕ → Type 0
+Later p block e sure n other =
+    (finder own : ℕ) → partner_of e finder ≡ Some own → are_fit p other finder ≡ true → (are_of_one_rank p own other ≡ false) ⊎ HasFellow p block finder
+    → ((taker : ℕ) → partner_of e other ≡ Some taker → (taker ≤ finder) ⊎ (block taker ≡ block finder) → ⊥) → level p sure (n + other) other finder ≡ true
+
+apart_from : (p : MpiProgram) (own earlier other : ℕ) → are_of_one_rank p earlier other ≡ true → are_of_one_rank p own other ≡ false → are_of_one_rank p own earlier ≡ false
+apart_from p own earlier other one apart = by (are_of_one_rank p own earlier) refl
+  where
+    by : (b : Bool) → are_of_one_rank p own earlier ≡ b → b ≡ false
+    by false is = refl
+    by true is =
+        let a = one_rank p own earlier is in
+        let b = one_rank p earlier other one in
+        let both : are_of_one_rank p own other ≡ true = one_rank_made p own other a.0 b.1 a.2 b.3 (a.4 ∙ ap (λ (z : Call). z.rank) (same_call p earlier a.1 b.0 a.3 b.2) ∙ b.4) in
+        absurd (cc (both, apart))
+
+apart_or : (p : MpiProgram) (block : Blocks) (own earlier other finder : ℕ) → are_of_one_rank p earlier other ≡ true → (are_of_one_rank p own other ≡ false) ⊎ HasFellow p block finder → (are_of_one_rank p own earlier ≡ false) ⊎ HasFellow p block finder
+apart_or p block own earlier other finder one (inl apart) = inl (apart_from p own earlier other one apart)
+apart_or p block own earlier other finder one (inr w) = inr w
+
+all_later : (p : MpiProgram) (block : Blocks) (e sure : Configuration) (n bound other : ℕ) → IsProgramWithin long p → ((it : ℕ) → IsChecked p block e (level p sure n) it) → other < bound → Later p block e sure n other
+all_later p block e sure n zero other is checked lt finder own found fit apart later = absurd (omega (arith, lt))
+all_later p block e sure n (suc bound) other is checked lt finder own found fit apart later =
+    elim (checked other finder own found) [
+      | inl none ↦ more_rounds p sure n (n + other) other finder (omega arith) (none fit apart later)
+      | inr w ↦
+          known_later p sure n w.earlier other finder is (omega (arith, w.before)) w.one
+          (all_later p block e sure n bound w.earlier is checked (omega (arith, w.before, lt)) finder own found w.fit (apart_or p block own w.earlier other finder w.one apart) w.later)
+    ]
+
+send_there : (o u : Option Call) → fit_calls o u ≡ true → (x : Call) × (o ≡ Some x)
+send_there None u fit = absurd (cc)
+send_there (Some x) u fit = (x, refl)
+
+-- each send that is checked shows it all, some rounds later
+pub checked_shows : (p : MpiProgram) (block : Blocks) (e sure : Configuration) (n : ℕ) → IsProgramWithin long p → ((it : ℕ) → IsChecked p block e (level p sure n) it) → ShowsAll p block e (level p sure (n + length p.calls))
+checked_shows p block e sure n is checked finder own other found mine fit apart later =
+    let w = send_there (call_at p other) (call_at p finder) fit in
+    let within : other < length p.calls = slice_get_within p.calls other w.0 w.1 in
+    more_rounds p sure (n + other) (n + length p.calls) other finder (omega (arith, within))
+    (all_later p block e sure n (length p.calls) other is checked within finder own found fit apart later)
+
+-- a send is checked where it is looked at for each finder that the four bounds leave
+pub checked_by : (p : MpiProgram) (block : Blocks) (e : Configuration) (knows : Table) (other first start end last low high : ℕ) → ((f : ℕ) → f < first → are_fit p other f ≡ true → HasEarlier p block e other f) → ((f : ℕ) → f < start → are_fit p other f ≡ true → ⊥) → ((f : ℕ) → end ≤ f → are_fit p other f ≡ true → IsTakenUpTo e other f) → ((f : ℕ) → last ≤ f → are_fit p other f ≡ true → ⊥) → ((n : ℕ) → first ≤ n → start ≤ n → low ≤ n) → ((n : ℕ) → n < end → n < last → n < high) → ((f own : ℕ) → low ≤ f → f < high → partner_of e f ≡ Some own → IsNoRace p block e knows f own other) → IsChecked p block e knows other
+checked_by p block e knows other first start end last low high a b c d from to looked f own found = by (are_fit p other f) refl
+  where
+    by : (fit : Bool) → are_fit p other f ≡ fit → IsNoRace p block e knows f own other ⊎ HasEarlier p block e other f
+    by false is = inl (λ fit apart later. absurd (cc (is, fit)))
+    by true is =
+        elim (cases_lt f first) [
+          | inl lt ↦ inr (a f lt is)
+          | inr ge ↦
+              elim (cases_lt f start) [
+                | inl lt ↦ absurd (b f lt is)
+                | inr above ↦
+                    elim (cases_lt f end) [
+                      | inr past ↦ inl (λ fit apart later. absurd (let w = c f past is in later w.taker w.found (inl w.first)))
+                      | inl before ↦
+                          elim (cases_lt f last) [
+                            | inr past ↦ absurd (d f past is)
+                            | inl below ↦ inl (looked f own (from f ge above) (to f before below) found)
+                          ]
+                    ]
+              ]
+        ]
+
+pub one_more_send : (p : MpiProgram) (block : Blocks) (e : Configuration) (knows : Table) (n : ℕ) → ((other : ℕ) → other < n → IsChecked p block e knows other) → IsChecked p block e knows n → (other : ℕ) → other < n + 1 → IsChecked p block e knows other
+one_more_send p block e knows n h last other lt =
+    elim (cases_lt other n) [
+      | inl below ↦ h other below
+      | inr ge ↦ let at : n ≡ other = omega (arith, ge, lt) in subst (λ (z : ℕ). IsChecked p block e knows z) at last
+    ]
+
+pub all_checked : (p : MpiProgram) (block : Blocks) (e : Configuration) (knows : Table) (n : ℕ) → length p.calls ≤ n → ((other : ℕ) → other < n → IsChecked p block e knows other) → (other : ℕ) → IsChecked p block e knows other
+all_checked p block e knows n all h other f own found =
+    elim (cases_lt other n) [
+      | inl below ↦ h other below f own found
+      | inr ge ↦
+          inl (λ fit apart later.
+          let w = send_there (call_at p other) (call_at p f) fit in
+          let within : other < length p.calls = slice_get_within p.calls other w.0 w.1 in
+          absurd (omega (arith, within, ge, all)))
+    ]
+
+pub one_more_between : (p : MpiProgram) (block : Blocks) (e : Configuration) (knows : Table) (other first n : ℕ) → ((f own : ℕ) → first ≤ f → f < n → partner_of e f ≡ Some own → IsNoRace p block e knows f own other) → ((own : ℕ) → partner_of e n ≡ Some own → IsNoRace p block e knows n own other) → (f own : ℕ) → first ≤ f → f < n + 1 → partner_of e f ≡ Some own → IsNoRace p block e knows f own other
+one_more_between p block e knows other first n h last f own from lt =
+    elim (cases_lt f n) [
+      | inl below ↦ h f own from below
+      | inr ge ↦ let at : n ≡ f = omega (arith, ge, lt) in subst (λ (z : ℕ). partner_of e z ≡ Some own → IsNoRace p block e knows z own other) at (last own)
+    ]

@@ -1,0 +1,207 @@
+//! Which finders a send is looked at for: those from one place up to another.
+
+ghost use Rattle.std.specs.Prelude.{◌≡◌, ◌≤◌, ◌<◌, ℕ, IsTrue, IfSome};
+ghost use Rattle.callorder.specs.Programs.{are_fit, are_of_one_rank};
+ghost use Rattle.clocks.specs.Clocks.{HasEarlier, IsTakenUpTo, IsOfRank, block_of};
+ghost use Rattle.clocks.specs.Rows.{AreRuns};
+
+use crate::runs::name;
+use callorder::{LongProgram, Message};
+use semantics::State;
+use std::alloc::{AllocError, Global};
+
+/// For each send the one before it of its rank with the same envelope, and for each rank its first
+/// call and the one behind its last. Nothing is promised of these: each is tested where it is used.
+#[derive(Drop)]
+pub struct Classes {
+    previous: Vec<Option<usize>>,
+    starts: Vec<usize>,
+    ends: Vec<usize>,
+}
+
+/// The rank that the send goes to.
+fn destination(program: &LongProgram, send: usize) -> Option<u32>
+    ensures { IfSome result (λ rank. (finder : ℕ) → IsTrue (are_fit program.now send finder) → IsOfRank program.now finder rank) }
+{
+    match program.call(send) {
+        None => None,
+        Some(call) => match call.kind.message() {
+            None => None,
+            Some(message) => Some(message.destination),
+        },
+    }
+}
+
+/// Whether no finder before the place is of the rank, as the call before that place tells.
+fn is_none_before(program: &LongProgram, start: usize, rank: u32) -> bool
+    ensures { IsTrue result → (finder : ℕ) → finder < start → IsOfRank program.now finder rank → ⊥ }
+{
+    let _calls = program.calls();
+    if start == 0 {
+        return true;
+    }
+    match program.call(start - 1) {
+        None => false,
+        Some(last) => last.rank < rank,
+    }
+}
+
+/// Whether no finder from the place on is of the rank, as the call at that place tells.
+fn is_none_from(program: &LongProgram, end: usize, rank: u32) -> bool
+    ensures { IsTrue result → (finder : ℕ) → end ≤ finder → IsOfRank program.now finder rank → ⊥ }
+{
+    let calls = program.calls().len();
+    if calls <= end {
+        return true;
+    }
+    match program.call(end) {
+        None => false,
+        Some(next) => rank < next.rank,
+    }
+}
+
+/// Whether two sends have the same destination, communicator and tag.
+fn have_one_message(program: &LongProgram, one: usize, other: usize) -> bool
+    ensures { IsTrue result → IsTrue (are_of_one_rank program.now one other) → (finder : ℕ) → IsTrue (are_fit program.now other finder) → IsTrue (are_fit program.now one finder) }
+{
+    match program.call(one) {
+        None => false,
+        Some(first) => match program.call(other) {
+            None => false,
+            Some(second) => have_same(first.kind.message(), second.kind.message()),
+        },
+    }
+}
+
+/// Whether the two are the same.
+fn have_same(one: Option<Message>, other: Option<Message>) -> bool
+    ensures { IsTrue result → one ≡ other }
+{
+    one == other
+}
+
+/// Whether the one is an earlier send of the rank of the other, with the same envelope.
+fn is_earlier(program: &LongProgram, earlier: usize, other: usize) -> bool
+    ensures { IsTrue result → (earlier < other) × IsTrue (are_of_one_rank program.now earlier other) × ((finder : ℕ) → IsTrue (are_fit program.now other finder) → IsTrue (are_fit program.now earlier finder)) }
+{
+    earlier < other
+        && program.are_of_one_rank(earlier, other)
+        && have_one_message(program, earlier, other)
+}
+
+/// A call from which on each one is the send's taker or behind it. Of a send that is not taken it
+/// is the number of calls.
+pub fn end_open(program: &LongProgram, state: &State, other: usize) -> usize
+    ensures { (finder : ℕ) → result ≤ finder → IsTrue (are_fit program.now other finder) → IsTakenUpTo state.now other finder }
+{
+    match state.partner(other) {
+        None => program.calls().len(),
+        Some(taker) => taker,
+    }
+}
+
+impl Classes {
+    /// Those of a program. The only error is want of memory.
+    pub fn new(alloc: Global, program: &LongProgram) -> Result<Self, AllocError> {
+        let calls = program.calls().len();
+        let mut keys: Vec<(u32, u32, u32, u32, usize)> = Vec::new(alloc);
+        let mut starts = vec![in alloc; 0; program.ranks() as usize]?;
+        let mut ends = vec![in alloc; 0; program.ranks() as usize]?;
+        let mut previous: Vec<Option<usize>> = vec![in alloc; None; calls]?;
+        for place in 0..calls {
+            if let Some(call) = program.call(place) {
+                if let Some(end) = ends.get_mut(call.rank as usize) {
+                    if *end == 0 {
+                        if let Some(start) = starts.get_mut(call.rank as usize) {
+                            *start = place;
+                        }
+                    }
+                    *end = place.saturating_add(1);
+                }
+                if let Some(message) = call.kind.message() {
+                    keys.push((
+                        call.rank,
+                        message.destination,
+                        message.communicator,
+                        message.tag,
+                        place,
+                    ))?;
+                }
+            }
+        }
+        keys.sort()?;
+        let mut last: Option<(u32, u32, u32, u32, usize)> = None;
+        for key in keys.iter() {
+            if let Some(before) = last {
+                if before.0 == key.0
+                    && before.1 == key.1
+                    && before.2 == key.2
+                    && before.3 == key.3
+                {
+                    if let Some(slot) = previous.get_mut(key.4) {
+                        *slot = Some(before.4);
+                    }
+                }
+            }
+            last = Some(*key);
+        }
+        Ok(Classes {
+            previous,
+            starts,
+            ends,
+        })
+    }
+
+    /// A call before which the send needs no look: of each finder before it that the send fits, an
+    /// earlier send of its rank fits it too, and isn't taken up to there.
+    pub fn first_open(
+        &self,
+        program: &LongProgram,
+        state: &State,
+        names: &[usize],
+        other: usize,
+    ) -> usize
+        requires { AreRuns program.now (block_of names.now) }
+        ensures { (finder : ℕ) → finder < result → IsTrue (are_fit program.now other finder) → HasEarlier program.now (block_of names.now) state.now other finder }
+    {
+        let Some(earlier) = self.previous.get(other).copied().unwrap_or(None) else {
+            return 0;
+        };
+        if !is_earlier(program, earlier, other) {
+            return 0;
+        }
+        match state.partner(earlier) {
+            None => usize::MAX,
+            Some(taker) => name(names, taker),
+        }
+    }
+
+    /// A call before which no finder is of the rank that the send goes to.
+    pub fn rank_start(&self, program: &LongProgram, other: usize) -> usize
+        ensures { (finder : ℕ) → finder < result → IsTrue (are_fit program.now other finder) → ⊥ }
+    {
+        let Some(rank) = destination(program, other) else {
+            return 0;
+        };
+        let start = self.starts.get(rank as usize).copied().unwrap_or(0);
+        if !is_none_before(program, start, rank) {
+            return 0;
+        }
+        start
+    }
+
+    /// A call from which on no finder is of the rank that the send goes to.
+    pub fn rank_end(&self, program: &LongProgram, other: usize) -> usize
+        ensures { (finder : ℕ) → result ≤ finder → IsTrue (are_fit program.now other finder) → ⊥ }
+    {
+        let calls = program.calls().len();
+        let Some(rank) = destination(program, other) else {
+            return calls;
+        };
+        let end = self.ends.get(rank as usize).copied().unwrap_or(calls);
+        if !is_none_from(program, end, rank) {
+            return calls;
+        }
+        end
+    }
+}

@@ -1,0 +1,134 @@
+//! Finders in columns, numbered.
+
+ghost use Rattle.std.specs.Prelude.{◌≡◌, slice_get, slice_index};
+ghost use Rattle.clocks.specs.Clocks.{IsRaised};
+
+use callorder::{Kind, LongProgram};
+use std::alloc::{AllocError, Global};
+use std::marker::Model;
+
+/// Where a finder is counted. Columns and numbers are from 0.
+#[derive(Clone, Copy)]
+pub struct Mark {
+    /// The column of its rank.
+    pub column: usize,
+    /// Its number among the finders of all columns.
+    pub number: usize,
+}
+
+/// The finders of any source in the order in which each rank completes them, a column for each rank
+/// that has some.
+#[derive(Drop)]
+pub struct Columns {
+    starts: Vec<usize>,
+    listed: Vec<usize>,
+    marks: Vec<Option<Mark>>,
+}
+
+impl Model for Columns {
+    ghost use Rattle.clocks.specs.Clocks.{Numbering};
+
+    ghost Value = { Numbering };
+
+    ghost view = { λ c. record { starts = c.starts.items; listed = c.listed.items } };
+}
+
+/// The finder of any source that is complete where this call has returned.
+fn completed(program: &LongProgram, call: usize) -> Option<usize> {
+    let known = program.call(call)?;
+    let finder = match known.kind {
+        Kind::Receive { blocking: true, .. } | Kind::MatchedProbe { .. } | Kind::Probe { .. } => {
+            call
+        }
+        Kind::Wait { operation } => operation,
+        _ => return None,
+    };
+    let pattern = program.call(finder)?.kind.pattern()?;
+    if pattern.source.is_none() {
+        Some(finder)
+    } else {
+        None
+    }
+}
+
+impl Columns {
+    /// The columns of a program. The only error is want of memory.
+    pub fn new(alloc: Global, program: &LongProgram) -> Result<Self, AllocError> {
+        let calls = program.calls().len();
+        let mut starts = Vec::new(alloc);
+        let mut listed = Vec::new(alloc);
+        let mut marks: Vec<Option<Mark>> = vec![in alloc; None; calls]?;
+        let mut column = 0;
+        let mut last = None;
+        for call in 0..calls {
+            if let Some(finder) = completed(program, call) {
+                let same = match last {
+                    None => false,
+                    Some(before) => program.are_of_one_rank(before, call),
+                };
+                if !same {
+                    column = starts.len();
+                    starts.push(listed.len())?;
+                }
+                last = Some(call);
+                if let Some(mark) = marks.get_mut(finder) {
+                    *mark = Some(Mark {
+                        column,
+                        number: listed.len(),
+                    });
+                }
+                listed.push(finder)?;
+            }
+        }
+        Ok(Columns {
+            starts,
+            listed,
+            marks,
+        })
+    }
+
+    /// How many columns there are.
+    pub fn count(&self) -> usize {
+        self.starts.len()
+    }
+
+    /// Where the finder is counted, if it is.
+    pub fn mark(&self, finder: usize) -> Option<Mark> {
+        self.marks.get(finder).copied().unwrap_or(None)
+    }
+
+    /// The finder with this number, if there is one.
+    pub fn listed(&self, number: usize) -> Option<usize>
+        ensures { result ≡ slice_get self.now.listed number }
+    {
+        self.listed.get(number).copied()
+    }
+
+    /// The column's first number, and 0 where there is no such column.
+    pub fn start(&self, column: usize) -> usize
+        ensures { result ≡ slice_index self.now.starts column }
+    {
+        self.starts.get(column).copied().unwrap_or(0)
+    }
+
+    /// Counts the finder in the row too, where all before it in its column are counted.
+    pub fn raise(&self, row: &mut Vec<usize>, finder: usize)
+        ensures { IsRaised self.now finder row.old.items row.new.items }
+    {
+        let Some(mark) = self.mark(finder) else {
+            return;
+        };
+        if self.listed(mark.number) != Some(finder) {
+            return;
+        }
+        let Some(count) = row.get(mark.column).copied() else {
+            return;
+        };
+        let Some(next) = mark.number.checked_add(1) else {
+            return;
+        };
+        if count < next && (mark.number <= count || mark.number <= self.start(mark.column)) {
+            row[mark.column] = next;
+        }
+    }
+}

@@ -1,0 +1,34 @@
+//! Whether the messages of a run that finishes race, for programs of any length. Where they don't,
+//! no run of the program is stuck.
+//!
+//! A finder is a receive, a matched probe or a probe, and another send that fits it races for it
+//! where it may get there before the send that the finder found. It doesn't race where it is of the
+//! same rank as that send, where a call up to the finder has taken it, or where it is issued only
+//! once the finder has found.
+//!
+//! What is found where a call is issued is known as by vector clocks. The finders of any source are
+//! numbered, in a column for each rank that has some, and each call has a row with one count for
+//! each column: the finders before that count have found. A row is right where it tells no more
+//! than some number of rounds of one rule, from nothing (`level` in `specs/Clocks.antt`), so rows
+//! may be made in any order, and may tell too little.
+//!
+//! Equal blocking receives that follow one another are a block: which of them finds which of their
+//! messages doesn't matter, so no send that one of them has taken races for another. But there a
+//! send of the same rank may race. Where a race is told by blocks, each finder is taken once more
+//! as a block of its own.
+//!
+//! Rows take the calls times the columns, in time and in memory. Then the sends are looked at: of
+//! one envelope (the rank, the destination, the communicator and the tag) each finder is looked at
+//! for one send at most, or, in a block with others, for about as many as that block has taken.
+//! Ranks, and calls by their place in the program's list, count from 0.
+#![tactic(auto)]
+
+mod classes;
+mod columns;
+mod laws;
+mod race;
+mod rows;
+mod runs;
+
+pub use laws::runs_are_blocks;
+pub use race::{Race, first_race};

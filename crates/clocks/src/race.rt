@@ -1,0 +1,343 @@
+//! The first race of a run.
+
+ghost use Rattle.std.specs.Prelude.{◌≡◌, ◌≤◌, ◌<◌, ℕ, IfOk, IfNone, IfSome, Bool, IsTrue, Option, Some, slice_index};
+ghost use Rattle.semantics.specs.Machine.{opening, after_all, IsFinishedRun, partner_of};
+ghost use Rattle.races.specs.Races.{BuffersNoneByChoice, NamesSources};
+ghost use Rattle.races.specs.Tells.{Table};
+ghost use Rattle.semantics.specs.Headline.{NoStuckRun};
+ghost use Rattle.clocks.specs.Clocks.{AreRows, IsRow, IsNoRace, IsChecked, HasNoRaceShown, IsTaken, IsSingle, IsSurePartner, block_of, with_partners};
+ghost use Rattle.clocks.specs.Rows.{AreRuns};
+ghost use Rattle.callorder.specs.Programs.{are_of_one_rank};
+
+use crate::classes::{Classes, end_open};
+use crate::columns::Columns;
+use crate::rows::rows_of;
+use crate::runs::{is_single, name, names_of, or_none};
+use callorder::LongProgram;
+use leastrun::names_sources;
+use semantics::{State, Step};
+use std::alloc::{AllocError, Global};
+
+/// A send that may get to a finder before that finder's own. Calls are named by their place in the
+/// program's list, from 0.
+#[derive(Clone, Copy, Debug, PartialEq, Eq)]
+pub struct Race {
+    /// The send.
+    pub send: usize,
+    /// The receive, matched probe or probe.
+    pub finder: usize,
+}
+
+/// The row's count for the column, and 0 where it has none.
+fn count_of(row: &[usize], column: usize) -> usize
+    ensures { result ≡ slice_index row.now column }
+{
+    row.get(column).copied().unwrap_or(0)
+}
+
+/// Whether the row tells that the finder has found.
+fn reaches(columns: &Columns, row: &[usize], finder: usize) -> bool
+    ensures { IsTrue result → (known : ℕ → Bool) → IsRow columns.now known row.now → IsTrue (known finder) }
+{
+    let Some(mark) = columns.mark(finder) else {
+        return false;
+    };
+    let Some(found) = columns.listed(mark.number) else {
+        return false;
+    };
+    if found != finder {
+        return false;
+    }
+    if mark.number < columns.start(mark.column) {
+        return false;
+    }
+    if count_of(row, mark.column) <= mark.number {
+        return false;
+    }
+    true
+}
+
+/// Whether the finder is known to have found wherever the call is issued.
+fn is_known(columns: &Columns, rows: &[Vec<usize>], call: usize, finder: usize) -> bool
+    ensures { IsTrue result → (knows : Table) → AreRows columns.now knows rows.now → IsTrue (knows call finder) }
+{
+    match rows.get(call) {
+        None => false,
+        Some(row) => reaches(columns, row.as_slice(), finder),
+    }
+}
+
+/// Whether the send is matched with a call up to the finder, or within its block.
+fn is_taken(state: &State, names: &[usize], send: usize, finder: usize) -> bool
+    ensures { IsTrue result → IsTaken (block_of names.now) state.now send finder }
+{
+    match state.partner(send) {
+        None => false,
+        Some(taker) => {
+            if taker <= finder {
+                return true;
+            }
+            name(names, taker) == name(names, finder)
+        }
+    }
+}
+
+/// Whether the other send is of the rank of the finder's own, and the finder is a block of its own.
+fn is_of_own_rank(
+    program: &LongProgram,
+    names: &[usize],
+    finder: usize,
+    own: usize,
+    other: usize,
+) -> bool
+    ensures { IsTrue result → IsTrue (are_of_one_rank program.now own other) × IsSingle (block_of names.now) finder }
+{
+    program.are_of_one_rank(own, other) && is_single(names, finder)
+}
+
+/// Whether it is shown that the other send doesn't race for the finder, which found its own.
+fn is_no_race(
+    program: &LongProgram,
+    state: &State,
+    columns: &Columns,
+    rows: &[Vec<usize>],
+    names: &[usize],
+    finder: usize,
+    own: usize,
+    other: usize,
+) -> bool
+    requires { AreRuns program.now (block_of names.now) }
+    ensures { IsTrue result → (knows : Table) → AreRows columns.now knows rows.now → IsNoRace program.now (block_of names.now) state.now knows finder own other }
+{
+    if !program.are_fit(other, finder) {
+        return true;
+    }
+    if is_of_own_rank(program, names, finder, own, other) {
+        return true;
+    }
+    if is_taken(state, names, other, finder) {
+        return true;
+    }
+    is_known(columns, rows, other, finder)
+}
+
+/// As `is_no_race`, of a finder that may have found nothing.
+fn is_no_race_if_found(
+    program: &LongProgram,
+    state: &State,
+    columns: &Columns,
+    rows: &[Vec<usize>],
+    names: &[usize],
+    finder: usize,
+    other: usize,
+) -> bool
+    requires { AreRuns program.now (block_of names.now) }
+    ensures { IsTrue result → (knows : Table) → AreRows columns.now knows rows.now → (own : ℕ) → partner_of state.now finder ≡ Some own → IsNoRace program.now (block_of names.now) state.now knows finder own other }
+{
+    match state.partner(finder) {
+        None => true,
+        Some(own) => is_no_race(program, state, columns, rows, names, finder, own, other),
+    }
+}
+
+/// The first finder from one place up to another for which the send races.
+fn race_between(
+    program: &LongProgram,
+    state: &State,
+    columns: &Columns,
+    rows: &[Vec<usize>],
+    names: &[usize],
+    other: usize,
+    first: usize,
+    end: usize,
+) -> Option<usize>
+    requires { AreRuns program.now (block_of names.now) }
+    ensures { IfNone result ((knows : Table) → AreRows columns.now knows rows.now → (finder own : ℕ) → first ≤ finder → finder < end → partner_of state.now finder ≡ Some own → IsNoRace program.now (block_of names.now) state.now knows finder own other) }
+{
+    for finder in first..end {
+        if !is_no_race_if_found(program, state, columns, rows, names, finder, other) {
+            return Some(finder);
+        }
+    }
+    None
+}
+
+/// The larger of two.
+fn larger(one: usize, other: usize) -> usize
+    ensures { (n : ℕ) → one ≤ n → other ≤ n → result ≤ n }
+{
+    if one < other { other } else { one }
+}
+
+/// The smaller of two.
+fn smaller(one: usize, other: usize) -> usize
+    ensures { (n : ℕ) → n < one → n < other → n < result }
+{
+    if one < other { one } else { other }
+}
+
+/// The first finder for which the send races, among those that it is to be looked at for.
+fn race_of_send(
+    program: &LongProgram,
+    state: &State,
+    columns: &Columns,
+    rows: &[Vec<usize>],
+    names: &[usize],
+    classes: &Classes,
+    other: usize,
+) -> Option<usize>
+    requires { AreRuns program.now (block_of names.now) }
+    ensures { IfNone result ((knows : Table) → AreRows columns.now knows rows.now → IsChecked program.now (block_of names.now) state.now knows other) }
+{
+    let first = classes.first_open(program, state, names, other);
+    let start = classes.rank_start(program, other);
+    let end = end_open(program, state, other);
+    let last = classes.rank_end(program, other);
+    let low = larger(first, start);
+    let high = smaller(end, last);
+    race_between(program, state, columns, rows, names, other, low, high)
+}
+
+/// The first send that races, with the finder.
+fn race_in(
+    program: &LongProgram,
+    state: &State,
+    columns: &Columns,
+    rows: &[Vec<usize>],
+    names: &[usize],
+    classes: &Classes,
+) -> Option<Race>
+    requires { AreRuns program.now (block_of names.now) }
+    ensures { IfNone result ((knows : Table) → AreRows columns.now knows rows.now → (other : ℕ) → IsChecked program.now (block_of names.now) state.now knows other) }
+{
+    for send in 0..program.calls().len() {
+        if let Some(finder) = race_of_send(program, state, columns, rows, names, classes, send) {
+            return Some(Race { send, finder });
+        }
+    }
+    None
+}
+
+/// The state after the run. The only error is want of memory.
+fn last_state(alloc: Global, program: &LongProgram, run: &[Step]) -> Result<State, AllocError>
+    requires { IsFinishedRun program.now run.now }
+    ensures { IfOk result (λ state. state ≡ after_all (opening program.now) run.now) }
+{
+    let mut state = State::start(alloc, program)?;
+    for step in run {
+        state.apply(program, *step);
+    }
+    Ok(state)
+}
+
+/// The partner of the call, where neither of the two is of a block with others.
+fn sure_partner(state: &State, names: &[usize], call: usize) -> Option<usize>
+    ensures { IfSome result (λ partner. IsSurePartner (block_of names.now) state.now call partner) }
+{
+    match state.partner(call) {
+        None => None,
+        Some(partner) => {
+            if !is_single(names, call) {
+                return None;
+            }
+            if !is_single(names, partner) {
+                return None;
+            }
+            Some(partner)
+        }
+    }
+}
+
+/// For each call its partner, where neither of the two is of a block with others. The only error is
+/// want of memory.
+fn partners_of(
+    alloc: Global,
+    program: &LongProgram,
+    state: &State,
+    names: &[usize],
+) -> Result<Vec<Option<usize>>, AllocError>
+    ensures { IfOk result (λ partners. (c x : ℕ) → partner_of (with_partners partners.items) c ≡ Some x → IsSurePartner (block_of names.now) state.now c x) }
+{
+    let mut partners = Vec::new(alloc);
+    for call in 0..program.calls().len() {
+        partners.push(sure_partner(state, names, call))?;
+    }
+    Ok(partners)
+}
+
+/// The first race with equal receives as blocks; where there is one, that with each finder as a
+/// block of its own. The only error is want of memory.
+fn race_of(
+    alloc: Global,
+    program: &LongProgram,
+    state: &State,
+    run: &[Step],
+) -> Result<Option<Race>, AllocError>
+    ensures { IfOk result (λ found. IfNone found (HasNoRaceShown program.now state.now)) }
+{
+    let names = names_of(alloc, program)?;
+    match race_by(alloc, program, state, names.as_slice(), run) {
+        Err(error) => Err(error),
+        Ok(None) => Ok(None),
+        Ok(Some(_)) => race_alone(alloc, program, state, run),
+    }
+}
+
+/// As `race_by`, with each finder as a block of its own. The only error is want of memory.
+fn race_alone(
+    alloc: Global,
+    program: &LongProgram,
+    state: &State,
+    run: &[Step],
+) -> Result<Option<Race>, AllocError>
+    ensures { IfOk result (λ found. IfNone found (HasNoRaceShown program.now state.now)) }
+{
+    let names = or_none(alloc, program, Vec::new(alloc));
+    race_by(alloc, program, state, names.as_slice(), run)
+}
+
+/// The first race, with these names of blocks. The only error is want of memory.
+fn race_by(
+    alloc: Global,
+    program: &LongProgram,
+    state: &State,
+    names: &[usize],
+    run: &[Step],
+) -> Result<Option<Race>, AllocError>
+    requires { AreRuns program.now (block_of names.now) }
+    ensures { IfOk result (λ found. IfNone found (HasNoRaceShown program.now state.now)) }
+{
+    let _calls = program.calls();
+    let partners = partners_of(alloc, program, state, names)?;
+    let columns = Columns::new(alloc, program)?;
+    let rows = rows_of(alloc, program, &columns, partners.as_slice(), run)?;
+    let classes = Classes::new(alloc, program)?;
+    Ok(race_in(program, state, &columns, rows.as_slice(), names, &classes))
+}
+
+/// A send that may get to a receive, matched probe or probe before the send that it found in the
+/// run, as far as the run tells, and `None` where there is no such send. The run is one that
+/// finishes, and in which a standard send is issued as buffered only where the policy has each one
+/// buffered, as in what `least_buffered_run` makes.
+///
+/// Where there is none, no run of the program is stuck. There is none where each receive, matched
+/// probe and probe names its source. A race that is told proves nothing: it may be that no run is
+/// stuck even so. Calls, in the steps and in the race, count from 0. The only error is want of
+/// memory.
+pub fn first_race(
+    alloc: Global,
+    program: &LongProgram,
+    run: &[Step],
+) -> Result<Option<Race>, AllocError>
+    requires finished { IsFinishedRun program.now run.now }
+    requires choice { BuffersNoneByChoice program.now run.now }
+    ensures none { result ≡ Ok None → NoStuckRun program.now }
+    ensures named { NamesSources program.now → result ≡ Ok None }
+{
+    let _calls = program.calls();
+    if names_sources(program) {
+        return Ok(None);
+    }
+    let state = last_state(alloc, program, run)?;
+    race_of(alloc, program, &state, run)
+}
