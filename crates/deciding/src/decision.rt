@@ -1,10 +1,13 @@
 //! What a run decides.
 
 ghost use Rattle.std.specs.Prelude.{◌≡◌, false, IfNone, IfOk, IfSome, Some};
-ghost use Rattle.races.specs.Races.{NamesSources};
+ghost use Rattle.races.specs.Races.{BuffersNoneByChoice, NamesSources};
+ghost use Rattle.semantics.specs.Headline.{NoStuckRun};
+ghost use Rattle.semantics.specs.Machine.{IsFinishedRun};
 ghost use Rattle.deciding.specs.Decisions.{IsDecision, IsFreeFinder, takes_any_source, takes_any_source_call};
 
 use callorder::{Call, LongProgram};
+use clocks::first_race;
 use leastrun::least_buffered_run;
 use semantics::{State, Step};
 use std::alloc::{AllocError, Global};
@@ -76,7 +79,7 @@ fn free_finder(program: &LongProgram, place: usize) -> Option<Caller>
 }
 
 /// The first call that takes any source, and what it found.
-fn first_race(program: &LongProgram, state: &State) -> Option<Race>
+fn first_free(program: &LongProgram, state: &State) -> Option<Race>
     ensures none { IfNone result (NamesSources program.now) }
     ensures some { IfSome result (λ race. IsFreeFinder program.now race.finder) }
 {
@@ -89,10 +92,48 @@ fn first_race(program: &LongProgram, state: &State) -> Option<Race>
     None
 }
 
+/// The most counts that are made of what is known where: one for each call and each rank that takes any source.
+const MOST_COUNTS: usize = 134_217_728;
+
+/// Whether there is room for all counts.
+fn has_room(program: &LongProgram) -> bool {
+    let calls = program.calls();
+    let free = calls.iter().filter(|call| takes_any_source(*call)).count();
+    free.min(program.ranks() as usize) <= MOST_COUNTS / calls.len().max(1)
+}
+
+/// A call for which another message than its own may come first, as far as the run tells.
+fn raced(alloc: Global, program: &LongProgram, steps: &[Step]) -> Result<Option<usize>, AllocError>
+    requires finished { IsFinishedRun program.now steps.now }
+    requires choice { BuffersNoneByChoice program.now steps.now }
+    ensures { IfOk result (λ finder. IfNone finder (NoStuckRun program.now)) }
+{
+    match first_race(alloc, program, steps) {
+        Ok(None) => Ok(None),
+        Ok(Some(race)) => Ok(Some(race.finder)),
+        Err(AllocError) => Err(AllocError),
+    }
+}
+
+/// The race for this call, where it takes any source, else the one that is known.
+fn race_for(program: &LongProgram, state: &State, finder: usize, known: Race) -> Race
+    requires { IsFreeFinder program.now known.finder }
+    ensures { IsFreeFinder program.now result.finder }
+{
+    match free_finder(program, finder) {
+        None => known,
+        Some(free) => Race {
+            finder: free,
+            send: found_by(program, state, finder),
+        },
+    }
+}
+
 /// Decides by one run whether some run of the program gets stuck. The only error is want of memory.
 ///
 /// It takes time near linear in the calls, but for calls that wait at the same time and aren't told apart by their destination, their
-/// communicator, and by their source and tag where each call names them.
+/// communicator, and by their source and tag where each call names them. Where calls take any source, what is known at each call of those of
+/// each rank is counted, up to 134,217,728 counts: beyond these a race is told.
 pub fn decide_program(alloc: Global, program: &LongProgram) -> Result<Decision, AllocError>
     ensures { IfOk result (IsDecision program.now) }
 {
@@ -101,8 +142,14 @@ pub fn decide_program(alloc: Global, program: &LongProgram) -> Result<Decision, 
         return Ok(Decision::Deadlock(steps));
     }
     let _calls = program.calls();
-    match first_race(program, &state) {
+    let Some(first) = first_free(program, &state) else {
+        return Ok(Decision::NoDeadlock);
+    };
+    if !has_room(program) {
+        return Ok(Decision::Race(first));
+    }
+    match raced(alloc, program, &steps)? {
         None => Ok(Decision::NoDeadlock),
-        Some(race) => Ok(Decision::Race(race)),
+        Some(finder) => Ok(Decision::Race(race_for(program, &state, finder, first))),
     }
 }

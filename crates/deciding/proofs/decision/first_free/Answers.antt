@@ -1,6 +1,6 @@
 use Rattle.std.proofs.Common.{sym, ap, length, ◌∙◌, arith}
 use Rattle.deciding.proofs.Sources.{none_more, sources_named}
-use Rattle.deciding.proofs.decision.first_race.Goals as goal
+use Rattle.deciding.proofs.decision.first_free.Goals as goal
 
 pub loop-place-preserved : goal.loop-place-preserved
 loop-place-preserved c =

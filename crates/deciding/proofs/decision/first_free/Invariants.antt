@@ -1,5 +1,5 @@
 use Rattle.deciding.proofs.Sources.{NoneBelow}
-use Rattle.deciding.proofs.decision.first_race.Given as goal
+use Rattle.deciding.proofs.decision.first_free.Given as goal
 
 abbrev pub invariant-loop-place : goal.invariant-loop-place
 invariant-loop-place l = NoneBelow l.program l.place
