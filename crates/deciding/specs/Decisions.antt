@@ -33,8 +33,8 @@ pub record IsFreeFinder (p : MpiProgram) (finder : Caller) : Type 0 where
   pub free : IsTrue (takes_any_source p finder.place)
   pub own : IsTrue (is_of_rank (call_at p finder.place) finder.rank)
 
--- What is decided of a program: no run of it gets stuck; the steps are a run of it that does; or neither, for this call takes any
--- source.
+-- What is decided of a program: no run of it gets stuck; the steps are a run of it that does; or neither, and this call takes
+-- any source.
 abbrev pub IsDecision : MpiProgram → Decision → Type 0
 IsDecision p decisions.NoDeadlock = NoStuckRun p
 IsDecision p (decisions.Deadlock steps) = IsStuckRun p steps.items

@@ -56,7 +56,7 @@ fn program_of(alloc: Global, text: &[u8]) -> Result<LongProgram, Undecided>
 /// memory's and that numbers have 31 bits.
 ///
 /// The answer is proved: there is no evidence to check. It is never a race where each receive, matched probe and probe names its
-/// source. A text that is no program's is refused for the reason for which `prove` refuses it, the limits aside.
+/// source; where one takes any source, it is told only where another message may come first, as far as the run tells. A text that is no program's is refused for the reason for which `prove` refuses it, the limits aside.
 pub fn decide(alloc: Global, text: &[u8]) -> Result<Decision, Undecided>
     ensures { IsDecided text.now result }
 {
