@@ -63,6 +63,16 @@ impl LongSource {
     {
         &self.ranks[rank]
     }
+
+    /// The call lines of each rank, from rank 0 on, of a text that nothing else needs.
+    pub fn into_ranks(self) -> Vec<Vec<CallLine>>
+        ensures lines { views result.items ≡ self.ranks }
+
+        // A caller knows the limits from here.
+        ensures readable { IsReadableWithin long self }
+    {
+        self.ranks
+    }
 }
 
 /// What a program's text says. `read` alone makes one, so each keeps the limits: 1 to 64 ranks,

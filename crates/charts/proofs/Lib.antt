@@ -1,4 +1,3 @@
 mod Columns
-mod Decimals
 mod Listed
 mod Replayed

@@ -2,4 +2,3 @@ pub mod Written
 pub mod Decided
 pub mod Sources
 pub mod LawsOfDecisions
-pub mod Decimals

@@ -20,25 +20,6 @@ use Rattle.tables.specs.Meanings.{meaning_of}
 use Rattle.prooflog.specs.Refutations.{literal_word}
 use Rattle.exports.specs.Dimacs.{comment_line, comment_lines, dimacs_clause}
 
--- ---- numbers
-
-numeral_above : (m : ℕ) → 0 < m → map (λ d. 48 + d) (digits_of 10 m) ≡ numeral m
-unfolding numeral
-numeral_above zero h = absurd (omega arith)
-numeral_above (suc m) h = refl
-
--- a number of more than one digit
-numeral_step : (n : ℕ) → 10 ≤ n → numeral n ≡ numeral (n / 10) ++ (48 + n % 10) ∷ []
-numeral_step n more =
-    sym (numeral_above n (omega arith)) ∙ ap (map (λ d. 48 + d)) (digits_of_step 10 n (omega arith) (omega arith)) ∙ map_push (λ d. 48 + d) (digits_of 10 (n / 10)) (n % 10)
-    ∙ ap (λ (ds : List ℕ). ds ++ (48 + n % 10) ∷ []) (numeral_above (n / 10) (omega arith))
-
--- std's digits, of numbers of more than 64 bits too
-pub decimal_is : (n : ℕ) → n < 2 ^ 128 → decimal n ≡ numeral n
-decimal_is n small =
-    decimal_by_steps_wide (λ m ds. ds ≡ numeral m) (λ m digit. sym (decimal_digit m digit) ∙ decimal-numeral m (omega arith))
-    (λ m ds more same. ap (λ (ds : List ℕ). ds ++ (48 + m % 10) ∷ []) same ∙ sym (numeral_step m more)) n (omega (arith, small))
-
 -- ---- words
 
 -- a space and a word are a spaced word

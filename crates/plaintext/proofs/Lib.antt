@@ -1,4 +1,5 @@
 pub mod Numerals
+pub mod Decimals
 pub mod Cuts
 pub mod Ascii
 pub mod Texts

@@ -1,5 +1,5 @@
 use Rattle.std.proofs.Common.{◌^◌, ◌<◌, ◌++◌, List, ℕ, arith, ap, ◌∙◌}
-use Rattle.charts.proofs.Decimals.{decimal_is}
+use Rattle.plaintext.proofs.Decimals.{decimal_is}
 use Rattle.charts.proofs.writing.put_number.Goals as goal
 
 pub returns : goal.returns

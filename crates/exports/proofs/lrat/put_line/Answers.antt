@@ -1,7 +1,7 @@
 use Rattle.std.proofs.Common.{◌++◌, ◌^◌, ◌<◌, ◌∙◌, List, ℕ, map, ap, arith}
 use Rattle.plaintext.specs.Plain.{numeral, spaced}
 use Rattle.prooflog.specs.Refutations.{literal_word}
-use Rattle.exports.proofs.Texts.{decimal_is}
+use Rattle.plaintext.proofs.Decimals.{decimal_is}
 use Rattle.exports.proofs.LratTexts.{line_text}
 use Rattle.exports.proofs.lrat.put_line.Goals as goal
 

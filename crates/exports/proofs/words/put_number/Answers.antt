@@ -1,6 +1,7 @@
 use Rattle.std.proofs.Common.{◌++◌, ◌^◌, ◌<◌, ◌∙◌, arith}
 use Rattle.plaintext.specs.Plain.{numeral}
-use Rattle.exports.proofs.Texts.{decimal_is, one_word}
+use Rattle.exports.proofs.Texts.{one_word}
+use Rattle.plaintext.proofs.Decimals.{decimal_is}
 use Rattle.exports.proofs.words.put_number.Goals as goal
 
 pub returns : goal.returns
