@@ -25,7 +25,7 @@ WORDS = """send ssend bsend isend issend ibsend recv irecv probe mprobe mrecv im
     buffered""".split()
 NUMBERS = '0 1 2 3 4 5 63 64 65 255 256 32767 32768 2147483647 2147483648 99999999999999999999 -1 -0 00 01'.split()
 KINDS_OF_CALLS = [kinds.split() for kinds in ('send ssend bsend', 'isend issend ibsend irecv', 'recv probe send', 'mprobe irecv')]
-STATUSES = {0: 'no deadlock', 1: 'deadlock', 2: 'unknown (budget|full|left)', 3: 'refused (?!memory$).*'}
+STATUSES = {0: 'no deadlock', 1: 'deadlock', 2: 'unknown (budget|full|left|race)', 3: 'refused (?!memory$).*'}
 BUFFERED = 'ranks 1\npolicy any\nrank 0\nbsend 0 1\n'
 
 
@@ -228,6 +228,7 @@ class Fuzzer:
         source = content(self.room, 'program')
         put(self.room, 'evidence', 'none')
         answer = self.call(['prove', 'program', '--out', 'evidence', '--budget', '3000', '--workers', self.chance.choice('14')])
+        self.try_decision(source, answer[1])
         try:
             program = judge.read_program(source)
         except judge.Refused as refused:
@@ -243,6 +244,25 @@ class Fuzzer:
             self.cases['all runs'] += stuck is not None
             if stuck is not None and answer[1] != ('deadlock' if stuck else 'no deadlock'):
                 self.find(f'answered: {answer[1]}\nall runs: {"some" if stuck else "none"} ends stuck')
+        return None
+
+    def try_decision(self, source, proved):
+        """decide tells the judge's fault, or what prove does; of a deadlock check accepts the schedule. A race names a call."""
+        put(self.room, 'schedule', 'none')
+        answer = self.call(['decide', 'program', '--out', 'schedule'])
+        try:
+            judge.read_program(source, judge.LONG)
+        except judge.Refused as refused:
+            return self.expect(answer, f'refused {refused}')
+        self.expect(answer, 'unknown race' if answer[0] == 2 else 'deadlock' if answer[0] == 1 else 'no deadlock')
+        if answer[0] == 2 and answer[2].count(b' of rank ') < 2:
+            self.find('the race names no two calls')
+        if proved in ('no deadlock', 'deadlock') and answer[0] != 2 and answer[1] != proved:
+            self.find(f'prove answered: {proved}')
+        if proved == 'deadlock' and answer[1] == 'deadlock' and self.call(['check', 'program', 'schedule'])[0] != 1:
+            self.find('check refuses the schedule of decide')
+        if answer[1] != 'deadlock' and content(self.room, 'schedule') != b'none':
+            self.find('a schedule without a deadlock')
         return None
 
     def try_evidence(self, text, evidences):

@@ -31,7 +31,17 @@ SHAPES = [(re.compile(pattern), fields) for pattern, fields in [
     (f'(waitall)((?: {NAME})+)', 'W'),
     (f'(sendrecv) {NUMBER} {NUMBER} {NUMBER_OR_STAR} {NUMBER_OR_STAR}{COMMUNICATOR}', 'DTSUC'),
 ]]
-RANGES = {'D': (0, 63), 'S': (0, 63), 'T': (0, 32767), 'U': (0, 32767), 'C': (1, 255)}
+Limits = namedtuple('Limits', 'bytes ranks ranges calls')
+
+
+def ranges(peer, tag, communicator):
+    """The least and the greatest number of each field."""
+    return {'D': (0, peer), 'S': (0, peer), 'T': (0, tag), 'U': (0, tag), 'C': (1, communicator)}
+
+
+# Those of programs that have a formula, and those of `decide`, which has none but that of its numbers.
+SHORT = Limits(1_048_576, 64, ranges(63, 32767, 255), 1024)
+LONG = Limits(MOST ** 2, MOST, ranges(MOST, MOST, MOST), MOST ** 2)
 
 Call = namedtuple('Call', 'word kind rank place mode blocks peer tag communicator uses')
 Program = namedtuple('Program', 'policy ranks calls own partner')
@@ -57,9 +67,9 @@ def call_line(line):
     return None
 
 
-def read_program_lines(text):
+def read_program_lines(text, limits):
     """The policy, the number of ranks, and each call line with its rank and place."""
-    if len(text) > 1_048_576:
+    if len(text) > limits.bytes:
         raise Refused('text too large')
     ranks, policy, rank, found = None, None, -1, []
     lines = text.decode('latin-1').split('\n')
@@ -75,14 +85,14 @@ def read_program_lines(text):
         call = call_line(line) if rank >= 0 else None
         if ended and heading:
             ranks = int(heading[1])
-            if not 1 <= ranks <= 64:
+            if not 1 <= ranks <= limits.ranks:
                 raise Refused(f'line {number} range')
         elif ended and number == 2 and line in ('policy any', 'policy none', 'policy all'):
             policy = line[7:]
         elif ended and number > 2 and line == f'rank {rank + 1}' and rank + 1 < ranks:
             rank, place = rank + 1, 0
         elif ended and call:
-            if not all(is_within(value, *RANGES[letter]) for letter, value in call[1].items() if letter in RANGES):
+            if not all(is_within(value, *limits.ranges[letter]) for letter, value in call[1].items() if letter in limits.ranges):
                 raise Refused(f'line {number} range')
             place += 1
             found.append((rank, place, *call))
@@ -115,7 +125,7 @@ def expanded(rank, place, word, fields):
     return [call(word, 'send' if kind in SENDS else kind, tuple(uses), SENDS.get(kind), kind == word, peer, tag)]
 
 
-def call_faults(calls, ranks):
+def call_faults(calls, ranks, most):
     """Each fault of a call line: rank, place, its place in the table of refusals, and its words."""
     last, starts = {}, {}
     for place, call in enumerate(calls):
@@ -132,18 +142,18 @@ def call_faults(calls, ranks):
                 starts[key] = []
         if call.peer is not None and call.peer >= ranks:
             yield call.rank, call.place, 6, 'peer range'
-        if place == 1024:
+        if place == most:
             yield call.rank, call.place, 7, 'too many calls'
     for (_, letter, _), left in starts.items():
         for call in left:
             yield call.rank, call.place, 'QH'.index(letter) * 3 + 2, {'Q': 'request', 'H': 'handle'}[letter] + ' left'
 
 
-def read_program(text):
-    """The program of a text. A partner is the start that a wait ends, the probe of a matched receive, or the other way round."""
-    policy, ranks, lines = read_program_lines(text)
+def read_program(text, limits=SHORT):
+    """The program of a text within the limits. A partner is the start that a wait ends, the probe of a matched receive, or the other way round."""
+    policy, ranks, lines = read_program_lines(text, limits)
     calls = [call for line in lines for call in expanded(*line)]
-    faults = sorted(call_faults(calls, ranks))
+    faults = sorted(call_faults(calls, ranks, limits.calls))
     if faults:
         raise Refused(f'rank {faults[0][0]} place {faults[0][1]} {faults[0][3]}')
     partner, started = {}, {}

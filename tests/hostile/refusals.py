@@ -45,6 +45,7 @@ TEXTS = {
     'early.evidence': 'evidence 1\nschedule\nissue 0\nissue 0\n',
     'message.mpi': 'ranks 2\npolicy any\nrank 0\nsend 1 1\nrank 1\nrecv 0 1\n',
     'gather.mpi': 'ranks 3\npolicy any\nrank 0\nrecv * 1\nrecv * 1\nrank 1\nsend 0 1\nrank 2\nsend 0 1\n',
+    'exchange.mpi': 'ranks 2\npolicy any\nrank 0\nsend 1 1\nrecv 1 1\nrank 1\nsend 0 1\nrecv 0 1\n',
     'order.mpi': 'ranks 3\npolicy none\nrank 0\nsend 1 1\nsend 2 1\nrank 1\nsend 2 1\nrecv 0 1\nrank 2\nrecv * 1\nrecv 0 1\n',
     'barrier.mpi': 'ranks 1\npolicy any\nrank 0\nbarrier\n',
 }
@@ -119,6 +120,13 @@ def rows(trims):
         yield Row(1, ['shrink', 'buffering-lets-it-hang.mpi', *more])
         yield Row(2, ['shrink', 'buffered.mpi', *more])
         yield Row(3, ['shrink', 'barrier.mpi', *more])
+    for more in (out, ['--json', *out]):
+        yield Row(0, ['decide', 'gather.mpi', *more])
+        yield Row(1, ['decide', 'exchange.mpi', *more])
+        yield Row(2, ['decide', 'buffering-lets-it-hang.mpi', *more])
+        yield Row(3, ['decide', 'barrier.mpi', *more])
+    yield Row(1, ['decide', 'exchange.mpi'])
+    yield Row(5, ['decide', 'missing.mpi', *out])
     yield Row(0, ['--help'])
     yield Row(6, ['prove'])
 
@@ -228,7 +236,7 @@ class Trial:
 
 def is_searched(row):
     """Whether the command searches for an answer."""
-    return row.words[0] == 'prove' or (row.words[0] == 'explain' and not any('.evidence' in word for word in row.words))
+    return row.words[0] in ('prove', 'decide') or (row.words[0] == 'explain' and not any('.evidence' in word for word in row.words))
 
 
 def told_of(row, got):

@@ -6,6 +6,7 @@
 
 mod budgets;
 mod chance;
+mod decided;
 mod drawing;
 mod exploring;
 mod line;
@@ -15,6 +16,7 @@ mod tally;
 
 use budgets::judge_all;
 use checker::program_of;
+use decided::{Counts, compare_decided};
 use drawing::{Family, draw};
 use exploring::{Fate, explore};
 use prover::{Answer, Gate, Options, Searches, Verdict, prove, verdict};
@@ -33,6 +35,13 @@ const PROBING_PROGRAMS: u64 = 100;
 
 /// How many programs with a hub are drawn.
 const HUB_PROGRAMS: u64 = 300;
+
+/// How many programs of each family are drawn to be decided by one run.
+const DECIDED_PROGRAMS: u64 = 5_000;
+
+const DECIDED_PROBING_PROGRAMS: u64 = 2_500;
+
+const DECIDED_HUB_PROGRAMS: u64 = 2_500;
 
 /// Lets the worker go on at once.
 struct Open;
@@ -61,7 +70,49 @@ fn compare_all(rt: &HostRuntime, threads: &(impl Threads + Wait + Sync)) -> io::
     println!(rt; "with a hub:")?;
     let hub_agree = compare_drawn(rt, threads, HUB_PROGRAMS, Family::Hub)?;
     let budgets_agree = compare_budgets(rt, threads)?;
-    Ok(plain_agree && probing_agree && hub_agree && budgets_agree)
+    let decided_agree = compare_runs(rt, threads)?;
+    Ok(plain_agree && probing_agree && hub_agree && budgets_agree && decided_agree)
+}
+
+/// Compares what one run decides with all runs, for programs of each family, and prints what was counted. Answers whether nothing is
+/// wrong.
+fn compare_runs(rt: &HostRuntime, threads: &(impl Threads + Wait + Sync)) -> io::Result<bool> {
+    println!(rt; "decided by one run:")?;
+    let plain_right = decide_drawn(rt, threads, DECIDED_PROGRAMS, Family::Plain)?;
+    let probing_right = decide_drawn(rt, threads, DECIDED_PROBING_PROGRAMS, Family::Probing)?;
+    let hub_right = decide_drawn(rt, threads, DECIDED_HUB_PROGRAMS, Family::Hub)?;
+    Ok(plain_right && probing_right && hub_right)
+}
+
+/// Compares what one run decides with all runs, for so many programs of a family, and prints each program of which something wrong is
+/// told, and what was counted. Answers whether there is none.
+fn decide_drawn(
+    rt: &HostRuntime,
+    threads: &(impl Threads + Wait + Sync),
+    programs: u64,
+    family: Family,
+) -> io::Result<bool> {
+    let mut counts = Counts::new();
+    for seed in 0..programs {
+        let text = draw(rt.alloc(), seed, family)?;
+        if !compare_decided(threads, rt.alloc(), text.as_bytes(), &mut counts)? {
+            let text = text.replace(rt.alloc(), '\n', "/")?;
+            println!(rt; "wrongly decided: {text}")?;
+        }
+    }
+    print_decided(rt, &counts)?;
+    Ok(counts.wrong == 0)
+}
+
+/// Prints how many programs are decided by one run, and of how many it tells a race.
+fn print_decided(rt: &HostRuntime, counts: &Counts) -> io::Result<()> {
+    let (never, stuck) = (counts.no_deadlock, counts.deadlock);
+    let (free, hanging) = (counts.free_races, counts.stuck_races);
+    println!(rt;
+        "{never} have no deadlock, {stuck} have one; of races {free} have none, {hanging} have one"
+    )?;
+    let (wrong, too_large) = (counts.wrong, counts.too_large);
+    println!(rt; "{wrong} are wrongly decided, {too_large} too large and not counted")
 }
 
 /// Judges answers of searches that budgets cut off, and prints what was counted. Answers whether all are right.

@@ -71,7 +71,7 @@ fn judge_file(
             continue;
         }
         row.push_str(line)?;
-        match fault(threads, rt.alloc(), &row)? {
+        match fault(rt, threads, &row)? {
             Some(fault) => {
                 println!(rt; "{path} line {}: {fault}", index.saturating_add(1))?;
                 tally.missed = tally.missed.saturating_add(1);
@@ -85,14 +85,19 @@ fn judge_file(
 
 /// Why a row doesn't hold, or none.
 fn fault(
-    rt: &(impl Threads + Wait + Clock + Sync),
-    alloc: Global,
+    rt: &HostRuntime,
+    threads: &(impl Threads + Wait + Clock + Sync),
     text: &str,
-) -> Result<Option<String>, AllocError> {
+) -> io::Result<Option<String>> {
+    let alloc = rt.alloc();
     let Some(row) = Row::read(text) else {
         return Ok(Some(String::from_str(alloc, "the fourth column is no status")?));
     };
-    match row.first_miss(rt, alloc)? {
+    let program = match row.program_path() {
+        None => row.program_text(alloc)?,
+        Some(path) => fs::read_to_string(rt, path)?,
+    };
+    match row.first_miss(threads, alloc, &program)? {
         Some((words, ended)) => Ok(Some(shown(alloc, words, &ended)?)),
         None => Ok(None),
     }

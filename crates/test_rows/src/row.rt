@@ -12,7 +12,7 @@ pub struct Row<'a> {
     /// The words of each run, with ` ; ` between those of two. `FIRST then SECOND` are two runs, and the second gets what the first
     /// writes as its evidence. Where `terminal: ` stands before the words, standard error is a terminal.
     commands: &'a str,
-    /// The file `program`.
+    /// The file `program`. Where it is `@` and a path, it is the content of the file there.
     program: &'a str,
     /// The file `evidence`.
     evidence: &'a str,
@@ -50,18 +50,28 @@ impl<'a> Row<'a> {
         })
     }
 
-    /// What the first run left that leaves something else than the row says, with its words, or none.
+    /// The path of the file whose content the file `program` has, if the row names one.
+    pub fn program_path(&self) -> Option<&'a str> {
+        self.program.strip_prefix("@")
+    }
+
+    /// The text that the row has for the file `program`.
+    pub fn program_text(&self, alloc: Global) -> Result<String, AllocError> {
+        lines(alloc, &unfolded(alloc, self.program)?)
+    }
+
+    /// What the first run over this program left that leaves something else than the row says, with its words, or none.
     pub fn first_miss(
         &self,
         rt: &(impl Threads + Wait + Clock + Sync),
         alloc: Global,
+        program: &str,
     ) -> Result<Option<(&'a str, Ended)>, AllocError> {
-        let program = lines(alloc, &unfolded(alloc, self.program)?)?;
         let evidence = lines(alloc, &unfolded(alloc, self.evidence)?)?;
         for words in self.commands.split(" ; ") {
             let miss = match words.split_once(" then ") {
-                None => self.miss(rt, alloc, words, &program, &evidence)?,
-                Some((first, then)) => self.handed_miss(rt, alloc, first, then, &program)?,
+                None => self.miss(rt, alloc, words, program, &evidence)?,
+                Some((first, then)) => self.handed_miss(rt, alloc, first, then, program)?,
             };
             if miss.is_some() {
                 return Ok(miss);
