@@ -10,4 +10,4 @@ use Rattle.deciding.specs.Decisions.{IsDecision, Decides}
 pub decides : (bytes : List ℕ) (p : MpiProgram) (d : Decision) → IsTextOfWithin long bytes p → IsDecision p d → Decides bytes d
 decides bytes p decisions.NoDeadlock text is = record { p = p; text = text; never = is }
 decides bytes p (decisions.Deadlock steps) text is = record { p = p; text = text; stuck = is }
-decides bytes p (decisions.Race race) text is = record { p = p; text = text; free = is }
+decides bytes p (decisions.Race race) text is = record { p = p; text = text; calls = is }

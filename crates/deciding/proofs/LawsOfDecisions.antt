@@ -10,25 +10,25 @@ use Rattle.semantics.specs.declared.state.Step.{Step}
 use Rattle.semantics.specs.Headline.{NoStuckRun}
 use Rattle.semantics.specs.Machine.{IsStuckRun}
 use Rattle.races.specs.Races.{names_source, NamesSources}
-use Rattle.deciding.specs.Decisions.{takes_any_source_call, IsFreeFinder}
+use Rattle.deciding.specs.Decisions.{takes_any_source_call, IsRace}
 use Rattle.deciding.specs.Laws.{NamedSourcesAreDecided, ShortTextsAreDecided}
-use Rattle.deciding.specs.declared.decision.Caller.{Caller}
+use Rattle.deciding.specs.declared.decision.Race.{Race}
 
 not_both : (b : Bool) → b ≡ true → not b ≡ true → ⊥
 not_both true named free = cc
 not_both false named free = cc
 
-no_free : (p : MpiProgram) (finder : Caller) → NamesSources p → IsFreeFinder p finder → ⊥
-no_free p finder named is = go (call_at p finder.place) refl is.free
+no_free : (p : MpiProgram) (race : Race) → NamesSources p → IsRace p race → ⊥
+no_free p race named is = go (call_at p race.finder.place) refl is.free
   where
-    go : (found : Option Call) → call_at p finder.place ≡ found → takes_any_source_call found ≡ true → ⊥
+    go : (found : Option Call) → call_at p race.finder.place ≡ found → takes_any_source_call found ≡ true → ⊥
     go None there free = cc
-    go (Some call) there free = not_both (names_source (pattern_of call.kind)) (named finder.place call there) free
+    go (Some call) there free = not_both (names_source (pattern_of call.kind)) (named race.finder.place call there) free
 
 pub named_sources_are_decided : NamedSourcesAreDecided
 named_sources_are_decided program race p decided text named =
     let same : decided.p ≡ p = one_program_of_bytes_within long program decided.p p decided.text text in
-    no_free p race.finder named (subst (λ (q : MpiProgram). IsFreeFinder q race.finder) same decided.free)
+    no_free p race named (subst (λ (q : MpiProgram). IsRace q race) same decided.calls)
 
 -- the program of a text within the short limits is that within the long ones
 same_long : (program : List ℕ) (p q : MpiProgram) → IsTextOf program p → IsTextOfWithin long program q → q ≡ p

@@ -1,4 +1,4 @@
 pub mod Written
 pub mod Decided
-pub mod Sources
 pub mod LawsOfDecisions
+pub mod Racing

@@ -6,7 +6,7 @@ use Rattle.calltext.specs.Fault.{HasFaultWithin}
 use Rattle.calltext.specs.Grammar.{ProgramText, IsTextWithin}
 use Rattle.calltext.specs.Limits.{long}
 use Rattle.callorder.specs.Calls.{pattern_of}
-use Rattle.callorder.specs.Programs.{MpiProgram, call_at, is_of_rank}
+use Rattle.callorder.specs.Programs.{MpiProgram, are_fit, are_of_one_rank, call_at, is_of_rank}
 use Rattle.callorder.specs.Resolving.{IsFirstFaultWithin, IsTextOfWithin}
 use Rattle.callorder.specs.declared.calls.Call.{Call}
 use Rattle.callorder.specs.declared.fault.ResolveFault.{ResolveFault}
@@ -16,6 +16,7 @@ use Rattle.semantics.specs.Machine.{IsStuckRun}
 use Rattle.races.specs.Races.{names_source, NamesSources}
 use Rattle.deciding.specs.declared.decision.Caller.{Caller}
 use Rattle.deciding.specs.declared.decision.Decision.{Decision}
+use Rattle.deciding.specs.declared.decision.Race.{Race}
 use Rattle.deciding.specs.declared.decision.Decision.TheVariants as decisions
 use Rattle.deciding.specs.declared.texts.Undecided.{Undecided}
 use Rattle.deciding.specs.declared.texts.Undecided.TheVariants as undecided
@@ -28,29 +29,38 @@ takes_any_source_call (Some call) = not (names_source (pattern_of call.kind))
 abbrev pub takes_any_source : MpiProgram → ℕ → Bool
 takes_any_source p c = takes_any_source_call (call_at p c)
 
--- the call at this place takes any source, and is of this rank
-pub record IsFreeFinder (p : MpiProgram) (finder : Caller) : Type 0 where
-  pub free : IsTrue (takes_any_source p finder.place)
-  pub own : IsTrue (is_of_rank (call_at p finder.place) finder.rank)
+-- there is a call at the place, and it is of this rank
+abbrev pub IsCaller : MpiProgram → Caller → Type 0
+IsCaller p caller = IsTrue (is_of_rank (call_at p caller.place) caller.rank)
 
--- What is decided of a program: no run of it gets stuck; the steps are a run of it that does; or neither, and this call takes
--- any source.
+-- A call that takes any source, the send that it found, and a send of another rank that fits it too.
+pub record IsRace (p : MpiProgram) (race : Race) : Type 0 where
+  pub free : IsTrue (takes_any_source p race.finder.place)
+  pub finder : IsCaller p race.finder
+  pub found : IsCaller p race.found
+  pub other : IsCaller p race.other
+  pub found_fits : IsTrue (are_fit p race.found.place race.finder.place)
+  pub other_fits : IsTrue (are_fit p race.other.place race.finder.place)
+  pub apart : are_of_one_rank p race.found.place race.other.place ≡ false
+
+-- What is decided of a program: no run of it gets stuck; the steps are a run of it that does; or neither, and two messages may
+-- race for a call.
 abbrev pub IsDecision : MpiProgram → Decision → Type 0
 IsDecision p decisions.NoDeadlock = NoStuckRun p
 IsDecision p (decisions.Deadlock steps) = IsStuckRun p steps.items
-IsDecision p (decisions.Race race) = IsFreeFinder p race.finder
+IsDecision p (decisions.Race race) = IsRace p race
 
--- The bytes are the text of a program, within the long limits, one of whose calls takes any source.
-pub record HasFreeSource (program : List ℕ) (finder : Caller) : Type 0 where
+-- The bytes are the text of a program, within the long limits, that has these calls.
+pub record HasRace (program : List ℕ) (race : Race) : Type 0 where
   pub p : MpiProgram
   pub text : IsTextOfWithin long program p
-  pub free : IsFreeFinder p finder
+  pub calls : IsRace p race
 
 -- The same of the program that bytes are the text of, within the long limits.
 abbrev pub Decides : List ℕ → Decision → Type 0
 Decides program decisions.NoDeadlock = IsNeverStuckWithin long program
 Decides program (decisions.Deadlock steps) = IsStuckRunWithin long program steps.items
-Decides program (decisions.Race race) = HasFreeSource program race.finder
+Decides program (decisions.Race race) = HasRace program race
 
 -- want of memory is told alike, wherever it is met
 abbrev pub undecided_reading : ReadFault → Undecided

@@ -1,12 +1,12 @@
 //! What a run decides.
 
-ghost use Rattle.std.specs.Prelude.{◌≡◌, false, IfNone, IfOk, IfSome, Some};
-ghost use Rattle.races.specs.Races.{BuffersNoneByChoice, NamesSources};
-ghost use Rattle.semantics.specs.Headline.{NoStuckRun};
-ghost use Rattle.semantics.specs.Machine.{IsFinishedRun};
-ghost use Rattle.deciding.specs.Decisions.{IsDecision, IsFreeFinder, takes_any_source, takes_any_source_call};
+ghost use Rattle.std.specs.Prelude.{◌≡◌, ◌⊎◌, ℕ, IfNone, IfOk, IfSome, IsTrue, Some};
+ghost use Rattle.callorder.specs.Programs.{are_fit, call_at, takes};
+ghost use Rattle.clocks.specs.Clocks.{IsRival};
+ghost use Rattle.semantics.specs.Machine.{partner_of};
+ghost use Rattle.deciding.specs.Decisions.{IsCaller, IsDecision, IsRace};
 
-use callorder::{Call, LongProgram};
+use callorder::LongProgram;
 use clocks::first_race;
 use leastrun::least_buffered_run;
 use semantics::{State, Step};
@@ -25,7 +25,9 @@ pub struct Race {
     /// A receive, matched probe or probe of any source.
     pub finder: Caller,
     /// The send that it found in the run.
-    pub send: Option<Caller>,
+    pub found: Caller,
+    /// A send of another rank that it would find too, and that may come first, as far as the run tells.
+    pub other: Caller,
 }
 
 /// What one run tells of all runs of a program.
@@ -39,101 +41,49 @@ pub enum Decision {
     Race(Race),
 }
 
-/// The send that the call at a place found in the run that ended so.
-fn found_by(program: &LongProgram, state: &State, finder: usize) -> Option<Caller> {
-    match state.partner(finder) {
+/// The call at a place, where there is one.
+fn caller_at(program: &LongProgram, place: usize) -> Option<Caller>
+    ensures some { IfSome result (λ caller. IsCaller program.now caller × (caller.place ≡ place)) }
+    ensures none { IfNone result (call_at program.now place ≡ None) }
+{
+    match program.call(place) {
         None => None,
-        Some(place) => match program.call(place) {
-            None => None,
-            Some(call) => Some(Caller {
-                place,
-                rank: call.rank,
-            }),
-        },
+        Some(call) => Some(Caller {
+            place,
+            rank: call.rank,
+        }),
     }
 }
 
-/// Whether the call is a receive, matched probe or probe of any source.
-fn takes_any_source(call: &Call) -> bool
-    ensures { result ≡ takes_any_source_call (Some call.now) }
+/// The race, with the ranks of its calls and what its finder found in the run that ended so.
+fn named_race(program: &LongProgram, state: &State, race: clocks::Race) -> Race
+    requires rival { IsRival program.now state.now race }
+    requires fit { (c x : ℕ) → partner_of state.now c ≡ Some x → IsTrue (takes program.now c x) ⊎ IsTrue (are_fit program.now x c) }
+    ensures { IsRace program.now result }
 {
-    match call.kind.pattern() {
-        None => false,
-        Some(pattern) => pattern.source.is_none(),
-    }
-}
-
-/// The call at a place, where it takes any source.
-fn free_finder(program: &LongProgram, place: usize) -> Option<Caller>
-    ensures none { IfNone result (takes_any_source program.now place ≡ false) }
-    ensures some { IfSome result (IsFreeFinder program.now) }
-{
-    let Some(call) = program.call(place) else {
-        return None;
+    let Some(finder) = caller_at(program, race.finder) else {
+        unreachable!()
     };
-    if !takes_any_source(&call) {
-        return None;
-    }
-    let rank = call.rank;
-    Some(Caller { place, rank })
-}
-
-/// The first call that takes any source, and what it found.
-fn first_free(program: &LongProgram, state: &State) -> Option<Race>
-    ensures none { IfNone result (NamesSources program.now) }
-    ensures some { IfSome result (λ race. IsFreeFinder program.now race.finder) }
-{
-    for place in 0..program.calls().len() {
-        if let Some(finder) = free_finder(program, place) {
-            let send = found_by(program, state, place);
-            return Some(Race { finder, send });
-        }
-    }
-    None
-}
-
-/// The most counts that are made of what is known where: one for each call and each rank that takes any source.
-const MOST_COUNTS: usize = 134_217_728;
-
-/// Whether there is room for all counts.
-fn has_room(program: &LongProgram) -> bool {
-    let calls = program.calls();
-    let free = calls.iter().filter(|call| takes_any_source(*call)).count();
-    free.min(program.ranks() as usize) <= MOST_COUNTS / calls.len().max(1)
-}
-
-/// A call for which another message than its own may come first, as far as the run tells.
-fn raced(alloc: Global, program: &LongProgram, steps: &[Step]) -> Result<Option<usize>, AllocError>
-    requires finished { IsFinishedRun program.now steps.now }
-    requires choice { BuffersNoneByChoice program.now steps.now }
-    ensures { IfOk result (λ finder. IfNone finder (NoStuckRun program.now)) }
-{
-    match first_race(alloc, program, steps) {
-        Ok(None) => Ok(None),
-        Ok(Some(race)) => Ok(Some(race.finder)),
-        Err(AllocError) => Err(AllocError),
-    }
-}
-
-/// The race for this call, where it takes any source, else the one that is known.
-fn race_for(program: &LongProgram, state: &State, finder: usize, known: Race) -> Race
-    requires { IsFreeFinder program.now known.finder }
-    ensures { IsFreeFinder program.now result.finder }
-{
-    match free_finder(program, finder) {
-        None => known,
-        Some(free) => Race {
-            finder: free,
-            send: found_by(program, state, finder),
-        },
+    let Some(send) = state.partner(race.finder) else {
+        unreachable!()
+    };
+    let Some(found) = caller_at(program, send) else {
+        unreachable!()
+    };
+    let Some(other) = caller_at(program, race.send) else {
+        unreachable!()
+    };
+    Race {
+        finder,
+        found,
+        other,
     }
 }
 
 /// Decides by one run whether some run of the program gets stuck. The only error is want of memory.
 ///
-/// It takes time near linear in the calls, but for calls that wait at the same time and aren't told apart by their destination, their
-/// communicator, and by their source and tag where each call names them. Where calls take any source, what is known at each call of those of
-/// each rank is counted, up to 134,217,728 counts: beyond these a race is told.
+/// The run takes time near linear in the calls. Where calls take any source, what is known of these of each rank is counted for each
+/// call, so that the time is that of the calls times the ranks that have such calls.
 pub fn decide_program(alloc: Global, program: &LongProgram) -> Result<Decision, AllocError>
     ensures { IfOk result (IsDecision program.now) }
 {
@@ -142,14 +92,9 @@ pub fn decide_program(alloc: Global, program: &LongProgram) -> Result<Decision, 
         return Ok(Decision::Deadlock(steps));
     }
     let _calls = program.calls();
-    let Some(first) = first_free(program, &state) else {
-        return Ok(Decision::NoDeadlock);
-    };
-    if !has_room(program) {
-        return Ok(Decision::Race(first));
-    }
-    match raced(alloc, program, &steps)? {
-        None => Ok(Decision::NoDeadlock),
-        Some(finder) => Ok(Decision::Race(race_for(program, &state, finder, first))),
+    match first_race(alloc, program, &steps) {
+        Ok(None) => Ok(Decision::NoDeadlock),
+        Ok(Some(race)) => Ok(Decision::Race(named_race(program, &state, race))),
+        Err(AllocError) => Err(AllocError),
     }
 }

@@ -3,9 +3,9 @@ use Rattle.std.proofs.Common.{◌≡◌, ◌<◌, ℕ, Bool, List, Option, Resul
 use Rattle.calltext.specs.Limits.{long}
 use Rattle.semantics.specs.Headline.{IsNeverStuckWithin, IsStuckRunWithin}
 use Rattle.semantics.specs.declared.state.Step.{Step}
-use Rattle.deciding.specs.Decisions.{HasFreeSource}
+use Rattle.deciding.specs.Decisions.{HasRace}
 use Rattle.deciding.specs.Schedules.{schedule_text}
-use Rattle.deciding.specs.declared.decision.Caller.{Caller}
+use Rattle.deciding.specs.declared.decision.Race.{Race}
 use Rattle.deciding.specs.declared.decision.Decision.TheVariants as decisions
 use Rattle.deciding.specs.declared.texts.Undecided.{Undecided}
 use Rattle.deciding.specs.declared.texts.Undecided.TheVariants as undecided
@@ -13,7 +13,7 @@ use Rattle.session.specs.Lines.{told_of_undecided, told_status}
 use Rattle.session.specs.Pages.{IsDecidedPage, IsWritten}
 use Rattle.session.specs.declared.told.Told.{Told}
 use Rattle.session.specs.declared.told.Told.TheVariants as told
-use Rattle.session.proofs.DeadlockLines.{PageTells, PageTellsSafety, line_tells, line_tells_safety, race_status, race_untold, race_unsafe}
+use Rattle.session.proofs.DeadlockLines.{PageTells, PageTellsSafety, line_tells, line_tells_safety, race_untold, race_unsafe}
 use Rattle.session.proofs.Deadlocks.{all_are}
 
 -- why a program isn't decided is told as neither answer, and with a status above
@@ -40,7 +40,7 @@ decided_hangs tells before after p out json text status program (given, Ok decis
 decided_hangs tells before after p out json text status program (given, Ok (decisions.Deadlock steps), all, is, scheduled, page) says held =
     (steps.items, subst (λ (bytes : List ℕ). IsStuckRunWithin long bytes steps.items) (all_are (before p) given program all held) is)
 decided_hangs tells before after p out json text status program (given, Ok (decisions.Race race), all, is, scheduled, page) says held =
-    absurd (race_untold json text status page says)
+    absurd (race_untold json given race text status page says)
 decided_hangs tells before after p out json text status program (given, Err why, all, is, scheduled, page) says held =
     absurd (not_stuck why (line_tells (told_of_undecided why) json text status page says))
 
@@ -52,7 +52,7 @@ decided_written tells before after p out json text program (given, Ok decisions.
 decided_written tells before after p out json text program (given, Ok (decisions.Deadlock steps), all, is, scheduled, page) held =
     (steps.items, subst (λ (bytes : List ℕ). IsStuckRunWithin long bytes steps.items) (all_are (before p) given program all held) is, scheduled)
 decided_written tells before after p out json text program (given, Ok (decisions.Race race), all, is, scheduled, page) held =
-    absurd (omega (arith, race_status json text 1 page))
+    absurd (omega (arith, page.same))
 decided_written tells before after p out json text program (given, Err why, all, is, scheduled, page) held = absurd (omega (arith, page.3, undecided_above why))
 
 -- a page that tells that there is none is of a program that never gets stuck
@@ -63,15 +63,15 @@ decided_safe tells before after p out json text status program (given, Ok decisi
 decided_safe tells before after p out json text status program (given, Ok (decisions.Deadlock steps), all, is, scheduled, page) says held =
     let other : told.Deadlock ≡ told.NoDeadlock = line_tells_safety told.Deadlock json text status page says in absurd cc
 decided_safe tells before after p out json text status program (given, Ok (decisions.Race race), all, is, scheduled, page) says held =
-    absurd (race_unsafe json text status page says)
+    absurd (race_unsafe json given race text status page says)
 decided_safe tells before after p out json text status program (given, Err why, all, is, scheduled, page) says held =
     absurd (not_safe why (line_tells_safety (told_of_undecided why) json text status page says))
 
--- one with the status 2 is of a program one of whose calls takes any source
-pub decided_free : (tells : Bool) (before after : List ℕ → Option (List ℕ)) (p : List ℕ) (out : Option (List ℕ)) (json : Bool) (text : List ℕ) (program : List ℕ)
-    → IsDecidedPage tells before after p out json text 2 → before p ≡ Some program → (finder : Caller) × HasFreeSource program finder
-decided_free tells before after p out json text program (given, Ok decisions.NoDeadlock, all, is, scheduled, page) held = absurd (omega (arith, page.3))
-decided_free tells before after p out json text program (given, Ok (decisions.Deadlock steps), all, is, scheduled, page) held = absurd (omega (arith, page.3))
-decided_free tells before after p out json text program (given, Ok (decisions.Race race), all, is, scheduled, page) held =
-    (race.finder, subst (λ (bytes : List ℕ). HasFreeSource bytes race.finder) (all_are (before p) given program all held) is)
-decided_free tells before after p out json text program (given, Err why, all, is, scheduled, page) held = absurd (omega (arith, page.3, undecided_above why))
+-- one with the status 2 is of a program with a race
+pub decided_race : (tells : Bool) (before after : List ℕ → Option (List ℕ)) (p : List ℕ) (out : Option (List ℕ)) (json : Bool) (text : List ℕ) (program : List ℕ)
+    → IsDecidedPage tells before after p out json text 2 → before p ≡ Some program → (race : Race) × HasRace program race
+decided_race tells before after p out json text program (given, Ok decisions.NoDeadlock, all, is, scheduled, page) held = absurd (omega (arith, page.3))
+decided_race tells before after p out json text program (given, Ok (decisions.Deadlock steps), all, is, scheduled, page) held = absurd (omega (arith, page.3))
+decided_race tells before after p out json text program (given, Ok (decisions.Race race), all, is, scheduled, page) held =
+    (race, subst (λ (bytes : List ℕ). HasRace bytes race) (all_are (before p) given program all held) is)
+decided_race tells before after p out json text program (given, Err why, all, is, scheduled, page) held = absurd (omega (arith, page.3, undecided_above why))

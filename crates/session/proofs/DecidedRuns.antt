@@ -7,7 +7,7 @@ use Rattle.session.specs.Endings.{Ends, FailsEarly, SessionEnds}
 use Rattle.session.specs.Lines.{early_line}
 use Rattle.session.specs.Pages.{FilesTold, IsDecidedPage, IsDecideFile}
 use Rattle.session.specs.declared.page.Want.TheVariants as want
-use Rattle.session.proofs.DecidedPages.{decided_free, decided_hangs, decided_safe, decided_written}
+use Rattle.session.proofs.DecidedPages.{decided_race, decided_hangs, decided_safe, decided_written}
 use Rattle.session.proofs.RunLaws.{ended, page_printed, page_that_told, page_that_reassured}
 use Rattle.session.proofs.TaskEnds.{task_ends}
 
@@ -35,5 +35,5 @@ decided_runs = record {
   race = λ words p out as_json tells before after program old new told_old told_new status asks held ends two.
       let page = page_printed 2 (omega arith) (IsDecidedPage tells.writes before after p out as_json) (IsDecideFile tells.reads p out before after) want.Unknown as_json before after old new told_old told_new status
       (decide_ends words p out as_json tells before after old new told_old told_new status asks ends) two in
-      decided_free tells.writes before after p out as_json page.0 program page.1 held;
+      decided_race tells.writes before after p out as_json page.0 program page.1 held;
 }

@@ -7,7 +7,9 @@ ghost use Rattle.session.specs.Lines.{IsLine};
 ghost use Rattle.session.specs.Pages.{ChangesAtMost, IsDecidedPage, IsDecideFile, IsDecisionPage, IsProgram, IsRacePage, IsScheduled, IsScheduleFile, IsWritten, StopsBy};
 
 use crate::commands::{Stop, decided_page, read};
-use crate::page::{Page, page_of};
+use crate::page::{Page, object_with, page_of};
+use crate::racing::{race_line, race_object};
+use crate::status::UNKNOWN;
 use crate::told::Told;
 use calltext::read_long;
 use deciding::{Decision, Race, Undecided, decide, schedule_text};
@@ -65,7 +67,7 @@ fn decision_page<'a, F: FileSet>(
     json: bool,
     files: &mut F,
 ) -> Result<Page, Stop<'a>>
-    ensures page { IfOk result (λ page. IsDecisionPage json decided.now page.text.items page.status) }
+    ensures page { IfOk result (λ page. IsDecisionPage json text.now decided.now page.text.items page.status) }
     ensures scheduled { OnOk result (IsScheduled F.tells_written (F.held files.old) (F.held files.new)
         (option_map (λ path. path.now) out.entry) decided.now) }
     ensures others { ChangesAtMost (option_map (λ path. path.now) out.entry) (F.held files.old) (F.held files.new) }
@@ -102,42 +104,24 @@ fn deadlock_page<'a, F: FileSet>(
     Ok(page_of(alloc, &Told::Deadlock, json)?)
 }
 
-/// The page of a race: the line that tells it, and below it, but for a JSON object, the call that takes any source.
+/// The page of a race of the program of this text: the line that tells it, and the line of its calls, or one JSON object.
 fn race_page(alloc: Global, text: &[u8], race: Race, json: bool) -> Result<Page, AllocError>
-    ensures { IfOk result (λ page. IsRacePage json page.text.items page.status) }
+    ensures { IfOk result (λ page. IsRacePage json text.now race page.text.items page.status) }
 {
-    if json {
-        return page_of(alloc, &Told::Race, true);
-    }
-    told_race(alloc, text, race)
-}
-
-/// The page of a race as a text.
-fn told_race(alloc: Global, text: &[u8], race: Race) -> Result<Page, AllocError>
-    ensures { IfOk result (λ page. IsRacePage false page.text.items page.status) }
-{
-    let mut page = page_of(alloc, &Told::Race, false)?;
-    let words = race_words(alloc, text, race)?;
-    page.text.extend_from_slice(words.as_bytes())?;
-    Ok(page)
-}
-
-/// The line that tells the call that takes any source, and the send that it found in the run. Lines count from 1.
-fn race_words(alloc: Global, text: &[u8], race: Race) -> Result<String, AllocError> {
     // The program was made of this text, so want of memory alone can be met.
     let Ok(source) = read_long(alloc, text) else {
         return Err(AllocError);
     };
-    let numbers = line_numbers(alloc, &source)?;
-    let mut words = String::new(alloc);
-    let line = numbers.get(race.finder.place).copied().unwrap_or(0);
-    let rank = race.finder.rank;
-    write!(words, "line {line} of rank {rank} takes any source")?;
-    if let Some(send) = race.send {
-        let line = numbers.get(send.place).copied().unwrap_or(0);
-        let rank = send.rank;
-        write!(words, "; it found line {line} of rank {rank}")?;
-    }
-    words.push('\n')?;
-    Ok(words)
+    let lines = line_numbers(alloc, &source)?;
+    let text = if json {
+        let object = race_object(alloc, &lines, race)?;
+        object_with(alloc, "unknown race", UNKNOWN, "race", &object)?
+    } else {
+        let mut text = String::from_str(alloc, "unknown race\n")?;
+        text.push_str(&race_line(alloc, &lines, race)?)?;
+        text
+    };
+    let text = text.into_bytes();
+    let status = UNKNOWN;
+    Ok(Page { text, status })
 }

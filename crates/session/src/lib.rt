@@ -7,6 +7,7 @@ mod commands;
 mod decide;
 mod laws;
 mod page;
+mod racing;
 mod run;
 mod status;
 mod told;

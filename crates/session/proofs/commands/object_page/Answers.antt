@@ -1,7 +1,7 @@
 -- The object has the words of the refusal, and what helps.
-use Rattle.std.proofs.Common.{◌∙◌, ap, string_bytes, ℕ, List}
+use Rattle.std.proofs.Common.{◌∙◌, ap, codes, string_bytes, ℕ, List}
 use Rattle.std.specs.Global.{Vec}
-use Rattle.session.specs.Lines.{helped_text, told_status}
+use Rattle.session.specs.Lines.{object_with, told_status}
 use Rattle.session.specs.declared.told.Told.TheVariants as told
 use Rattle.session.proofs.commands.object_page.Goals as goal
 
@@ -14,9 +14,9 @@ returns c =
       help,
       c.in_ok-words.ensures,
       ap (λ (v : Vec ℕ). v.items) c.into_bytes-text.ensures.value
-          ∙ c.in_ok-helped_text.ensures
-          ∙ ap (λ (s : ℕ). helped_text c.deref.result.now s c.deref-2.result.now) c.status-status.ensures
-          ∙ ap (λ (w : List ℕ). helped_text w own c.deref-2.result.now) c.deref.ensures
-          ∙ ap (λ (h : List ℕ). helped_text words own h) c.deref-2.ensures,
+          ∙ c.in_ok-object_with.ensures
+          ∙ ap (λ (s : ℕ). object_with c.deref.result.now s (codes "help") c.deref-2.result.now) c.status-status.ensures
+          ∙ ap (λ (w : List ℕ). object_with w own (codes "help") c.deref-2.result.now) c.deref.ensures
+          ∙ ap (λ (h : List ℕ). object_with words own (codes "help") h) c.deref-2.ensures,
       c.status-status.ensures,
     )

@@ -14,7 +14,7 @@ use Rattle.session.proofs.decide.decide_page.Goals as goal
 
 page_decided : (tells : Bool) (old between new : List ℕ → Option (List ℕ)) (path : List ℕ) (out : Option (List ℕ)) (json : Bool) (program : List ℕ) (d : Result Decision Undecided)
     (page : Result Page Stop) → between ≡ old → AreAll (old path) program → IsDecided program d → OnOk page (IsScheduled tells between new out d)
-    → IfOk page (λ p. IsDecisionPage json d p.text.items p.status) → IfOk page (λ p. IsDecidedPage tells old new path out json p.text.items p.status)
+    → IfOk page (λ p. IsDecisionPage json program d p.text.items p.status) → IfOk page (λ p. IsDecidedPage tells old new path out json p.text.items p.status)
 page_decided tells old between new path out json program d (Ok p) same all is scheduled told =
     (program, d, all, is, subst (λ (held : List ℕ → Option (List ℕ)). IsScheduled tells held new out d) same scheduled, told)
 page_decided tells old between new path out json program d (Err e) same all is scheduled told = told

@@ -1,0 +1,68 @@
+-- A call that two sends of different ranks fit takes any source.
+use Rattle.std.proofs.Common.{◌≡◌, ℕ, ◌⊎◌, inl, inr, Bool, true, false, not, ◌&&◌, ◌==◌, Option, Some, None, IsTrue, is_some, refl, sym, ap, subst, ◌∙◌}
+use Rattle.std.proofs.lemmas.Bool.{eqb-true, eq-eqb}
+use Rattle.calltext.proofs.Conjunctions.{and_true}
+use Rattle.callorder.specs.declared.calls.Call.{Call}
+use Rattle.callorder.specs.declared.calls.Message.{Message}
+use Rattle.callorder.specs.declared.calls.Pattern.{Pattern}
+use Rattle.callorder.specs.Calls.{covers, fits_between, message_of, pattern_of}
+use Rattle.callorder.specs.Programs.{MpiProgram, are_fit, are_of_one_rank, are_of_one_rank_calls, call_at, fit_calls, is_of_rank, takes}
+use Rattle.histories.proofs.Matched.{no_send_is_taker}
+use Rattle.races.proofs.Kept.{takes_fit}
+use Rattle.races.specs.Races.{names_source}
+use Rattle.semantics.specs.Machine.{Configuration, partner_of}
+use Rattle.clocks.specs.Clocks.{IsRival}
+use Rattle.clocks.specs.declared.race.Race as rivals
+use Rattle.deciding.specs.Decisions.{IsCaller, IsRace, takes_any_source, takes_any_source_call}
+use Rattle.deciding.specs.declared.decision.Caller.{Caller}
+use Rattle.deciding.specs.declared.decision.Race.{Race}
+
+-- where two sends fit a pattern that names its source, they are of one rank
+one_source : (m n : Message) (r q t : ℕ) (pattern : Pattern) → fits_between r (Some m) t (Some pattern) ≡ true → fits_between q (Some n) t (Some pattern) ≡ true
+    → is_some pattern.source ≡ true → r ≡ q
+one_source m n r q t pattern f g named =
+    let a = (and_true (covers pattern.source r) _ (and_true (m.communicator == pattern.communicator) _ (and_true (m.destination == t) _ f).1).1).0 in
+    let b = (and_true (covers pattern.source q) _ (and_true (n.communicator == pattern.communicator) _ (and_true (n.destination == t) _ g).1).1).0 in
+    by pattern.source named a b
+  where
+    by : (source : Option ℕ) → is_some source ≡ true → covers source r ≡ true → covers source q ≡ true → r ≡ q
+    by None named a b = absurd (cc)
+    by (Some wanted) named a b = sym (eqb-true wanted r a) ∙ eqb-true wanted q b
+
+free_call : (x y z : Option Call) → fit_calls x z ≡ true → fit_calls y z ≡ true → are_of_one_rank_calls x y ≡ false → takes_any_source_call z ≡ true
+free_call None y z f g apart = absurd (cc)
+free_call (Some x) None z f g apart = absurd (cc)
+free_call (Some x) (Some y) None f g apart = absurd (cc)
+free_call (Some x) (Some y) (Some z) f g apart = by (message_of x.kind) (message_of y.kind) (pattern_of z.kind) f g
+  where
+    different : x.rank ≡ y.rank → ⊥
+    different same = let one : (x.rank == y.rank) ≡ true = eq-eqb x.rank y.rank same in cc (one, apart)
+
+    unnamed : (b : Bool) → (b ≡ true → ⊥) → not b ≡ true
+    unnamed true h = absurd (h refl)
+    unnamed false h = refl
+
+    by : (a b : _) (c : Option Pattern) → fits_between x.rank a z.rank c ≡ true → fits_between y.rank b z.rank c ≡ true → not (names_source c) ≡ true
+    by None b c f g = absurd (cc)
+    by (Some m) None None f g = absurd (cc)
+    by (Some m) None (Some pattern) f g = absurd (cc)
+    by (Some m) (Some n) None f g = absurd (cc)
+    by (Some m) (Some n) (Some pattern) f g = unnamed (is_some pattern.source) (λ named. different (one_source m n x.rank y.rank z.rank pattern f g named))
+
+pub free_of_two : (p : MpiProgram) (own other finder : ℕ) → are_fit p own finder ≡ true → are_fit p other finder ≡ true → are_of_one_rank p own other ≡ false → IsTrue (takes_any_source p finder)
+free_of_two p own other finder f g apart = free_call (call_at p own) (call_at p other) (call_at p finder) f g apart
+
+-- what a finder found fits it
+pub own_fits : (p : MpiProgram) (finder own other : ℕ) → are_fit p other finder ≡ true → (takes p finder own ≡ true) ⊎ (are_fit p own finder ≡ true) → are_fit p own finder ≡ true
+own_fits p finder own other fits (inr h) = h
+own_fits p finder own other fits (inl h) = absurd (no_send_is_taker p finder own other (takes_fit p finder own h) fits)
+
+-- both calls of a pair that fits are there
+pub there_of_fit : (x y : Option Call) → fit_calls x y ≡ true → x ≡ None → ⊥
+there_of_fit None y fit none = absurd (cc)
+there_of_fit (Some x) y fit none = cc
+
+pub finder_of_fit : (x y : Option Call) → fit_calls x y ≡ true → y ≡ None → ⊥
+finder_of_fit None y fit none = absurd (cc)
+finder_of_fit (Some x) None fit none = absurd (cc)
+finder_of_fit (Some x) (Some y) fit none = cc
