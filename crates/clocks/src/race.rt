@@ -6,13 +6,13 @@ ghost use Rattle.races.specs.Races.{BuffersNoneByChoice, NamesSources};
 ghost use Rattle.races.specs.Tells.{Table};
 ghost use Rattle.semantics.specs.Headline.{NoStuckRun};
 ghost use Rattle.clocks.specs.Clocks.{AreRows, IsRow, IsNoRace, IsChecked, HasNoRaceShown, IsTaken, IsSingle, IsSurePartner, block_of, with_partners};
-ghost use Rattle.clocks.specs.Rows.{AreRuns};
+ghost use Rattle.clocks.specs.Spans.{AreSpans};
 ghost use Rattle.callorder.specs.Programs.{are_of_one_rank};
 
 use crate::classes::{Classes, end_open};
 use crate::columns::Columns;
 use crate::rows::rows_of;
-use crate::runs::{is_single, name, names_of, or_none};
+use crate::spans::{is_single, name, names_of, no_names};
 use callorder::LongProgram;
 use leastrun::names_sources;
 use semantics::{State, Step};
@@ -106,7 +106,7 @@ fn is_no_race(
     own: usize,
     other: usize,
 ) -> bool
-    requires { AreRuns program.now (block_of names.now) }
+    requires { AreSpans program.now (block_of names.now) }
     ensures { IsTrue result → (knows : Table) → AreRows columns.now knows rows.now → IsNoRace program.now (block_of names.now) state.now knows finder own other }
 {
     if !program.are_fit(other, finder) {
@@ -131,7 +131,7 @@ fn is_no_race_if_found(
     finder: usize,
     other: usize,
 ) -> bool
-    requires { AreRuns program.now (block_of names.now) }
+    requires { AreSpans program.now (block_of names.now) }
     ensures { IsTrue result → (knows : Table) → AreRows columns.now knows rows.now → (own : ℕ) → partner_of state.now finder ≡ Some own → IsNoRace program.now (block_of names.now) state.now knows finder own other }
 {
     match state.partner(finder) {
@@ -151,7 +151,7 @@ fn race_between(
     first: usize,
     end: usize,
 ) -> Option<usize>
-    requires { AreRuns program.now (block_of names.now) }
+    requires { AreSpans program.now (block_of names.now) }
     ensures { IfNone result ((knows : Table) → AreRows columns.now knows rows.now → (finder own : ℕ) → first ≤ finder → finder < end → partner_of state.now finder ≡ Some own → IsNoRace program.now (block_of names.now) state.now knows finder own other) }
 {
     for finder in first..end {
@@ -186,7 +186,7 @@ fn race_of_send(
     classes: &Classes,
     other: usize,
 ) -> Option<usize>
-    requires { AreRuns program.now (block_of names.now) }
+    requires { AreSpans program.now (block_of names.now) }
     ensures { IfNone result ((knows : Table) → AreRows columns.now knows rows.now → IsChecked program.now (block_of names.now) state.now knows other) }
 {
     let first = classes.first_open(program, state, names, other);
@@ -207,7 +207,7 @@ fn race_in(
     names: &[usize],
     classes: &Classes,
 ) -> Option<Race>
-    requires { AreRuns program.now (block_of names.now) }
+    requires { AreSpans program.now (block_of names.now) }
     ensures { IfNone result ((knows : Table) → AreRows columns.now knows rows.now → (other : ℕ) → IsChecked program.now (block_of names.now) state.now knows other) }
 {
     for send in 0..program.calls().len() {
@@ -265,7 +265,7 @@ fn partners_of(
     Ok(partners)
 }
 
-/// The first race with equal receives as blocks; where there is one, that with each finder as a
+/// The first race with spans of receives as blocks; where there is one, that with each finder as a
 /// block of its own. The only error is want of memory.
 fn race_of(
     alloc: Global,
@@ -275,7 +275,7 @@ fn race_of(
 ) -> Result<Option<Race>, AllocError>
     ensures { IfOk result (λ found. IfNone found (HasNoRaceShown program.now state.now)) }
 {
-    let names = names_of(alloc, program)?;
+    let names = names_of(alloc, program, state)?;
     match race_by(alloc, program, state, names.as_slice(), run) {
         Err(error) => Err(error),
         Ok(None) => Ok(None),
@@ -292,7 +292,7 @@ fn race_alone(
 ) -> Result<Option<Race>, AllocError>
     ensures { IfOk result (λ found. IfNone found (HasNoRaceShown program.now state.now)) }
 {
-    let names = or_none(alloc, program, Vec::new(alloc));
+    let names = no_names(alloc, program);
     race_by(alloc, program, state, names.as_slice(), run)
 }
 
@@ -304,7 +304,7 @@ fn race_by(
     names: &[usize],
     run: &[Step],
 ) -> Result<Option<Race>, AllocError>
-    requires { AreRuns program.now (block_of names.now) }
+    requires { AreSpans program.now (block_of names.now) }
     ensures { IfOk result (λ found. IfNone found (HasNoRaceShown program.now state.now)) }
 {
     let _calls = program.calls();
