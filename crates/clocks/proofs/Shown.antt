@@ -1,5 +1,5 @@
 -- Rows of some level that show no race.
-use Rattle.std.proofs.Common.{zero, suc, ap, ◌∙◌, IfSome, [], ◌∷◌, ◌++◌, slice_get, ◌≡◌, ℕ, ◌<◌, ◌≤◌, ◌⊎◌, inl, inr, true, Option, None, IfNone, IfOk, Ok, Result, List, length, ◌+◌, refl, take, get_or, Some, sym, subst, arith}
+use Rattle.std.proofs.Common.{zero, suc, ap, ◌∙◌, IfSome, [], ◌∷◌, ◌++◌, slice_get, ◌≡◌, ℕ, ◌<◌, ◌≤◌, ◌⊎◌, inl, inr, true, Option, None, IfNone, IfOk, Ok, Err, Result, List, length, ◌+◌, refl, take, get_or, Some, sym, subst, arith}
 use Rattle.std.proofs.lemmas.Option.{slice_get-get_or}
 use Rattle.semantics.proofs.Runs.{IsRun-at}
 use Rattle.std.proofs.lemmas.Bool.{cases_lt}
@@ -15,7 +15,7 @@ use Rattle.races.specs.Blocks.{Blocks, HasFellow, IsSure, ShowsNoRaceOfBlocks}
 use Rattle.races.proofs.Telling.{programs_are_in_order}
 use Rattle.races.proofs.LikeRuns.{table_of_blocks_never_sticks}
 use Rattle.clocks.specs.declared.race.Race.{Race}
-use Rattle.clocks.specs.Clocks.{Numbering, AreRows, AreSound, IsNoRace, ShowsAll, HasNoRaceShown, HasEarlier, IsTakenUpTo, IsTaken, IsSingle, IsSurePartner, IsChecked, level}
+use Rattle.clocks.specs.Clocks.{Numbering, AreRows, AreSound, IsNoRace, ShowsAll, HasNoRaceShown, HasEarlier, IsTakenUpTo, IsTaken, IsSingle, IsSurePartner, IsChecked, IsRival, IsRivalIfSingle, level}
 use Rattle.clocks.specs.Spans.{AreSpans}
 use Rattle.clocks.proofs.Members.{chain, name_below, spans_are_blocks}
 use Rattle.std.specs.Option.{unwrap_or}
@@ -129,3 +129,9 @@ sure_push block e old new n v size is h last c x there =
           let at : n ≡ c = sym size ∙ sym w.0 in
           subst (λ (z : ℕ). IsSurePartner block e z x) at (subst (λ (o : Option ℕ). IfSome o (IsSurePartner block e n)) w.1 last)
     ]
+
+-- where each call is a block of its own, each race is one of a finder that is
+pub rivals_if_single : (p : MpiProgram) (block : Blocks) (e : Configuration) (r : Result (Option Race) AllocError) → ((c : ℕ) → IsSingle block c) → IfOk r (λ found. IfSome found (λ race. IsRivalIfSingle p block e race.send race.finder)) → IfOk r (λ found. IfSome found (IsRival p e))
+rivals_if_single p block e (Ok None) single h = h
+rivals_if_single p block e (Ok (Some race)) single h = h (single race.finder)
+rivals_if_single p block e (Err error) single h = h

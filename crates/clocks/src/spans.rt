@@ -1,6 +1,6 @@
 //! Blocks: spans of calls of one rank, from a first receive or matched probe up to a last one.
 
-ghost use Rattle.std.specs.Prelude.{◌≡◌, ◌≤◌, ◌<◌, ◌^◌, ℕ, IfOk, IfSome, IsTrue};
+ghost use Rattle.std.specs.Prelude.{◌≡◌, ◌≤◌, ◌<◌, ◌^◌, ℕ, IfOk, IfSome, IsTrue, false};
 ghost use Rattle.callorder.specs.Programs.{call_at, are_fit, are_of_one_rank};
 ghost use Rattle.races.specs.Blocks.{IsPrompt, is_finder};
 ghost use Rattle.clocks.specs.Spans.{is_done_at_once_call, returns_at_once, is_receive_call, IsWaitFor, WaitsWithin, IsMember, IsJoined, IsNamed, AreSpans};
@@ -351,7 +351,8 @@ pub fn names_of(
 
 /// Names by which each call is a block of its own.
 pub fn no_names(alloc: Global, program: &LongProgram) -> Vec<usize>
-    ensures { AreSpans program.now (block_of result.items) }
+    ensures spans { AreSpans program.now (block_of result.items) }
+    ensures single { (c : ℕ) → IsSingle (block_of result.items) c }
 {
     let _program = program;
     Vec::new(alloc)
@@ -359,20 +360,17 @@ pub fn no_names(alloc: Global, program: &LongProgram) -> Vec<usize>
 
 /// Whether the call is a block of its own.
 pub fn is_single(names: &[usize], call: usize) -> bool
-    ensures { IsTrue result → IsSingle (block_of names.now) call }
+    ensures single { IsTrue result → IsSingle (block_of names.now) call }
+    ensures joined { result ≡ false → IsSingle (block_of names.now) call → ⊥ }
 {
     let own = name(names, call);
-    let Some(next) = call.checked_add(1) else {
-        return false;
-    };
-    if name(names, next) == own {
-        return false;
+    if call < names.len() {
+        if name(names, call + 1) == own {
+            return false;
+        }
     }
     if call == 0 {
         return true;
     }
-    if name(names, call - 1) == own {
-        return false;
-    }
-    true
+    name(names, call - 1) != own
 }
