@@ -1,5 +1,5 @@
 -- Rows of some level that show no race.
-use Rattle.std.proofs.Common.{zero, suc, ap, ◌∙◌, IfSome, [], ◌∷◌, ◌++◌, slice_get, ◌≡◌, ℕ, ◌<◌, ◌≤◌, ◌⊎◌, inl, inr, true, Option, None, IfNone, IfOk, Ok, Result, List, length, ◌+◌, refl, take, get_or, Some, sym, subst, arith}
+use Rattle.std.proofs.Common.{zero, suc, ap, ◌∙◌, IfSome, [], ◌∷◌, ◌++◌, slice_get, ◌≡◌, ℕ, ◌<◌, ◌≤◌, ◌⊎◌, inl, inr, true, Option, None, IfNone, IfOk, Ok, Err, Result, List, length, ◌+◌, refl, take, get_or, Some, sym, subst, arith}
 use Rattle.std.proofs.lemmas.Option.{slice_get-get_or}
 use Rattle.semantics.proofs.Runs.{IsRun-at}
 use Rattle.std.proofs.lemmas.Bool.{cases_lt}
@@ -15,9 +15,9 @@ use Rattle.races.specs.Blocks.{Blocks, HasFellow, IsSure, ShowsNoRaceOfBlocks}
 use Rattle.races.proofs.Telling.{programs_are_in_order}
 use Rattle.races.proofs.LikeRuns.{table_of_blocks_never_sticks}
 use Rattle.clocks.specs.declared.race.Race.{Race}
-use Rattle.clocks.specs.Clocks.{Numbering, AreRows, AreSound, IsNoRace, ShowsAll, HasNoRaceShown, HasEarlier, IsTakenUpTo, IsTaken, IsSingle, IsSurePartner, IsChecked, level}
-use Rattle.clocks.specs.Rows.{AreRuns}
-use Rattle.clocks.proofs.Repeats.{chain, name_below, runs_are_blocks}
+use Rattle.clocks.specs.Clocks.{Numbering, AreRows, AreSound, IsNoRace, ShowsAll, HasNoRaceShown, HasEarlier, IsTakenUpTo, IsTaken, IsSingle, IsSurePartner, IsChecked, IsRival, IsRivalIfSingle, level}
+use Rattle.clocks.specs.Spans.{AreSpans}
+use Rattle.clocks.proofs.Members.{chain, name_below, spans_are_blocks}
 use Rattle.std.specs.Option.{unwrap_or}
 use Rattle.clocks.specs.Clocks.{with_partners}
 use Rattle.clocks.proofs.Counts.{same_some}
@@ -25,29 +25,29 @@ use Rattle.clocks.proofs.Looks.{checked_shows, checked_by}
 use Rattle.clocks.proofs.Levels.{level_justified}
 use Rattle.std.specs.declared.alloc.AllocError.{AllocError}
 
-before : (p : MpiProgram) (block : Blocks) (f g : ℕ) → AreRuns p block → g < f → IsSingle block f → block g ≡ block f → ⊥
-before p block zero g runs below single same = absurd (omega (arith, below))
-before p block (suc b) g runs below single same = single.before b refl ((chain p block g (suc b) b runs (omega (arith, below)) (omega arith) same).1 ∙ same)
+before : (p : MpiProgram) (block : Blocks) (f g : ℕ) → AreSpans p block → g < f → IsSingle block f → block g ≡ block f → ⊥
+before p block zero g spans below single same = absurd (omega (arith, below))
+before p block (suc b) g spans below single same = single.before b refl ((chain p block g (suc b) b spans (omega (arith, below)) (omega arith) same).1 ∙ same)
 
 -- a call that is single has no fellow
-pub no_fellow : (p : MpiProgram) (block : Blocks) (f : ℕ) → AreRuns p block → IsSingle block f → HasFellow p block f → ⊥
-no_fellow p block f runs single w =
+pub no_fellow : (p : MpiProgram) (block : Blocks) (f : ℕ) → AreSpans p block → IsSingle block f → HasFellow p block f → ⊥
+no_fellow p block f spans single w =
     elim (cases_lt w.fellow f) [
-      | inl below ↦ before p block f w.fellow runs below single w.same
+      | inl below ↦ before p block f w.fellow spans below single w.same
       | inr ge ↦
           let above : f < w.fellow = omega (arith, ge, w.other) in
           elim (cases_lt (suc f) w.fellow) [
-            | inl far ↦ single.behind (chain p block f w.fellow (suc f) runs (omega arith) far (sym w.same)).1
+            | inl far ↦ single.behind (chain p block f w.fellow (suc f) spans (omega arith) far (sym w.same)).1
             | inr near ↦ let at : w.fellow ≡ suc f = omega (arith, near, above) in single.behind (ap block (sym at) ∙ w.same)
           ]
     ]
 
-is_sure : (p : MpiProgram) (block : Blocks) (e sure : Configuration) → AreRuns p block → ((c x : ℕ) → partner_of sure c ≡ Some x → IsSurePartner block e c x) → IsSure p block e sure
-is_sure p block e sure runs h =
+is_sure : (p : MpiProgram) (block : Blocks) (e sure : Configuration) → AreSpans p block → ((c x : ℕ) → partner_of sure c ≡ Some x → IsSurePartner block e c x) → IsSure p block e sure
+is_sure p block e sure spans h =
     record {
       within = λ c x is. (h c x is).found;
-      finder = λ f s is finder. no_fellow p block f runs (h f s is).single;
-      taker = λ s t is finder. no_fellow p block t runs (h s t is).other;
+      finder = λ f s is finder. no_fellow p block f spans (h f s is).single;
+      taker = λ s t is finder. no_fellow p block t spans (h s t is).other;
     }
 
 up_to : (t f : ℕ) → t ≤ f → (t < f) ⊎ (t ≡ f)
@@ -64,37 +64,37 @@ shows p block e knows all finder own other found fit fits which taken =
 pub none_is_stuck : (p : MpiProgram) (steps other : List Step) → IsProgramWithin long p → IsFinishedRun p steps → BuffersNoneByChoice p steps → HasNoRaceShown p (after_all (opening p) steps) → IsStuckRun p other → ⊥
 none_is_stuck p steps other is finished choice w stuck =
     let order = programs_are_in_order long p is in
-    table_of_blocks_never_sticks p steps other w.block w.sure w.knows order.0 order.1 finished choice (runs_are_blocks p w.block w.runs)
+    table_of_blocks_never_sticks p steps other w.block w.sure w.knows order.0 order.1 finished choice (spans_are_blocks p w.block w.spans)
     w.is_sure w.justified (shows p w.block (after_all (opening p) steps) w.knows w.shows) stuck
 
-pub none_shown : (p : MpiProgram) (block : Blocks) (e sure : Configuration) (ns : Numbering) (rows : List (Vec ℕ)) (found : Option Race) → IsProgramWithin long p → AreRuns p block → ((c x : ℕ) → partner_of sure c ≡ Some x → IsSurePartner block e c x) → AreSound p sure ns rows → IfNone found ((knows : Table) → AreRows ns knows rows → (other : ℕ) → IsChecked p block e knows other) → IfNone found (HasNoRaceShown p e)
-none_shown p block e sure ns rows None is runs within sound shown =
+pub none_shown : (p : MpiProgram) (block : Blocks) (e sure : Configuration) (ns : Numbering) (rows : List (Vec ℕ)) (found : Option Race) → IsProgramWithin long p → AreSpans p block → ((c x : ℕ) → partner_of sure c ≡ Some x → IsSurePartner block e c x) → AreSound p sure ns rows → IfNone found ((knows : Table) → AreRows ns knows rows → (other : ℕ) → IsChecked p block e knows other) → IfNone found (HasNoRaceShown p e)
+none_shown p block e sure ns rows None is spans within sound shown =
     record {
       block = block;
-      runs = runs;
+      spans = spans;
       sure = sure;
       knows = level p sure (sound.rounds + length p.calls);
-      is_sure = is_sure p block e sure runs within;
+      is_sure = is_sure p block e sure spans within;
       justified = level_justified p sure (sound.rounds + length p.calls);
       shows = checked_shows p block e sure sound.rounds is (shown (level p sure sound.rounds) sound.are);
     }
-none_shown p block e sure ns rows (Some race) is runs within sound shown = shown
+none_shown p block e sure ns rows (Some race) is spans within sound shown = shown
 
 pub checked_if : (p : MpiProgram) (block : Blocks) (e : Configuration) (ns : Numbering) (rows : List (Vec ℕ)) (other first start end last low high : ℕ) (r : Option ℕ) → ((f : ℕ) → f < first → are_fit p other f ≡ true → HasEarlier p block e other f) → ((f : ℕ) → f < start → are_fit p other f ≡ true → ⊥) → ((f : ℕ) → end ≤ f → are_fit p other f ≡ true → IsTakenUpTo e other f) → ((f : ℕ) → last ≤ f → are_fit p other f ≡ true → ⊥) → ((n : ℕ) → first ≤ n → start ≤ n → low ≤ n) → ((n : ℕ) → n < end → n < last → n < high) → IfNone r ((knows : Table) → AreRows ns knows rows → (f own : ℕ) → low ≤ f → f < high → partner_of e f ≡ Some own → IsNoRace p block e knows f own other) → IfNone r ((knows : Table) → AreRows ns knows rows → IsChecked p block e knows other)
 checked_if p block e ns rows other first start end last low high None a b c d from to looked = λ knows are. checked_by p block e knows other first start end last low high a b c d from to (looked knows are)
 checked_if p block e ns rows other first start end last low high (Some x) a b c d from to looked = looked
 
 -- one of four reasons shows that the other send doesn't race
-pub no_race_by_rank : (p : MpiProgram) (block : Blocks) (e : Configuration) (knows : Table) (finder own other : ℕ) → AreRuns p block → are_of_one_rank p own other ≡ true → IsSingle block finder → IsNoRace p block e knows finder own other
-no_race_by_rank p block e knows finder own other runs one single fit (inl apart) later = absurd (cc (one, apart))
-no_race_by_rank p block e knows finder own other runs one single fit (inr w) later = absurd (no_fellow p block finder runs single w)
+pub no_race_by_rank : (p : MpiProgram) (block : Blocks) (e : Configuration) (knows : Table) (finder own other : ℕ) → AreSpans p block → are_of_one_rank p own other ≡ true → IsSingle block finder → IsNoRace p block e knows finder own other
+no_race_by_rank p block e knows finder own other spans one single fit (inl apart) later = absurd (cc (one, apart))
+no_race_by_rank p block e knows finder own other spans one single fit (inr w) later = absurd (no_fellow p block finder spans single w)
 
 pub no_race_by_taker : (p : MpiProgram) (block : Blocks) (e : Configuration) (knows : Table) (finder own other : ℕ) → IsTaken block e other finder → IsNoRace p block e knows finder own other
 no_race_by_taker p block e knows finder own other w fit which later = absurd (later w.taker w.found w.which)
 
-pub open_below : (p : MpiProgram) (block : Blocks) (e : Configuration) (earlier taker finder : ℕ) → AreRuns p block → partner_of e earlier ≡ Some taker → finder < block taker → (t : ℕ) → partner_of e earlier ≡ Some t → (t ≤ finder) ⊎ (block t ≡ block finder) → ⊥
-open_below p block e earlier taker finder runs found below t is (inl le) = let same : taker ≡ t = same_some taker t (sym found ∙ is) in absurd (omega (arith, le, below, same, name_below p block taker runs))
-open_below p block e earlier taker finder runs found below t is (inr one) = let same : taker ≡ t = same_some taker t (sym found ∙ is) in let at : block taker ≡ block finder = ap block same ∙ one in absurd (omega (arith, at, below, name_below p block finder runs))
+pub open_below : (p : MpiProgram) (block : Blocks) (e : Configuration) (earlier taker finder : ℕ) → AreSpans p block → partner_of e earlier ≡ Some taker → finder < block taker → (t : ℕ) → partner_of e earlier ≡ Some t → (t ≤ finder) ⊎ (block t ≡ block finder) → ⊥
+open_below p block e earlier taker finder spans found below t is (inl le) = let same : taker ≡ t = same_some taker t (sym found ∙ is) in absurd (omega (arith, le, below, same, name_below p block taker spans))
+open_below p block e earlier taker finder spans found below t is (inr one) = let same : taker ≡ t = same_some taker t (sym found ∙ is) in let at : block taker ≡ block finder = ap block same ∙ one in absurd (omega (arith, at, below, name_below p block finder spans))
 
 -- the step at a place of a run is enabled where the steps before it lead
 pub enabled_there : (p : MpiProgram) (steps : List Step) (i : ℕ) (d : Step) (m : Configuration) → i < length steps → m ≡ after_all (opening p) (take i steps) → IsRun p (opening p) steps → IsEnabled p m (get_or steps i d)
@@ -129,3 +129,9 @@ sure_push block e old new n v size is h last c x there =
           let at : n ≡ c = sym size ∙ sym w.0 in
           subst (λ (z : ℕ). IsSurePartner block e z x) at (subst (λ (o : Option ℕ). IfSome o (IsSurePartner block e n)) w.1 last)
     ]
+
+-- where each call is a block of its own, each race is one of a finder that is
+pub rivals_if_single : (p : MpiProgram) (block : Blocks) (e : Configuration) (r : Result (Option Race) AllocError) → ((c : ℕ) → IsSingle block c) → IfOk r (λ found. IfSome found (λ race. IsRivalIfSingle p block e race.send race.finder)) → IfOk r (λ found. IfSome found (IsRival p e))
+rivals_if_single p block e (Ok None) single h = h
+rivals_if_single p block e (Ok (Some race)) single h = h (single race.finder)
+rivals_if_single p block e (Err error) single h = h

@@ -3,9 +3,9 @@
 ghost use Rattle.std.specs.Prelude.{◌≡◌, ◌≤◌, ◌<◌, ℕ, IsTrue, IfSome};
 ghost use Rattle.callorder.specs.Programs.{are_fit, are_of_one_rank};
 ghost use Rattle.clocks.specs.Clocks.{HasEarlier, IsTakenUpTo, IsOfRank, block_of};
-ghost use Rattle.clocks.specs.Rows.{AreRuns};
+ghost use Rattle.clocks.specs.Spans.{AreSpans};
 
-use crate::runs::name;
+use crate::spans::name;
 use callorder::{LongProgram, Message};
 use semantics::State;
 use std::alloc::{AllocError, Global};
@@ -161,7 +161,7 @@ impl Classes {
         names: &[usize],
         other: usize,
     ) -> usize
-        requires { AreRuns program.now (block_of names.now) }
+        requires { AreSpans program.now (block_of names.now) }
         ensures { (finder : ℕ) → finder < result → IsTrue (are_fit program.now other finder) → HasEarlier program.now (block_of names.now) state.now other finder }
     {
         let Some(earlier) = self.previous.get(other).copied().unwrap_or(None) else {

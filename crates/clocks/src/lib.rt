@@ -12,10 +12,13 @@
 //! than some number of rounds of one rule, from nothing (`level` in `specs/Clocks.antt`), so rows
 //! may be made in any order, and may tell too little.
 //!
-//! Equal blocking receives that follow one another are a block: which of them finds which of their
-//! messages doesn't matter, so no send that one of them has taken races for another. But there a
-//! send of the same rank may race. Where a race is told by blocks, each finder is taken once more
-//! as a block of its own.
+//! A span of calls of one rank is a block where which of its receives and matched probes takes which
+//! of their messages doesn't matter, so that no send that one of them has taken races for another.
+//! They have one pattern, and fetch what they find without waiting; what stands between them returns
+//! at once, or waits for a receive of the span. But there a send of the same rank may race, so spans
+//! whose messages all come from one rank are left alone, and where a race is told by blocks, each
+//! finder is taken once more as a block of its own. Names of blocks are made by what may be wrong,
+//! and are used only where a look at each call shows that they are right.
 //!
 //! Rows take the calls times the columns, in time and in memory. Then the sends are looked at: of
 //! one envelope (the rank, the destination, the communicator and the tag) each finder is looked at
@@ -28,7 +31,7 @@ mod columns;
 mod laws;
 mod race;
 mod rows;
-mod runs;
+mod spans;
 
-pub use laws::runs_are_blocks;
+pub use laws::spans_are_blocks;
 pub use race::{Race, first_race};

@@ -1,18 +1,18 @@
 //! The first race of a run.
 
-ghost use Rattle.std.specs.Prelude.{◌≡◌, ◌≤◌, ◌<◌, ℕ, IfOk, IfNone, IfSome, Bool, IsTrue, Option, Some, slice_index};
+ghost use Rattle.std.specs.Prelude.{◌≡◌, ◌≤◌, ◌<◌, ℕ, IfOk, IfNone, IfSome, Bool, IsTrue, Option, Some, slice_index, false};
 ghost use Rattle.semantics.specs.Machine.{opening, after_all, IsFinishedRun, partner_of};
 ghost use Rattle.races.specs.Races.{BuffersNoneByChoice, NamesSources};
 ghost use Rattle.races.specs.Tells.{Table};
 ghost use Rattle.semantics.specs.Headline.{NoStuckRun};
-ghost use Rattle.clocks.specs.Clocks.{AreRows, IsRow, IsNoRace, IsChecked, HasNoRaceShown, IsTaken, IsSingle, IsSurePartner, block_of, with_partners};
-ghost use Rattle.clocks.specs.Rows.{AreRuns};
+ghost use Rattle.clocks.specs.Clocks.{AreRows, IsRow, IsNoRace, IsChecked, HasNoRaceShown, IsTaken, IsSingle, IsSurePartner, IsRival, IsRivalIfSingle, block_of, with_partners};
+ghost use Rattle.clocks.specs.Spans.{AreSpans};
 ghost use Rattle.callorder.specs.Programs.{are_of_one_rank};
 
 use crate::classes::{Classes, end_open};
 use crate::columns::Columns;
 use crate::rows::rows_of;
-use crate::runs::{is_single, name, names_of, or_none};
+use crate::spans::{is_single, name, names_of, no_names};
 use callorder::LongProgram;
 use leastrun::names_sources;
 use semantics::{State, Step};
@@ -69,7 +69,8 @@ fn is_known(columns: &Columns, rows: &[Vec<usize>], call: usize, finder: usize) 
 
 /// Whether the send is matched with a call up to the finder, or within its block.
 fn is_taken(state: &State, names: &[usize], send: usize, finder: usize) -> bool
-    ensures { IsTrue result → IsTaken (block_of names.now) state.now send finder }
+    ensures taken { IsTrue result → IsTaken (block_of names.now) state.now send finder }
+    ensures later { result ≡ false → (taker : ℕ) → partner_of state.now send ≡ Some taker → taker ≤ finder → ⊥ }
 {
     match state.partner(send) {
         None => false,
@@ -90,7 +91,8 @@ fn is_of_own_rank(
     own: usize,
     other: usize,
 ) -> bool
-    ensures { IsTrue result → IsTrue (are_of_one_rank program.now own other) × IsSingle (block_of names.now) finder }
+    ensures one { IsTrue result → IsTrue (are_of_one_rank program.now own other) × IsSingle (block_of names.now) finder }
+    ensures apart { result ≡ false → IsSingle (block_of names.now) finder → are_of_one_rank program.now own other ≡ false }
 {
     program.are_of_one_rank(own, other) && is_single(names, finder)
 }
@@ -106,8 +108,9 @@ fn is_no_race(
     own: usize,
     other: usize,
 ) -> bool
-    requires { AreRuns program.now (block_of names.now) }
-    ensures { IsTrue result → (knows : Table) → AreRows columns.now knows rows.now → IsNoRace program.now (block_of names.now) state.now knows finder own other }
+    requires { AreSpans program.now (block_of names.now) }
+    ensures none { IsTrue result → (knows : Table) → AreRows columns.now knows rows.now → IsNoRace program.now (block_of names.now) state.now knows finder own other }
+    ensures rival { result ≡ false → partner_of state.now finder ≡ Some own → IsRivalIfSingle program.now (block_of names.now) state.now other finder }
 {
     if !program.are_fit(other, finder) {
         return true;
@@ -131,8 +134,9 @@ fn is_no_race_if_found(
     finder: usize,
     other: usize,
 ) -> bool
-    requires { AreRuns program.now (block_of names.now) }
-    ensures { IsTrue result → (knows : Table) → AreRows columns.now knows rows.now → (own : ℕ) → partner_of state.now finder ≡ Some own → IsNoRace program.now (block_of names.now) state.now knows finder own other }
+    requires { AreSpans program.now (block_of names.now) }
+    ensures none { IsTrue result → (knows : Table) → AreRows columns.now knows rows.now → (own : ℕ) → partner_of state.now finder ≡ Some own → IsNoRace program.now (block_of names.now) state.now knows finder own other }
+    ensures rival { result ≡ false → IsRivalIfSingle program.now (block_of names.now) state.now other finder }
 {
     match state.partner(finder) {
         None => true,
@@ -151,8 +155,9 @@ fn race_between(
     first: usize,
     end: usize,
 ) -> Option<usize>
-    requires { AreRuns program.now (block_of names.now) }
-    ensures { IfNone result ((knows : Table) → AreRows columns.now knows rows.now → (finder own : ℕ) → first ≤ finder → finder < end → partner_of state.now finder ≡ Some own → IsNoRace program.now (block_of names.now) state.now knows finder own other) }
+    requires { AreSpans program.now (block_of names.now) }
+    ensures none { IfNone result ((knows : Table) → AreRows columns.now knows rows.now → (finder own : ℕ) → first ≤ finder → finder < end → partner_of state.now finder ≡ Some own → IsNoRace program.now (block_of names.now) state.now knows finder own other) }
+    ensures rival { IfSome result (IsRivalIfSingle program.now (block_of names.now) state.now other) }
 {
     for finder in first..end {
         if !is_no_race_if_found(program, state, columns, rows, names, finder, other) {
@@ -186,8 +191,9 @@ fn race_of_send(
     classes: &Classes,
     other: usize,
 ) -> Option<usize>
-    requires { AreRuns program.now (block_of names.now) }
-    ensures { IfNone result ((knows : Table) → AreRows columns.now knows rows.now → IsChecked program.now (block_of names.now) state.now knows other) }
+    requires { AreSpans program.now (block_of names.now) }
+    ensures none { IfNone result ((knows : Table) → AreRows columns.now knows rows.now → IsChecked program.now (block_of names.now) state.now knows other) }
+    ensures rival { IfSome result (IsRivalIfSingle program.now (block_of names.now) state.now other) }
 {
     let first = classes.first_open(program, state, names, other);
     let start = classes.rank_start(program, other);
@@ -207,8 +213,9 @@ fn race_in(
     names: &[usize],
     classes: &Classes,
 ) -> Option<Race>
-    requires { AreRuns program.now (block_of names.now) }
-    ensures { IfNone result ((knows : Table) → AreRows columns.now knows rows.now → (other : ℕ) → IsChecked program.now (block_of names.now) state.now knows other) }
+    requires { AreSpans program.now (block_of names.now) }
+    ensures none { IfNone result ((knows : Table) → AreRows columns.now knows rows.now → (other : ℕ) → IsChecked program.now (block_of names.now) state.now knows other) }
+    ensures rival { IfSome result (λ race. IsRivalIfSingle program.now (block_of names.now) state.now race.send race.finder) }
 {
     for send in 0..program.calls().len() {
         if let Some(finder) = race_of_send(program, state, columns, rows, names, classes, send) {
@@ -265,7 +272,7 @@ fn partners_of(
     Ok(partners)
 }
 
-/// The first race with equal receives as blocks; where there is one, that with each finder as a
+/// The first race with spans of receives as blocks; where there is one, that with each finder as a
 /// block of its own. The only error is want of memory.
 fn race_of(
     alloc: Global,
@@ -273,9 +280,10 @@ fn race_of(
     state: &State,
     run: &[Step],
 ) -> Result<Option<Race>, AllocError>
-    ensures { IfOk result (λ found. IfNone found (HasNoRaceShown program.now state.now)) }
+    ensures none { IfOk result (λ found. IfNone found (HasNoRaceShown program.now state.now)) }
+    ensures rival { IfOk result (λ found. IfSome found (IsRival program.now state.now)) }
 {
-    let names = names_of(alloc, program)?;
+    let names = names_of(alloc, program, state)?;
     match race_by(alloc, program, state, names.as_slice(), run) {
         Err(error) => Err(error),
         Ok(None) => Ok(None),
@@ -290,9 +298,10 @@ fn race_alone(
     state: &State,
     run: &[Step],
 ) -> Result<Option<Race>, AllocError>
-    ensures { IfOk result (λ found. IfNone found (HasNoRaceShown program.now state.now)) }
+    ensures none { IfOk result (λ found. IfNone found (HasNoRaceShown program.now state.now)) }
+    ensures rival { IfOk result (λ found. IfSome found (IsRival program.now state.now)) }
 {
-    let names = or_none(alloc, program, Vec::new(alloc));
+    let names = no_names(alloc, program);
     race_by(alloc, program, state, names.as_slice(), run)
 }
 
@@ -304,8 +313,9 @@ fn race_by(
     names: &[usize],
     run: &[Step],
 ) -> Result<Option<Race>, AllocError>
-    requires { AreRuns program.now (block_of names.now) }
-    ensures { IfOk result (λ found. IfNone found (HasNoRaceShown program.now state.now)) }
+    requires { AreSpans program.now (block_of names.now) }
+    ensures none { IfOk result (λ found. IfNone found (HasNoRaceShown program.now state.now)) }
+    ensures rival { IfOk result (λ found. IfSome found (λ race. IsRivalIfSingle program.now (block_of names.now) state.now race.send race.finder)) }
 {
     let _calls = program.calls();
     let partners = partners_of(alloc, program, state, names)?;
@@ -333,6 +343,7 @@ pub fn first_race(
     requires choice { BuffersNoneByChoice program.now run.now }
     ensures none { result ≡ Ok None → NoStuckRun program.now }
     ensures named { NamesSources program.now → result ≡ Ok None }
+    ensures race { IfOk result (λ found. IfSome found (IsRival program.now (after_all (opening program.now) run.now))) }
 {
     let _calls = program.calls();
     if names_sources(program) {
