@@ -1,5 +1,5 @@
 -- From what is decided of a program to what is decided of its text.
-use Rattle.std.proofs.Common.{◌≡◌, ℕ, List, Ok, Result}
+use Rattle.std.proofs.Common.{ℕ, List}
 use Rattle.calltext.specs.Limits.{long}
 use Rattle.callorder.specs.Programs.{MpiProgram}
 use Rattle.callorder.specs.Resolving.{IsTextOfWithin}

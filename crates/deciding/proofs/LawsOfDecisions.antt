@@ -1,12 +1,11 @@
 -- What holds of each decision.
-use Rattle.std.proofs.Common.{◌≡◌, ℕ, Bool, true, false, not, List, Option, Some, None, IsTrue, refl, subst, arith}
+use Rattle.std.proofs.Common.{◌≡◌, ℕ, Bool, true, false, not, List, Option, Some, None, refl, subst, arith}
 use Rattle.calltext.specs.Limits.{long, short}
 use Rattle.callorder.specs.Calls.{pattern_of}
 use Rattle.callorder.specs.Programs.{MpiProgram, call_at}
 use Rattle.callorder.specs.Resolving.{IsTextOf, IsTextOfWithin}
 use Rattle.callorder.specs.declared.calls.Call.{Call}
 use Rattle.callorder.proofs.FirstFaults.{one_program_of_bytes_within, same_program_within}
-use Rattle.semantics.specs.declared.state.Step.{Step}
 use Rattle.semantics.specs.Headline.{NoStuckRun}
 use Rattle.semantics.specs.Machine.{IsStuckRun}
 use Rattle.races.specs.Races.{names_source, NamesSources}

@@ -1,28 +1,28 @@
 -- A call that two sends of different ranks fit takes any source.
-use Rattle.std.proofs.Common.{◌≡◌, ℕ, ◌⊎◌, inl, inr, Bool, true, false, not, ◌&&◌, ◌==◌, Option, Some, None, IsTrue, is_some, refl, sym, ap, subst, ◌∙◌}
+use Rattle.std.proofs.Common.{◌≡◌, ℕ, ◌⊎◌, inl, inr, Bool, true, false, not, ◌==◌, Option, Some, None, IsTrue, is_some, refl, sym, ap, subst, ◌∙◌}
 use Rattle.std.proofs.lemmas.Bool.{eqb-true, eq-eqb}
 use Rattle.calltext.proofs.Conjunctions.{and_true}
 use Rattle.callorder.specs.declared.calls.Call.{Call}
 use Rattle.callorder.specs.declared.calls.Message.{Message}
 use Rattle.callorder.specs.declared.calls.Pattern.{Pattern}
 use Rattle.callorder.specs.Calls.{covers, fits_between, message_of, pattern_of}
-use Rattle.callorder.specs.Programs.{MpiProgram, are_fit, are_of_one_rank, are_of_one_rank_calls, call_at, fit_calls, is_of_rank, takes}
+use Rattle.callorder.specs.Programs.{MpiProgram, are_fit, are_of_one_rank, are_of_one_rank_calls, call_at, fit_calls, takes}
 use Rattle.histories.proofs.Matched.{no_send_is_taker}
 use Rattle.races.proofs.Kept.{takes_fit}
+use Rattle.races.proofs.Steps.{same_some}
 use Rattle.races.specs.Races.{names_source}
 use Rattle.semantics.specs.Machine.{Configuration, partner_of}
 use Rattle.clocks.specs.Clocks.{IsRival}
 use Rattle.clocks.specs.declared.race.Race as rivals
 use Rattle.deciding.specs.Decisions.{IsCaller, IsRace, takes_any_source, takes_any_source_call}
 use Rattle.deciding.specs.declared.decision.Caller.{Caller}
-use Rattle.deciding.specs.declared.decision.Race.{Race}
 
 -- where two sends fit a pattern that names its source, they are of one rank
 one_source : (m n : Message) (r q t : ℕ) (pattern : Pattern) → fits_between r (Some m) t (Some pattern) ≡ true → fits_between q (Some n) t (Some pattern) ≡ true
     → is_some pattern.source ≡ true → r ≡ q
 one_source m n r q t pattern f g named =
-    let a = (and_true (covers pattern.source r) _ (and_true (m.communicator == pattern.communicator) _ (and_true (m.destination == t) _ f).1).1).0 in
-    let b = (and_true (covers pattern.source q) _ (and_true (n.communicator == pattern.communicator) _ (and_true (n.destination == t) _ g).1).1).0 in
+    let a = (and_true _ (covers pattern.source r) (and_true _ (covers pattern.tag m.tag) f).0).1 in
+    let b = (and_true _ (covers pattern.source q) (and_true _ (covers pattern.tag n.tag) g).0).1 in
     by pattern.source named a b
   where
     by : (source : Option ℕ) → is_some source ≡ true → covers source r ≡ true → covers source q ≡ true → r ≡ q
@@ -66,3 +66,26 @@ pub finder_of_fit : (x y : Option Call) → fit_calls x y ≡ true → y ≡ Non
 finder_of_fit None y fit none = absurd (cc)
 finder_of_fit (Some x) None fit none = absurd (cc)
 finder_of_fit (Some x) (Some y) fit none = cc
+
+-- what a rival is told as
+pub own_fits_rival : (p : MpiProgram) (e : Configuration) (rival : rivals.Race) (send : ℕ) → IsRival p e rival
+    → ((c x : ℕ) → partner_of e c ≡ Some x → (takes p c x ≡ true) ⊎ (are_fit p x c ≡ true)) → partner_of e rival.finder ≡ Some send → are_fit p send rival.finder ≡ true
+own_fits_rival p e rival send is fit found = own_fits p rival.finder send rival.send is.fits (fit rival.finder send found)
+
+pub race_of : (p : MpiProgram) (e : Configuration) (rival : rivals.Race) (send : ℕ) (finder found other : Caller) → IsRival p e rival
+    → ((c x : ℕ) → partner_of e c ≡ Some x → (takes p c x ≡ true) ⊎ (are_fit p x c ≡ true)) → partner_of e rival.finder ≡ Some send
+    → IsCaller p finder × (finder.place ≡ rival.finder) → IsCaller p found × (found.place ≡ send) → IsCaller p other × (other.place ≡ rival.send)
+    → IsRace p (record { finder = finder; found = found; other = other })
+race_of p e rival send finder found other is fit partner (f, f_at) (s, s_at) (o, o_at) =
+    let own : are_fit p send rival.finder ≡ true = own_fits_rival p e rival send is fit partner in
+    let same : is.own ≡ send = same_some is.own send (sym is.found ∙ partner) in
+    let apart : are_of_one_rank p send rival.send ≡ false = subst (λ (z : ℕ). are_of_one_rank p z rival.send ≡ false) same is.apart in
+    record {
+      free = subst (λ (z : ℕ). IsTrue (takes_any_source p z)) (sym f_at) (free_of_two p send rival.send rival.finder own is.fits apart);
+      finder = f;
+      found = s;
+      other = o;
+      found_fits = ap (λ (z : ℕ). are_fit p z finder.place) s_at ∙ ap (are_fit p send) f_at ∙ own;
+      other_fits = ap (λ (z : ℕ). are_fit p z finder.place) o_at ∙ ap (are_fit p rival.send) f_at ∙ is.fits;
+      apart = ap (λ (z : ℕ). are_of_one_rank p z other.place) s_at ∙ ap (are_of_one_rank p send) o_at ∙ apart;
+    }

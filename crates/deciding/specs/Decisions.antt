@@ -1,5 +1,5 @@
 -- What one run tells of all runs of a program, and of the program of a text.
-use Rattle.std.specs.Prelude.{◌≡◌, ◌⊎◌, ℕ, Bool, false, not, List, Option, Some, None, IsTrue, Result, Ok, Err}
+use Rattle.std.specs.Prelude.{◌≡◌, ℕ, Bool, false, not, List, Option, Some, None, IsTrue, Result, Ok, Err}
 use Rattle.calltext.specs.declared.fault.ReadFault.{ReadFault}
 use Rattle.calltext.specs.declared.fault.ReadFault.TheVariants as reading
 use Rattle.calltext.specs.Fault.{HasFaultWithin}
@@ -13,7 +13,7 @@ use Rattle.callorder.specs.declared.fault.ResolveFault.{ResolveFault}
 use Rattle.callorder.specs.declared.fault.ResolveFault.TheVariants as resolving
 use Rattle.semantics.specs.Headline.{NoStuckRun, IsNeverStuckWithin, IsStuckRunWithin}
 use Rattle.semantics.specs.Machine.{IsStuckRun}
-use Rattle.races.specs.Races.{names_source, NamesSources}
+use Rattle.races.specs.Races.{names_source}
 use Rattle.deciding.specs.declared.decision.Caller.{Caller}
 use Rattle.deciding.specs.declared.decision.Decision.{Decision}
 use Rattle.deciding.specs.declared.decision.Race.{Race}

@@ -1,4 +1,4 @@
-use Rattle.std.proofs.Common.{◌≡◌, ◌++◌, List, ℕ, map, ap, ◌∙◌}
+use Rattle.std.proofs.Common.{◌++◌, List, ℕ, map, ap, ◌∙◌}
 use Rattle.std.specs.List.{flat_map}
 use Rattle.prooflog.specs.Steps.{step_line, written}
 use Rattle.deciding.proofs.Written.{text_written}
