@@ -1,8 +1,9 @@
 pub mod Listed
-pub mod Adding
 pub mod Entries
+pub mod Queued
 pub mod Slotting
 pub mod Openings
+pub mod Seeking
 pub mod Taking
 pub mod Turns
 pub mod Opening

@@ -1,17 +1,14 @@
--- Open calls: which of them fit, and what a step leaves open.
-use Rattle.std.proofs.Common.{◌≡◌, ℕ, ◌<◌, ◌≤◌, ◌⊎◌, inl, inr, Bool, true, false, not, ◌||◌, List, slice_get, slice_set, slice_index, Option, Some, None, cond, refl, sym, ◌∙◌, ap, subst, arith, length-set, get_or-set_same, get_or-set_other}
-use Rattle.std.proofs.lemmas.Bool.{cases_lt, cases_eq}
+-- Open calls: which of them fit, and what may be found.
+use Rattle.std.proofs.Common.{◌≡◌, ℕ, ◌<◌, ◌≤◌, ◌⊎◌, inl, inr, Bool, true, false, not, ◌||◌, Some, slice_index, cond, refl, sym, ◌∙◌, ap, subst, arith}
 use Rattle.calltext.proofs.Conjunctions.{and_true, and_both}
 use Rattle.callorder.specs.Programs.{MpiProgram, are_fit, is_probe, are_of_one_rank}
 use Rattle.semantics.specs.declared.state.Step.TheVariants.{Issue}
 use Rattle.semantics.specs.Machine.{Configuration, is_issued, is_matched, is_open, CanFind, IsEnabled}
 use Rattle.histories.specs.Laws.{IsOpenPair}
 use Rattle.histories.specs.Places.{find_step}
-use Rattle.races.proofs.Steps.{not_true, is_or_not, issued_within, within_issued, one_rank, one_rank_back, same_some}
-use Rattle.leastrun.specs.declared.slot.Keys.{Keys}
-use Rattle.leastrun.specs.Slots.{slot_at, AreKeysOf}
-use Rattle.leastrun.specs.Waiting.{row, IsPassed, IsKept, is_mate, IsFirstMate, NoMateFrom, IsLeastMate, NoMate, step_between, NoOpenPair, OnlyFresh, IsNext}
-use Rattle.leastrun.proofs.Slotting.{same_slot, not_itself}
+use Rattle.races.proofs.Steps.{not_true, is_or_not, issued_within, within_issued, one_rank, same_some}
+use Rattle.leastrun.specs.Waiting.{is_mate, IsLeastMate, NoMate, step_between, NoOpenPair, IsFresh, IsNext, IsNoIssue}
+use Rattle.leastrun.proofs.Slotting.{not_itself}
 
 -- ---- open calls
 
@@ -46,94 +43,6 @@ mate_open p m c y h = (and_true (is_open p m y) (are_fit p c y || are_fit p y c)
 
 pub mate_fits : (p : MpiProgram) (m : Configuration) (c y : ℕ) → is_mate p m c y ≡ true → (are_fit p c y ≡ true) ⊎ (are_fit p y c ≡ true)
 mate_fits p m c y h = or_cases (are_fit p c y) (are_fit p y c) (and_true (is_open p m y) (are_fit p c y || are_fit p y c) h).1
-
--- ---- the slot of a mate
-
-mate_slots : (p : MpiProgram) (k : Keys) (m : Configuration) (c y : ℕ) → AreKeysOf p k → is_mate p m c y ≡ true → (q : ℕ) × (slot_at p k c ≡ Some q) × (slot_at p k y ≡ Some q)
-mate_slots p k m c y of mate =
-    elim (mate_fits p m c y mate) [
-      | inl h ↦ same_slot p k c y of h
-      | inr h ↦ let same = same_slot p k y c of h in (same.0, same.2, same.1)
-    ]
-
--- a call without a slot has no mate
-pub no_slot : (p : MpiProgram) (k : Keys) (m : Configuration) (c : ℕ) → AreKeysOf p k → slot_at p k c ≡ None → NoMate p m c
-no_slot p k m c of none y mate =
-    let there = mate_slots p k m c y of mate in
-    let both : ◌≡◌ {A = Option ℕ} None (Some there.0) = sym none ∙ there.1 in
-    absurd (cc)
-
-mate_slot : (p : MpiProgram) (k : Keys) (m : Configuration) (c y q : ℕ) → AreKeysOf p k → slot_at p k c ≡ Some q → is_mate p m c y ≡ true → slot_at p k y ≡ Some q
-mate_slot p k m c y q of here mate =
-    let there = mate_slots p k m c y of mate in
-    there.2 ∙ ap (λ (z : ℕ). Some z) (same_some there.0 q (sym there.1 ∙ here))
-
--- where the row's front is passed, a mate stands behind it
-mate_listed : (p : MpiProgram) (k : Keys) (m : Configuration) (rows : List (List ℕ)) (heads : List ℕ) (c y q head : ℕ) → AreKeysOf p k → IsKept p k m rows heads → slot_at p k c ≡ Some q → IsPassed m (row rows q) 0 head → is_mate p m c y ≡ true
-    → (i : ℕ) × (slice_get (row rows q) i ≡ Some y) × (head ≤ i)
-mate_listed p k m rows heads c y q head of kept here passed mate =
-    let opened = mate_open p m c y mate in
-    let there = kept.complete y q opened (mate_slot p k m c y q of here mate) in
-    elim (cases_lt there.0 head) [
-      | inl below ↦
-          let found = passed there.0 (omega arith) below in
-          let same : found.0 ≡ y = same_some found.0 y (sym found.1 ∙ there.1) in
-          let taken : is_matched m y ≡ true = subst (λ (z : ℕ). is_matched m z ≡ true) same found.2 in
-          let free : is_matched m y ≡ false = (open_parts p m y opened).1 in
-          absurd (cc)
-      | inr behind ↦ (there.0, there.1, behind)
-    ]
-
-pub no_mate : (p : MpiProgram) (k : Keys) (m : Configuration) (rows : List (List ℕ)) (heads : List ℕ) (c q head : ℕ) → AreKeysOf p k → IsKept p k m rows heads → slot_at p k c ≡ Some q → IsPassed m (row rows q) 0 head → NoMateFrom p m (row rows q) head c → NoMate p m c
-no_mate p k m rows heads c q head of kept here passed none y mate =
-    let there = mate_listed p k m rows heads c y q head of kept here passed mate in
-    let off = none there.0 y there.2 there.1 in
-    absurd (cc)
-
-pub least_mate : (p : MpiProgram) (k : Keys) (m : Configuration) (rows : List (List ℕ)) (heads : List ℕ) (c q head x : ℕ) → AreKeysOf p k → IsKept p k m rows heads → slot_at p k c ≡ Some q → IsPassed m (row rows q) 0 head → IsFirstMate p m (row rows q) head c x → IsLeastMate p m c x
-least_mate p k m rows heads c q head x of kept here passed found =
-    record {
-      mate = found.mate;
-      least = λ y mate one.
-          let there = mate_listed p k m rows heads c y q head of kept here passed mate in
-          elim (cases_lt there.0 found.place) [
-            | inl before ↦ let off = found.first there.0 y there.2 before there.1 in absurd (cc)
-            | inr after' ↦ elim (cases_eq found.place there.0) [
-              | inl same ↦
-                  let is : x ≡ y = same_some x y (sym found.there ∙ ap (slice_get (row rows q)) same ∙ there.1) in
-                  omega (arith, is)
-              | inr differ ↦
-                  let lower : found.place < there.0 = omega (arith, after', differ) in
-                  let less : x < y = kept.ordered q found.place there.0 x y found.there there.1 lower (one_rank_back p y x one) in
-                  omega (arith, less)
-            ]
-          ];
-    }
-
--- ---- heads
-
-pub passed_on : (m : Configuration) (entries : List ℕ) (old new : ℕ) → IsPassed m entries 0 old → IsPassed m entries old new → IsPassed m entries 0 new
-passed_on m entries old new first second i from below =
-    elim (cases_lt i old) [
-      | inl low ↦ first i from low
-      | inr high ↦ second i high below
-    ]
-
-pub head_set : (p : MpiProgram) (k : Keys) (m : Configuration) (rows : List (List ℕ)) (heads : List ℕ) (q new : ℕ) → IsKept p k m rows heads → q < k.slots → IsPassed m (row rows q) 0 new → IsKept p k m rows (slice_set heads q new)
-head_set p k m rows heads q new kept within passed =
-    record {
-      complete = kept.complete;
-      issued = kept.issued;
-      ordered = kept.ordered;
-      passed = λ other. elim (cases_eq other q) [
-        | inl same ↦
-            let is : slice_index (slice_set heads q new) other ≡ new = ap (slice_index (slice_set heads q new)) same ∙ get_or-set_same heads q new 0 (omega (arith, kept.all_heads, within)) in
-            subst (λ (z : ℕ). IsPassed m (row rows z) 0 (slice_index (slice_set heads q new) other)) (sym same) (subst (λ (z : ℕ). IsPassed m (row rows q) 0 z) (sym is) passed)
-        | inr differ ↦ subst (λ (z : ℕ). IsPassed m (row rows other) 0 z) (sym (get_or-set_other heads q other new 0 differ)) (kept.passed other)
-      ];
-      all_rows = kept.all_rows;
-      all_heads = length-set heads q new ∙ kept.all_heads;
-    }
 
 -- ---- what may be found
 
@@ -188,20 +97,20 @@ find_next p m s f can =
       settled = λ rank buffered e. absurd (no_issue_step (is_probe p f) s f rank buffered e);
     }
 
-by_send : (p : MpiProgram) (m : Configuration) (c x : ℕ) → OnlyFresh p m (Some c) → is_open p m c ≡ true → IsLeastMate p m c x → are_fit p c x ≡ true → CanFind p m c x
+by_send : (p : MpiProgram) (m : Configuration) (c x : ℕ) → IsFresh p m (Some c) → is_open p m c ≡ true → IsLeastMate p m c x → are_fit p c x ≡ true → CanFind p m c x
 by_send p m c x fresh opened found fit =
     can_find p m c x opened (mate_open p m c x found.mate) fit
-    (λ e below one free fits. elim (fresh e x (pair_made p m e x free (mate_open p m c x found.mate) fits)) [
+    (λ e below one free fits. elim (fresh.only e x (pair_made p m e x free (mate_open p m c x found.mate) fits)) [
       | inl is ↦ let same : c ≡ e = same_some c e is in absurd (omega (arith, same, below))
       | inr is ↦ let same : c ≡ x = same_some c x is in absurd (not_itself p c (subst (λ (z : ℕ). are_fit p c z ≡ true) (sym same) fit))
     ])
     (λ g below one free fits. let least : x ≤ g = found.least g (mate_made p m c g free (inl fits)) one in absurd (omega (arith, least, below)))
 
-by_finder : (p : MpiProgram) (m : Configuration) (c x : ℕ) → OnlyFresh p m (Some c) → is_open p m c ≡ true → IsLeastMate p m c x → are_fit p x c ≡ true → CanFind p m x c
+by_finder : (p : MpiProgram) (m : Configuration) (c x : ℕ) → IsFresh p m (Some c) → is_open p m c ≡ true → IsLeastMate p m c x → are_fit p x c ≡ true → CanFind p m x c
 by_finder p m c x fresh opened found fit =
     can_find p m x c (mate_open p m c x found.mate) opened fit
     (λ e below one free fits. let least : x ≤ e = found.least e (mate_made p m c e free (inr fits)) one in absurd (omega (arith, least, below)))
-    (λ g below one free fits. elim (fresh x g (pair_made p m x g (mate_open p m c x found.mate) free fits)) [
+    (λ g below one free fits. elim (fresh.only x g (pair_made p m x g (mate_open p m c x found.mate) free fits)) [
       | inl is ↦ let same : c ≡ x = same_some c x is in absurd (not_itself p c (subst (λ (z : ℕ). are_fit p z c ≡ true) (sym same) fit))
       | inr is ↦ let same : c ≡ g = same_some c g is in absurd (omega (arith, same, below))
     ])
@@ -211,30 +120,37 @@ where_not a b (inl h) off = absurd (cc)
 where_not a b (inr h) off = h
 
 -- the step between the fresh call and its earliest mate may be taken
-pub next_between : (p : MpiProgram) (m : Configuration) (c x : ℕ) → OnlyFresh p m (Some c) → is_open p m c ≡ true → IsLeastMate p m c x → IsNext p m (step_between p c x)
+pub next_between : (p : MpiProgram) (m : Configuration) (c x : ℕ) → IsFresh p m (Some c) → is_open p m c ≡ true → IsLeastMate p m c x → IsNext p m (step_between p c x)
 next_between p m c x fresh opened found =
     elim (is_or_not (are_fit p c x)) [
       | inl fits ↦ subst (λ (z : Bool). IsNext p m (cond z (find_step (is_probe p x) c x) (find_step (is_probe p c) x c))) (sym fits) (find_next p m c x (by_send p m c x fresh opened found fits))
       | inr off ↦ subst (λ (z : Bool). IsNext p m (cond z (find_step (is_probe p x) c x) (find_step (is_probe p c) x c))) (sym off) (find_next p m x c (by_finder p m c x fresh opened found (where_not (are_fit p c x) (are_fit p x c) (mate_fits p m c x found.mate) off)))
     ]
 
+pub between_is_find : (p : MpiProgram) (c x : ℕ) → IsNoIssue (step_between p c x)
+between_is_find p c x rank buffered is =
+    elim (is_or_not (are_fit p c x)) [
+      | inl fits ↦ no_issue_step (is_probe p x) c x rank buffered (ap (λ (z : Bool). cond z (find_step (is_probe p x) c x) (find_step (is_probe p c) x c)) (sym fits) ∙ is)
+      | inr off ↦ no_issue_step (is_probe p c) x c rank buffered (ap (λ (z : Bool). cond z (find_step (is_probe p x) c x) (find_step (is_probe p c) x c)) (sym off) ∙ is)
+    ]
+
 pub pair_open : (p : MpiProgram) (m : Configuration) (s f : ℕ) → IsOpenPair p m s f → (is_open p m s ≡ true) × (is_open p m f ≡ true)
 pair_open p m s f pair = (open_made p m s pair.send_issued pair.send_open, open_made p m f pair.finder_issued pair.finder_open)
 
 -- no pair is open where the fresh call is not
-pub none_where_closed : (p : MpiProgram) (m : Configuration) (c : ℕ) → OnlyFresh p m (Some c) → is_open p m c ≡ false → NoOpenPair p m
+pub none_where_closed : (p : MpiProgram) (m : Configuration) (c : ℕ) → IsFresh p m (Some c) → is_open p m c ≡ false → NoOpenPair p m
 none_where_closed p m c fresh off s f pair =
     let both = pair_open p m s f pair in
-    elim (fresh s f pair) [
+    elim (fresh.only s f pair) [
       | inl is ↦ let on : is_open p m c ≡ true = subst (λ (z : ℕ). is_open p m z ≡ true) (sym (same_some c s is)) both.0 in absurd (cc)
       | inr is ↦ let on : is_open p m c ≡ true = subst (λ (z : ℕ). is_open p m z ≡ true) (sym (same_some c f is)) both.1 in absurd (cc)
     ]
 
 -- nor where it has no mate
-pub none_where_no_mate : (p : MpiProgram) (m : Configuration) (c : ℕ) → OnlyFresh p m (Some c) → NoMate p m c → NoOpenPair p m
+pub none_where_no_mate : (p : MpiProgram) (m : Configuration) (c : ℕ) → IsFresh p m (Some c) → NoMate p m c → NoOpenPair p m
 none_where_no_mate p m c fresh none s f pair =
     let both = pair_open p m s f pair in
-    elim (fresh s f pair) [
+    elim (fresh.only s f pair) [
       | inl is ↦ none f (mate_made p m c f both.1 (inl (subst (λ (z : ℕ). are_fit p z f ≡ true) (sym (same_some c s is)) pair.fit)))
       | inr is ↦ none s (mate_made p m c s both.0 (inr (subst (λ (z : ℕ). are_fit p s z ≡ true) (sym (same_some c f is)) pair.fit)))
     ]

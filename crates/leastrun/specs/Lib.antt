@@ -1,3 +1,4 @@
 pub mod Slots
+pub mod Queues
 pub mod Waiting
 pub mod LeastBuffered

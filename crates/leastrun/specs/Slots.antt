@@ -1,52 +1,59 @@
--- Slots: each send and each finder has one, and those that fit have the same.
-use Rattle.std.specs.Prelude.{◌≡◌, ℕ, ◌+◌, ◌*◌, ◌%◌, Bool, true, false, IsTrue, Option, Some, None, is_some}
-use Rattle.std.specs.Option.{unwrap_or}
+-- Slots: each finder has one, and each send one for each form that a pattern may have; a send and a finder that fit have
+-- one slot in the finder's form.
+use Rattle.std.specs.Prelude.{◌≡◌, ℕ, ◌+◌, ◌*◌, ◌%◌, ◌^◌, Bool, true, false, List, Option, Some, None, is_some, slice_get}
 use Rattle.callorder.specs.declared.calls.Call.{Call}
 use Rattle.callorder.specs.declared.calls.Message.{Message}
 use Rattle.callorder.specs.declared.calls.Pattern.{Pattern}
 use Rattle.callorder.specs.Calls.{message_of, pattern_of}
 use Rattle.callorder.specs.Programs.{MpiProgram, call_at}
-use Rattle.races.specs.Races.{NamesSources}
-use Rattle.leastrun.specs.declared.slot.Keys.{Keys}
+use Rattle.leastrun.specs.declared.slot.Form.{Form}
 
-abbrev pub mix : ℕ → ℕ → ℕ → ℕ
-mix slots one other = (one * 1000003 + other) % slots
+abbrev pub mix : ℕ → ℕ → ℕ
+mix one other = ((one * 11400714819323198485) % 2 ^ 64 + other) % 2 ^ 64
 
--- the number where it is to tell, and else 0
-abbrev pub told : Bool → ℕ → ℕ
-told true number = number
-told false number = 0
+-- a number for what is named, and another one for what isn't
+abbrev pub told : Option ℕ → ℕ
+told None = 0
+told (Some number) = number + 1
 
-abbrev pub slot_of : Keys → ℕ → ℕ → ℕ → ℕ → ℕ
-slot_of k rank communicator source tag =
-    mix k.slots (mix k.slots (mix k.slots rank communicator) (told k.by_source source)) (told k.by_tag tag)
+-- the slot of what a rank is sent by this communicator, from this source and with this tag, or any
+abbrev pub slot_of : ℕ → ℕ → Option ℕ → Option ℕ → ℕ
+slot_of rank communicator source tag = mix (mix (mix rank communicator) (told source)) (told tag)
 
-abbrev pub slot_between : Keys → ℕ → Option Message → Option Pattern → Option ℕ
-slot_between k rank None None = None
-slot_between k rank None (Some pattern) = Some (slot_of k rank pattern.communicator (unwrap_or pattern.source 0) (unwrap_or pattern.tag 0))
-slot_between k rank (Some message) pattern = Some (slot_of k message.destination message.communicator rank message.tag)
+-- the number where it is named
+abbrev pub named : Bool → ℕ → Option ℕ
+named true number = Some number
+named false number = None
 
-abbrev pub slot_of_call : Keys → Call → Option ℕ
-slot_of_call k call = slot_between k call.rank (message_of call.kind) (pattern_of call.kind)
+abbrev pub slot_of_message : Form → ℕ → Option Message → Option ℕ
+slot_of_message form rank None = None
+slot_of_message form rank (Some message) =
+    Some (slot_of message.destination message.communicator (named form.source rank) (named form.tag message.tag))
 
-abbrev pub slot_of_some : Keys → Option Call → Option ℕ
-slot_of_some k None = None
-slot_of_some k (Some call) = slot_of_call k call
+-- the slot of a send in this form
+abbrev pub send_slot : Form → Call → Option ℕ
+send_slot form call = slot_of_message form call.rank (message_of call.kind)
 
--- the slot of the call at this place
-abbrev pub slot_at : MpiProgram → Keys → ℕ → Option ℕ
-slot_at p k c = slot_of_some k (call_at p c)
+abbrev pub slot_of_pattern : ℕ → Option Pattern → Option ℕ
+slot_of_pattern rank None = None
+slot_of_pattern rank (Some pattern) = Some (slot_of rank pattern.communicator pattern.source pattern.tag)
 
-abbrev pub names_tag : Option Pattern → Bool
-names_tag None = true
-names_tag (Some pattern) = is_some pattern.tag
+-- the slot of a finder
+abbrev pub finder_slot : Call → Option ℕ
+finder_slot call = slot_of_pattern call.rank (pattern_of call.kind)
 
--- each receive, matched probe and probe names its tag
-abbrev pub NamesTags : MpiProgram → Type 0
-NamesTags p = (c : ℕ) (call : Call) → call_at p c ≡ Some call → IsTrue (names_tag (pattern_of call.kind))
+-- which of its source and its tag the pattern names
+abbrev pub form_of : Pattern → Form
+form_of pattern = record { source = is_some pattern.source; tag = is_some pattern.tag }
 
--- Sources tell slots apart only where each finder names its source, and tags only where each names
--- its tag.
-pub record AreKeysOf (p : MpiProgram) (k : Keys) : Type 0 where
-  pub source : k.by_source ≡ true → NamesSources p
-  pub tag : k.by_tag ≡ true → NamesTags p
+abbrev pub Lists : List Form → Form → Type 0
+Lists forms form = (i : ℕ) × (slice_get forms i ≡ Some form)
+
+-- the new list has what the old one has, and the pattern's form
+pub record ListsMore (old new : List Form) (pattern : Option Pattern) : Type 0 where
+  pub kept : (form : Form) → Lists old form → Lists new form
+  pub more : (x : Pattern) → pattern ≡ Some x → Lists new (form_of x)
+
+-- the form of each receive, matched probe and probe is listed
+abbrev pub HasForms : MpiProgram → List Form → Type 0
+HasForms p forms = (c : ℕ) (call : Call) (x : Pattern) → call_at p c ≡ Some call → pattern_of call.kind ≡ Some x → Lists forms (form_of x)

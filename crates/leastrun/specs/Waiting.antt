@@ -1,60 +1,80 @@
--- What waits: the sends and finders of each slot in the order in which they were issued, and up to
--- where they have found each other.
-use Rattle.std.specs.Prelude.{◌≡◌, ℕ, ◌<◌, ◌≤◌, ◌⊎◌, ◌++◌, Bool, true, false, ◌&&◌, ◌||◌, IsTrue, List, [], ◌∷◌, length, Option, Some, None, slice_get, slice_set, slice_index, slice_index_or, cond}
+-- What waits: the open sends and finders in their rows, in the order in which they were issued.
+use Rattle.std.specs.Prelude.{◌≡◌, ℕ, ◌<◌, ◌≤◌, ◌⊎◌, Bool, true, false, ◌&&◌, ◌||◌, IsTrue, List, Option, Some, None, slice_get, cond, nat_lt}
 use Rattle.calltext.specs.declared.call.Policy.TheVariants.{Always}
-use Rattle.callorder.specs.Programs.{MpiProgram, are_fit, are_of_one_rank, is_probe}
+use Rattle.callorder.specs.declared.calls.Call.{Call}
+use Rattle.callorder.specs.Programs.{MpiProgram, call_at, are_fit, are_of_one_rank, is_probe}
 use Rattle.semantics.specs.declared.state.Step.{Step}
-use Rattle.semantics.specs.declared.state.Step.TheVariants.{Issue}
-use Rattle.semantics.specs.Machine.{Configuration, IsEnabled, is_issued, is_matched, is_open, can_issue}
+use Rattle.semantics.specs.declared.state.Step.TheVariants.{Issue, Match, See}
+use Rattle.semantics.specs.Machine.{Configuration, IsEnabled, is_issued, is_open, can_issue}
 use Rattle.histories.specs.Laws.{IsOpenPair}
 use Rattle.histories.specs.Places.{find_step}
-use Rattle.leastrun.specs.declared.slot.Keys.{Keys}
-use Rattle.leastrun.specs.Slots.{slot_at}
+use Rattle.leastrun.specs.declared.slot.Form.{Form}
+use Rattle.leastrun.specs.declared.rows.Rows.{Rows}
+use Rattle.leastrun.specs.declared.tables.Tables.{Tables}
+use Rattle.leastrun.specs.Slots.{send_slot, finder_slot, HasForms}
+use Rattle.leastrun.specs.Queues.{row, StandsIn}
 
--- the slot's row
-abbrev pub row : List (List ℕ) → ℕ → List ℕ
-row rows q = slice_index_or rows q []
+-- a send stands in the row of each of these forms
+abbrev pub IsSendIn : List Form → Rows → Call → ℕ → Type 0
+IsSendIn forms rows call c = (i q : ℕ) (form : Form) → slice_get forms i ≡ Some form → send_slot form call ≡ Some q → StandsIn rows q c
 
-abbrev pub added_at : List (List ℕ) → ℕ → Option ℕ → List (List ℕ)
-added_at rows c None = rows
-added_at rows c (Some q) = slice_set rows q (row rows q ++ c ∷ [])
+-- a finder stands in its row
+abbrev pub IsFinderIn : Rows → Call → ℕ → Type 0
+IsFinderIn rows call c = (q : ℕ) → finder_slot call ≡ Some q → StandsIn rows q c
 
--- the call at the end of its slot's row
-abbrev pub added : MpiProgram → Keys → List (List ℕ) → ℕ → List (List ℕ)
-added p k rows c = added_at rows c (slot_at p k c)
-
--- each entry of the row from one place up to before another is matched
-abbrev pub IsPassed : Configuration → List ℕ → ℕ → ℕ → Type 0
-IsPassed m entries from upto = (i : ℕ) → from ≤ i → i < upto → (e : ℕ) × (slice_get entries i ≡ Some e) × (is_matched m e ≡ true)
-
--- Each open send and finder stands in its slot's row; what stands in a row is issued; calls of one
--- rank stand there in their order; and what stands before the row's head is matched.
-pub record IsKept (p : MpiProgram) (k : Keys) (m : Configuration) (rows : List (List ℕ)) (heads : List ℕ) : Type 0 where
-  pub complete : (c q : ℕ) → is_open p m c ≡ true → slot_at p k c ≡ Some q → (i : ℕ) × (slice_get (row rows q) i ≡ Some c)
+-- what stands in a row is issued, and calls of one rank stand there in their order
+pub record AreInOrder (p : MpiProgram) (m : Configuration) (rows : Rows) : Type 0 where
   pub issued : (q i e : ℕ) → slice_get (row rows q) i ≡ Some e → is_issued p m e ≡ true
-  pub ordered : (q i j d e : ℕ) → slice_get (row rows q) i ≡ Some d → slice_get (row rows q) j ≡ Some e → i < j → are_of_one_rank p d e ≡ true → d < e
-  pub passed : (q : ℕ) → IsPassed m (row rows q) 0 (slice_index heads q)
-  pub all_rows : length rows ≡ k.slots
-  pub all_heads : length heads ≡ k.slots
+  pub ordered : (q i j d e : ℕ) → slice_get (row rows q) i ≡ Some d → slice_get (row rows q) j ≡ Some e → i < j → are_of_one_rank p d e ≡ true → d ≤ e
+
+-- Each open call but the fresh one stands in its rows: a send in the row of each form that a finder of the program has, a
+-- finder in the row of its own.
+pub record IsKept (p : MpiProgram) (fresh : Option ℕ) (m : Configuration) (t : Tables) : Type 0 where
+  pub all_forms : HasForms p t.forms.items
+  pub sent : (c : ℕ) (call : Call) → is_open p m c ≡ true → (fresh ≡ Some c → ⊥) → call_at p c ≡ Some call → IsSendIn t.forms.items t.sends call c
+  pub sought : (c : ℕ) (call : Call) → is_open p m c ≡ true → (fresh ≡ Some c → ⊥) → call_at p c ≡ Some call → IsFinderIn t.finders call c
+  pub send_order : AreInOrder p m t.sends
+  pub finder_order : AreInOrder p m t.finders
 
 -- the other call is open and fits this one, as its send or as its finder
 abbrev pub is_mate : MpiProgram → Configuration → ℕ → ℕ → Bool
 is_mate p m c other = is_open p m other && (are_fit p c other || are_fit p other c)
 
--- the first mate of the call in the row, from a place on
-pub record IsFirstMate (p : MpiProgram) (m : Configuration) (entries : List ℕ) (from c other : ℕ) : Type 0 where
+-- the first mate of the call in the row
+pub record IsFirstMate (p : MpiProgram) (m : Configuration) (entries : List ℕ) (c other : ℕ) : Type 0 where
   pub place : ℕ
   pub there : slice_get entries place ≡ Some other
   pub mate : is_mate p m c other ≡ true
-  pub first : (i e : ℕ) → from ≤ i → i < place → slice_get entries i ≡ Some e → is_mate p m c e ≡ false
+  pub first : (i e : ℕ) → i < place → slice_get entries i ≡ Some e → is_mate p m c e ≡ false
 
-abbrev pub NoMateFrom : MpiProgram → Configuration → List ℕ → ℕ → ℕ → Type 0
-NoMateFrom p m entries from c = (i e : ℕ) → from ≤ i → slice_get entries i ≡ Some e → is_mate p m c e ≡ false
+abbrev pub NoMateAmong : MpiProgram → Configuration → List ℕ → ℕ → Type 0
+NoMateAmong p m entries c = (i e : ℕ) → slice_get entries i ≡ Some e → is_mate p m c e ≡ false
+
+-- a mate of the call, and the earliest one of its rank in the slot's row
+pub record IsLeastIn (p : MpiProgram) (m : Configuration) (rows : Rows) (q c other : ℕ) : Type 0 where
+  pub mate : is_mate p m c other ≡ true
+  pub least : (y : ℕ) → is_mate p m c y ≡ true → StandsIn rows q y → are_of_one_rank p y other ≡ true → other ≤ y
+
+abbrev pub NoMateIn : MpiProgram → Configuration → Rows → ℕ → ℕ → Type 0
+NoMateIn p m rows q c = (y : ℕ) → is_mate p m c y ≡ true → StandsIn rows q y → ⊥
+
+abbrev pub lesser : Option ℕ → Option ℕ → Option ℕ
+lesser None other = other
+lesser (Some one) None = Some one
+lesser (Some one) (Some other) = cond (nat_lt other one) (Some other) (Some one)
 
 -- a mate of the call, and the earliest one of its rank
 pub record IsLeastMate (p : MpiProgram) (m : Configuration) (c other : ℕ) : Type 0 where
   pub mate : is_mate p m c other ≡ true
   pub least : (y : ℕ) → is_mate p m c y ≡ true → are_of_one_rank p y other ≡ true → other ≤ y
+
+-- no open finder is one that the call fits
+abbrev pub NoFinder : MpiProgram → Configuration → ℕ → Type 0
+NoFinder p m c = (y : ℕ) → is_open p m y ≡ true → are_fit p c y ≡ true → ⊥
+
+-- no open send fits the call
+abbrev pub NoSend : MpiProgram → Configuration → ℕ → Type 0
+NoSend p m c = (y : ℕ) → is_open p m y ≡ true → are_fit p y c ≡ true → ⊥
 
 abbrev pub NoMate : MpiProgram → Configuration → ℕ → Type 0
 NoMate p m c = (y : ℕ) → is_mate p m c y ≡ true → ⊥
@@ -68,9 +88,24 @@ step_between p c other =
 abbrev pub NoOpenPair : MpiProgram → Configuration → Type 0
 NoOpenPair p m = (s f : ℕ) → IsOpenPair p m s f → ⊥
 
--- each open pair is one of this call
-abbrev pub OnlyFresh : MpiProgram → Configuration → Option ℕ → Type 0
-OnlyFresh p m fresh = (s f : ℕ) → IsOpenPair p m s f → (fresh ≡ Some s) ⊎ (fresh ≡ Some f)
+-- The fresh call, if there is one, is the last issued one of its rank, and each open pair is one of it.
+pub record IsFresh (p : MpiProgram) (m : Configuration) (fresh : Option ℕ) : Type 0 where
+  pub only : (s f : ℕ) → IsOpenPair p m s f → (fresh ≡ Some s) ⊎ (fresh ≡ Some f)
+  pub issued : (c : ℕ) → fresh ≡ Some c → is_issued p m c ≡ true
+  pub last : (c d : ℕ) → fresh ≡ Some c → is_issued p m d ≡ true → are_of_one_rank p d c ≡ true → d ≤ c
+
+-- the fresh call after a step
+abbrev pub fresh_after : Configuration → Option ℕ → Step → Option ℕ
+fresh_after m fresh (Issue rank buffered) = slice_get m.next rank
+fresh_after m fresh (Match s t) = fresh
+fresh_after m fresh (See s f) = fresh
+
+abbrev pub IsNoIssue : Step → Type 0
+IsNoIssue step = (rank : ℕ) (buffered : Bool) → step ≡ Issue rank buffered → ⊥
+
+-- before an issue no call is fresh
+abbrev pub IsSettled : Option ℕ → Step → Type 0
+IsSettled fresh step = (rank : ℕ) (buffered : Bool) → step ≡ Issue rank buffered → fresh ≡ None
 
 -- An enabled step that buffers nothing by choice; an issue only where no open finder fits an open
 -- send.

@@ -1,15 +1,15 @@
 //! What an issued call may find, or be found by.
 
-ghost use Rattle.std.specs.Prelude.{◌≡◌, ◌<◌, ◌^◌, ℕ, true, IfSome, IfNone, IfOk, OnOk, length, Some};
-ghost use Rattle.semantics.specs.Machine.{IsEnabled, after};
-ghost use Rattle.leastrun.specs.Slots.{AreKeysOf};
-ghost use Rattle.leastrun.specs.Waiting.{row, added, IsPassed, IsKept, is_mate, IsFirstMate, NoMateFrom, IsLeastMate, NoMate, step_between, NoOpenPair, OnlyFresh, IsNext};
+ghost use Rattle.std.specs.Prelude.{◌≡◌, ℕ, IfSome, IfNone, Some};
+ghost use Rattle.callorder.specs.Programs.{call_at};
+ghost use Rattle.leastrun.specs.Waiting.{IsKept, IsFresh, AreInOrder, is_mate, IsFirstMate, NoMateAmong, IsLeastIn, NoMateIn, lesser, IsLeastMate, NoFinder, NoSend, NoMate, step_between, NoOpenPair, IsNext, IsNoIssue};
 
 use crate::rows::Rows;
-use crate::slot::{Keys, slot};
-use callorder::LongProgram;
+use crate::slot::{finder_slot, send_slot};
+use crate::tables::Tables;
+use callorder::{Call, LongProgram};
 use semantics::{State, Step};
-use std::alloc::AllocError;
+use std::collections::VecDeque;
 
 /// Whether the other call is open and fits this one, as its send or as its finder.
 fn is_mate(program: &LongProgram, state: &State, call: usize, other: usize) -> bool
@@ -18,64 +18,109 @@ fn is_mate(program: &LongProgram, state: &State, call: usize, other: usize) -> b
     state.is_open(program, other) && (program.are_fit(call, other) || program.are_fit(other, call))
 }
 
-/// The first mate of the call in the row, from a place on.
+/// The first mate of the call in the row.
 fn first_mate(
     program: &LongProgram,
     state: &State,
-    row: &[usize],
-    from: usize,
+    row: &VecDeque<usize>,
     call: usize,
 ) -> Option<usize>
-    ensures some { IfSome result (IsFirstMate program.now state.now row.now from call) }
-    ensures none { IfNone result (NoMateFrom program.now state.now row.now from call) }
+    ensures some { IfSome result (IsFirstMate program.now state.now row.now.items call) }
+    ensures none { IfNone result (NoMateAmong program.now state.now row.now.items call) }
 {
-    for place in from..row.len() {
-        if is_mate(program, state, call, row[place]) {
-            return Some(row[place]);
+    for place in 0..row.len() {
+        let other = row[place];
+        if is_mate(program, state, call, other) {
+            return Some(other);
         }
     }
     None
 }
 
-/// The first place, from one on, of a call that is not matched.
-fn skip(state: &State, row: &[usize], from: usize) -> usize
-    ensures { IsPassed state.now row.now from result }
-{
-    for place in from..row.len() {
-        let Some(_partner) = state.partner(row[place]) else {
-            return place;
-        };
-    }
-    row.len()
-}
-
-/// The earliest call that fits this one and is open, of some rank.
-fn mate_of(
+/// The earliest mate of the call, of some rank, in the slot's row.
+fn mate_in(
     program: &LongProgram,
     state: &State,
-    keys: Keys,
     rows: &Rows,
-    heads: &mut Vec<usize>,
+    slot: u64,
     call: usize,
 ) -> Option<usize>
-    requires some { 0 < keys.slots }
-    requires few { keys.slots < 2 ^ 32 }
-    requires of { AreKeysOf program.now keys }
-    requires kept { IsKept program.now keys state.now rows.now heads.old.items }
-    ensures kept { IsKept program.now keys state.now rows.now heads.new.items }
+    requires order { AreInOrder program.now state.now rows.now }
+    ensures some { IfSome result (IsLeastIn program.now state.now rows.now slot call) }
+    ensures none { IfNone result (NoMateIn program.now state.now rows.now slot call) }
+{
+    let Some(row) = rows.row(slot) else {
+        return None;
+    };
+    first_mate(program, state, row, call)
+}
+
+/// The earlier one of two calls, if there is any.
+fn lesser(one: Option<usize>, other: Option<usize>) -> Option<usize>
+    ensures { result ≡ lesser one other }
+{
+    match (one, other) {
+        (None, _) => other,
+        (Some(_), None) => one,
+        (Some(first), Some(second)) => { if second < first { other } else { one } }
+    }
+}
+
+/// The earliest finder that waits and that the fresh call fits, if that is a send.
+fn finder_for(
+    program: &LongProgram,
+    state: &State,
+    tables: &Tables,
+    known: &Call,
+    call: usize,
+) -> Option<usize>
+    requires kept { IsKept program.now (Some call) state.now tables.now }
+    requires known { call_at program.now call ≡ Some known.now }
+    ensures some { IfSome result (IsLeastMate program.now state.now call) }
+    ensures none { IfNone result (NoFinder program.now state.now call) }
+{
+    let mut best = None;
+    for place in 0..tables.forms.len() {
+        let Some(slot) = send_slot(tables.forms[place], known) else {
+            return None;
+        };
+        best = lesser(best, mate_in(program, state, &tables.finders, slot, call));
+    }
+    best
+}
+
+/// The earliest send of some rank that waits and fits the fresh call, if that is a finder.
+fn send_for(
+    program: &LongProgram,
+    state: &State,
+    tables: &Tables,
+    known: &Call,
+    call: usize,
+) -> Option<usize>
+    requires kept { IsKept program.now (Some call) state.now tables.now }
+    requires known { call_at program.now call ≡ Some known.now }
+    ensures some { IfSome result (IsLeastMate program.now state.now call) }
+    ensures none { IfNone result (NoSend program.now state.now call) }
+{
+    let Some(slot) = finder_slot(known) else {
+        return None;
+    };
+    mate_in(program, state, &tables.sends, slot, call)
+}
+
+/// The earliest call that fits the fresh one and is open, of some rank.
+fn mate_of(program: &LongProgram, state: &State, tables: &Tables, call: usize) -> Option<usize>
+    requires kept { IsKept program.now (Some call) state.now tables.now }
     ensures some { IfSome result (IsLeastMate program.now state.now call) }
     ensures none { IfNone result (NoMate program.now state.now call) }
 {
     let Some(known) = program.call(call) else {
         return None;
     };
-    let Some(slot) = slot(keys, &known) else {
-        return None;
+    let Some(finder) = finder_for(program, state, tables, &known, call) else {
+        return send_for(program, state, tables, &known, call);
     };
-    let row = rows.row(slot);
-    let head = skip(state, row, heads[slot]);
-    heads[slot] = head;
-    first_mate(program, state, row, head, call)
+    Some(finder)
 }
 
 /// The step by which one of two calls that fit finds the other.
@@ -107,75 +152,19 @@ fn step_between(program: &LongProgram, call: usize, other: usize) -> Step
 }
 
 /// The step by which the fresh call, the one issued last, finds another one or is found, or `None`
-/// where it is matched or fits no open call. What is matched at the front of its row is passed over
-/// from then on.
-pub fn find_of(
-    program: &LongProgram,
-    state: &State,
-    keys: Keys,
-    rows: &Rows,
-    heads: &mut Vec<usize>,
-    call: usize,
-) -> Option<Step>
-    requires some { 0 < keys.slots }
-    requires few { keys.slots < 2 ^ 32 }
-    requires of { AreKeysOf program.now keys }
-    requires kept { IsKept program.now keys state.now rows.now heads.old.items }
-    requires fresh { OnlyFresh program.now state.now (Some call) }
-    ensures kept { IsKept program.now keys state.now rows.now heads.new.items }
+/// where it is matched or fits no open call.
+pub fn find_of(program: &LongProgram, state: &State, tables: &Tables, call: usize) -> Option<Step>
+    requires kept { IsKept program.now (Some call) state.now tables.now }
+    requires fresh { IsFresh program.now state.now (Some call) }
     ensures some { IfSome result (IsNext program.now state.now) }
+    ensures find { IfSome result IsNoIssue }
     ensures none { IfNone result (NoOpenPair program.now state.now) }
 {
     if !state.is_open(program, call) {
         return None;
     }
-    let Some(other) = mate_of(program, state, keys, rows, heads, call) else {
+    let Some(other) = mate_of(program, state, tables, call) else {
         return None;
     };
     Some(step_between(program, call, other))
-}
-
-/// Adds a call that is issued to the row of its slot. The only error is want of memory.
-fn add(program: &LongProgram, keys: Keys, rows: &mut Rows, call: usize) -> Result<(), AllocError>
-    requires some { 0 < keys.slots }
-    requires few { keys.slots < 2 ^ 32 }
-    requires all { length rows.old ≡ keys.slots }
-    ensures { OnOk result (rows.new ≡ added program.now keys rows.old call) }
-{
-    let Some(known) = program.call(call) else {
-        return Ok(());
-    };
-    let Some(slot) = slot(keys, &known) else {
-        return Ok(());
-    };
-    rows.add(slot, call)
-}
-
-/// Takes in that the step is taken: a call that it issues waits in its row from then on, and is the
-/// fresh one. Gives the fresh call after the step. The only error is want of memory.
-pub fn take_in(
-    program: &LongProgram,
-    state: &State,
-    keys: Keys,
-    rows: &mut Rows,
-    heads: &Vec<usize>,
-    fresh: Option<usize>,
-    step: Step,
-) -> Result<Option<usize>, AllocError>
-    requires some { 0 < keys.slots }
-    requires few { keys.slots < 2 ^ 32 }
-    requires kept { IsKept program.now keys state.now rows.old heads.now.items }
-    requires fresh { OnlyFresh program.now state.now fresh }
-    requires next { IsNext program.now state.now step }
-    ensures kept { OnOk result (IsKept program.now keys (after state.now step) rows.new heads.now.items) }
-    ensures fresh { IfOk result (OnlyFresh program.now (after state.now step)) }
-{
-    let Step::Issue { rank, .. } = step else {
-        return Ok(fresh);
-    };
-    let Some(call) = state.next_of(rank) else {
-        return Ok(fresh);
-    };
-    add(program, keys, rows, call)?;
-    Ok(Some(call))
 }

@@ -1,52 +1,73 @@
-//! Rows of numbers, one for each slot.
+//! Rows of calls that wait, one for each slot.
 
-ghost use Rattle.std.specs.Prelude.{◌≡◌, ◌<◌, ◌++◌, ◌∷◌, [], IfOk, OnOk, length, replicate, slice_index_or, slice_set};
+ghost use Rattle.std.specs.Prelude.{◌≡◌, ℕ, [], OnOk};
+ghost use Rattle.std.specs.Option.{option_copied};
+ghost use Rattle.leastrun.specs.Queues.{row, row_of, IsAdded, IsSkipped, IsPassed};
 
+use semantics::State;
 use std::alloc::{AllocError, Global};
-use std::marker::Model;
+use std::collections::{HashMap, VecDeque};
 
-/// For each slot, from 0, a row of numbers.
+/// For each slot in which calls wait, a row of them.
 #[derive(Drop)]
 pub struct Rows {
-    rows: Vec<Vec<usize>>,
+    alloc: Global,
+    rows: HashMap<u64, VecDeque<usize>>,
 }
 
-impl Model for Rows {
-    ghost use Rattle.std.specs.Prelude.{ℕ, List, map};
-
-    ghost Value = { List (List ℕ) };
-
-    ghost view = { λ r. map (λ row. row.items) r.rows.items };
+/// Takes off the row what is matched at its front.
+fn skip(state: &State, row: &mut VecDeque<usize>)
+    ensures { IsSkipped state.now row.old.items row.new.items }
+{
+    for _ in 0..row.len() {
+        let Some(call) = row.front().copied() else {
+            return;
+        };
+        let Some(_partner) = state.partner(call) else {
+            return;
+        };
+        let _call = row.pop_front();
+    }
 }
 
 impl Rows {
-    /// An empty row for each of so many slots. The only error is want of memory.
-    pub fn new(alloc: Global, slots: usize) -> Result<Rows, AllocError>
-        ensures { IfOk result (λ rows. rows ≡ replicate slots []) }
+    /// No call waits in any slot.
+    pub fn new(alloc: Global) -> Rows
+        ensures { (slot : ℕ) → row result slot ≡ [] }
     {
-        let mut rows = Vec::new(alloc);
-        for _ in 0..slots {
-            rows.push(Vec::new(alloc))?;
+        Rows {
+            alloc,
+            rows: HashMap::new(alloc),
         }
-        Ok(Rows { rows })
     }
 
-    /// Adds the number at the end of the slot's row. The only error is want of memory.
-    pub fn add(&mut self, slot: usize, number: usize) -> Result<(), AllocError>
-        requires { slot < length self.old }
-        ensures { OnOk result (self.new ≡ slice_set self.old slot (slice_index_or self.old slot [] ++ number ∷ [])) }
+    /// Adds the call at the end of the slot's row. The only error is want of memory.
+    pub fn add(&mut self, slot: u64, call: usize) -> Result<(), AllocError>
+        ensures { OnOk result (IsAdded self.old self.new slot call) }
     {
-        self.rows[slot].push(number)?;
+        let mut row = self.rows.remove(&slot).unwrap_or(VecDeque::new(self.alloc));
+        row.push_back(call)?;
+        self.rows.insert(slot, row)?;
         Ok(())
     }
 
-    /// The slot's row, or an empty one where there is none.
-    pub fn row(&self, slot: usize) -> &[usize]
-        ensures { result.now ≡ slice_index_or self.now slot [] }
+    /// The slot's row, if any call waits there.
+    pub fn row(&self, slot: u64) -> Option<&VecDeque<usize>>
+        ensures { row_of (option_copied result) ≡ row self.now slot }
     {
-        match self.rows.get(slot) {
-            None => &[],
-            Some(row) => row.as_slice(),
+        self.rows.get(&slot)
+    }
+
+    /// Takes off the slot's row what is matched at its front.
+    pub fn pass(&mut self, state: &State, slot: u64)
+        ensures { IsPassed state.now self.old self.new }
+    {
+        let Some(row) = self.rows.get_mut(&slot) else {
+            return;
+        };
+        skip(state, row);
+        if row.is_empty() {
+            let _row = self.rows.remove(&slot);
         }
     }
 }

@@ -1,113 +1,124 @@
-//! Which calls wait together: each send and each finder has a slot, and two that fit have the same.
+//! Which calls wait together. A finder has a slot, made of what it asks for, and a send has one for
+//! each form that a pattern may have: a send and a finder that fit have one slot in the finder's
+//! form.
 
-ghost use Rattle.std.specs.Prelude.{◌≡◌, ◌<◌, ◌↔◌, ◌^◌, ℕ, Bool, true, IfSome, IfOk};
-ghost use Rattle.std.specs.List.{list_all};
+ghost use Rattle.std.specs.Prelude.{◌≡◌, ◌<◌, ℕ, true, IfOk, OnOk};
 ghost use Rattle.callorder.specs.Calls.{pattern_of};
-ghost use Rattle.leastrun.specs.Slots.{mix, told, slot_of, slot_of_call, names_tag, NamesTags, AreKeysOf};
+ghost use Rattle.leastrun.specs.Slots.{mix, told, named, slot_of, form_of, send_slot, finder_slot, Lists, ListsMore, HasForms};
 
-use crate::sources::names_sources;
-use callorder::{Call, LongProgram};
+use callorder::{Call, LongProgram, Pattern};
+use std::alloc::{AllocError, Global};
 
-/// What tells slots apart besides the destination and the communicator.
+/// Which of its source and its tag a pattern names.
 #[derive(Clone, Copy)]
-pub struct Keys {
-    /// How many slots there are. They count from 0.
-    pub slots: usize,
-    /// Whether sources tell them apart, which they do only where each finder names its source.
-    pub by_source: bool,
-    /// Whether tags tell them apart, which they do only where each finder names its tag.
-    pub by_tag: bool,
+pub struct Form {
+    /// Whether it names its source.
+    pub source: bool,
+    /// Whether it names its tag.
+    pub tag: bool,
 }
 
-/// Whether the call is no finder, or names its tag.
-fn names_tag(call: &Call) -> bool
-    ensures { result ≡ names_tag (pattern_of call.now.kind) }
+/// A number made of two others.
+fn mix(one: u64, other: u64) -> u64
+    ensures { result ≡ mix one other }
 {
-    match call.kind.pattern() {
-        None => true,
-        Some(pattern) => pattern.tag.is_some(),
+    one.wrapping_mul(11_400_714_819_323_198_485)
+        .wrapping_add(other)
+}
+
+/// A number for what is named, and another one for what isn't.
+fn told(number: Option<u32>) -> u64
+    ensures { result ≡ told number }
+{
+    match number {
+        None => 0,
+        Some(number) => u64::from(number) + 1,
     }
 }
 
-fn all_name_tags(calls: &[Call]) -> bool
-    ensures { result ≡ list_all (λ call. names_tag (pattern_of call.kind)) calls.now }
+/// The slot of what a rank is sent by this communicator, from this source and with this tag, or any.
+fn slot_of(rank: u32, communicator: u32, source: Option<u32>, tag: Option<u32>) -> u64
+    ensures { result ≡ slot_of rank communicator source tag }
 {
-    calls.iter().all(|call| names_tag(call))
+    let place = mix(u64::from(rank), u64::from(communicator));
+    mix(mix(place, told(source)), told(tag))
 }
 
-/// Whether each receive, matched probe and probe names its tag.
-fn names_tags(program: &LongProgram) -> bool
-    ensures { result ≡ true → NamesTags program.now }
+/// The number where it is named.
+fn named(names: bool, number: u32) -> Option<u32>
+    ensures { result ≡ named names number }
 {
-    all_name_tags(program.calls())
+    if names { Some(number) } else { None }
 }
 
-/// A number below the count of slots, made of two others.
-fn mix(slots: usize, one: usize, other: u32) -> usize
-    requires some { 0 < slots }
-    requires low { one < 2 ^ 32 }
-    ensures is { result ≡ mix slots one other }
-    ensures within { result < slots }
+/// The slot of a send in this form, and `None` for another call.
+pub fn send_slot(form: Form, call: &Call) -> Option<u64>
+    ensures { result ≡ send_slot form call.now }
 {
-    (one * 1_000_003 + other as usize) % slots
+    let Some(message) = call.kind.message() else {
+        return None;
+    };
+    let source = named(form.source, call.rank);
+    let tag = named(form.tag, message.tag);
+    Some(slot_of(message.destination, message.communicator, source, tag))
 }
 
-/// The number where it is to tell slots apart, and else 0.
-fn told(tells: bool, number: u32) -> u32
-    ensures { result ≡ told tells number }
+/// The slot of a finder, and `None` for another call.
+pub fn finder_slot(call: &Call) -> Option<u64>
+    ensures { result ≡ finder_slot call.now }
 {
-    if tells { number } else { 0 }
+    let Some(pattern) = call.kind.pattern() else {
+        return None;
+    };
+    Some(slot_of(call.rank, pattern.communicator, pattern.source, pattern.tag))
 }
 
-/// The slot of what a rank is sent by this source, with this tag, by this communicator.
-fn slot_of(keys: Keys, rank: u32, communicator: u32, source: u32, tag: u32) -> usize
-    requires some { 0 < keys.slots }
-    requires few { keys.slots < 2 ^ 32 }
-    ensures is { result ≡ slot_of keys rank communicator source tag }
-    ensures within { result < keys.slots }
+/// Which of its source and its tag this pattern names.
+fn form_of(pattern: Pattern) -> Form
+    ensures { result ≡ form_of pattern }
 {
-    let place = mix(keys.slots, rank as usize, communicator);
-    let from = mix(keys.slots, place, told(keys.by_source, source));
-    mix(keys.slots, from, told(keys.by_tag, tag))
-}
-
-/// The slot of a send or a finder, and `None` for another call.
-pub fn slot(keys: Keys, call: &Call) -> Option<usize>
-    requires some { 0 < keys.slots }
-    requires few { keys.slots < 2 ^ 32 }
-    ensures is { result ≡ slot_of_call keys call.now }
-    ensures within { IfSome result (λ slot. slot < keys.slots) }
-{
-    match call.kind.message() {
-        Some(message) => Some(slot_of(
-            keys,
-            message.destination,
-            message.communicator,
-            call.rank,
-            message.tag,
-        )),
-        None => match call.kind.pattern() {
-            None => None,
-            Some(pattern) => Some(slot_of(
-                keys,
-                call.rank,
-                pattern.communicator,
-                pattern.source.unwrap_or(0),
-                pattern.tag.unwrap_or(0),
-            )),
-        },
+    Form {
+        source: pattern.source.is_some(),
+        tag: pattern.tag.is_some(),
     }
 }
 
-/// What tells the program's slots apart: there is about one for each call, up to some millions.
-pub fn keys_of(program: &LongProgram) -> Keys
-    ensures of { AreKeysOf program.now result }
-    ensures some { 0 < result.slots }
-    ensures few { result.slots < 2 ^ 32 }
+/// Whether the form is listed.
+fn is_listed(forms: &[Form], form: Form) -> bool
+    ensures { result ≡ true → Lists forms.now form }
 {
-    Keys {
-        slots: program.calls().len().min(4_000_000) + 1,
-        by_source: names_sources(program),
-        by_tag: names_tags(program),
+    for place in 0..forms.len() {
+        let one = forms[place];
+        if one.source == form.source && one.tag == form.tag {
+            return true;
+        }
     }
+    false
+}
+
+/// Lists the form of a finder, unless it is listed. The only error is want of memory.
+fn list(forms: &mut Vec<Form>, call: &Call) -> Result<(), AllocError>
+    ensures { OnOk result (ListsMore forms.old.items forms.new.items (pattern_of call.now.kind)) }
+{
+    let Some(pattern) = call.kind.pattern() else {
+        return Ok(());
+    };
+    let form = form_of(pattern);
+    if is_listed(forms, form) {
+        return Ok(());
+    }
+    forms.push(form)?;
+    Ok(())
+}
+
+/// The forms of the program's finders. The only error is want of memory.
+pub fn forms_of(alloc: Global, program: &LongProgram) -> Result<Vec<Form>, AllocError>
+    ensures { IfOk result (λ forms. HasForms program.now forms.items) }
+{
+    let calls = program.calls();
+    let mut forms = Vec::new(alloc);
+    for place in 0..calls.len() {
+        list(&mut forms, &calls[place])?;
+    }
+    Ok(forms)
 }

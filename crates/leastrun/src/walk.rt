@@ -1,14 +1,12 @@
 //! The run that buffers as little as the policy allows.
 
-ghost use Rattle.std.specs.Prelude.{◌≡◌, ◌<◌, ◌^◌, ℕ, true, false, IfSome, IfNone, IfOk, OnOk, length, replicate, Some};
-ghost use Rattle.semantics.specs.Machine.{IsConfigurationOf, IsEnabled, opening, after_all};
-ghost use Rattle.leastrun.specs.Slots.{AreKeysOf};
-ghost use Rattle.leastrun.specs.Waiting.{IsKept, NoOpenPair, OnlyFresh, IsNext, NoIssueOf};
+ghost use Rattle.std.specs.Prelude.{◌≡◌, ℕ, IfSome, IfNone, IfOk, OnOk, Option};
+ghost use Rattle.semantics.specs.Machine.{IsConfigurationOf, opening, after_all};
+ghost use Rattle.leastrun.specs.Waiting.{IsKept, NoOpenPair, IsFresh, fresh_after, IsSettled, IsNext, NoIssueOf};
 ghost use Rattle.leastrun.specs.LeastBuffered.{NothingEnabled, IsLeastBufferedRun};
 
-use crate::lookup::{find_of, take_in};
-use crate::rows::Rows;
-use crate::slot::{Keys, keys_of};
+use crate::lookup::find_of;
+use crate::tables::Tables;
 use callorder::{Kind, LongProgram, Policy};
 use semantics::{State, Step};
 use std::alloc::{AllocError, Global};
@@ -86,49 +84,70 @@ fn next_issue(program: &LongProgram, state: &State, ready: &mut Vec<u32>) -> Opt
     any_issue(program, state)
 }
 
-/// The next step: a find of the fresh call, and where there is none, an issue. `None` where no step
-/// is enabled.
+/// The next step: a find of the fresh call, and where there is none, that call waits from then on,
+/// and the step is an issue. `None` where no step is enabled. The only error is want of memory.
 fn next_step(
     program: &LongProgram,
     state: &State,
-    keys: Keys,
-    rows: &Rows,
-    heads: &mut Vec<usize>,
+    tables: &mut Tables,
     ready: &mut Vec<u32>,
-    fresh: Option<usize>,
-) -> Option<Step>
-    requires some { 0 < keys.slots }
-    requires few { keys.slots < 2 ^ 32 }
-    requires keys { AreKeysOf program.now keys }
+    fresh: &mut Option<usize>,
+) -> Result<Option<Step>, AllocError>
     requires of { IsConfigurationOf program.now state.now }
-    requires kept { IsKept program.now keys state.now rows.now heads.old.items }
-    requires fresh { OnlyFresh program.now state.now fresh }
-    ensures kept { IsKept program.now keys state.now rows.now heads.new.items }
-    ensures some { IfSome result (IsNext program.now state.now) }
-    ensures none { IfNone result (NothingEnabled program.now state.now) }
+    requires kept { IsKept program.now fresh.old state.now tables.old }
+    requires fresh { IsFresh program.now state.now fresh.old }
+    ensures kept { OnOk result (IsKept program.now fresh.new state.now tables.new) }
+    ensures fresh { OnOk result (IsFresh program.now state.now fresh.new) }
+    ensures settled { IfOk result (λ next. IfSome next (IsSettled fresh.new)) }
+    ensures some { IfOk result (λ next. IfSome next (IsNext program.now state.now)) }
+    ensures none { IfOk result (λ next. IfNone next (NothingEnabled program.now state.now)) }
 {
-    let Some(call) = fresh else {
-        return next_issue(program, state, ready);
+    let Some(call) = *fresh else {
+        return Ok(next_issue(program, state, ready));
     };
-    let find = find_of(program, state, keys, rows, heads, call);
+    let find = find_of(program, state, tables, call);
     if find.is_some() {
-        return find;
+        return Ok(find);
     }
-    next_issue(program, state, ready)
+    tables.post(program, state, call)?;
+    *fresh = None;
+    Ok(next_issue(program, state, ready))
 }
 
-/// For each call, where it is the receive on a handle, its matched probe. The only error is want of
-/// memory.
-fn probes_of(alloc: Global, program: &LongProgram) -> Result<Vec<Option<usize>>, AllocError> {
-    let calls = program.calls();
-    let mut probes = vec![in alloc; None; calls.len()]?;
-    for (place, call) in calls.iter().enumerate() {
+/// The fresh call once this step is taken, in a state before it.
+fn fresh_after(state: &State, fresh: Option<usize>, step: Step) -> Option<usize>
+    ensures { result ≡ fresh_after state.now fresh step }
+{
+    match step {
+        Step::Issue { rank, .. } => state.next_of(rank),
+        _ => fresh,
+    }
+}
+
+/// Takes off the rows what is matched at their fronts, now that this step is taken.
+fn pass_by(program: &LongProgram, state: &State, tables: &mut Tables, step: Step)
+    ensures { (fresh : Option ℕ) → IsKept program.now fresh state.now tables.old → IsKept program.now fresh state.now tables.new }
+{
+    match step {
+        Step::Issue { .. } => {}
+        Step::Match { send, taker } => {
+            tables.pass(program, state, send);
+            tables.pass(program, state, taker);
+        }
+        Step::See { probe, .. } => tables.pass(program, state, probe),
+    }
+}
+
+/// The receives on handles, each with its matched probe, in the order of the receives. The only
+/// error is want of memory.
+fn probes_of(alloc: Global, program: &LongProgram) -> Result<Vec<(usize, usize)>, AllocError> {
+    let mut probes = Vec::new(alloc);
+    for (place, call) in program.calls().iter().enumerate() {
         if let Kind::MatchedProbe { receive, .. } = call.kind {
-            if let Some(probe) = probes.get_mut(receive) {
-                *probe = Some(place);
-            }
+            probes.push((receive, place))?;
         }
     }
+    probes.sort()?;
     Ok(probes)
 }
 
@@ -143,11 +162,12 @@ fn wake(program: &LongProgram, ready: &mut Vec<u32>, call: usize) -> Result<(), 
     }
 }
 
-/// The sender of the message that this call, the receive on a handle, fetches.
-fn fetched_from(state: &State, probes: &[Option<usize>], call: usize) -> Option<usize> {
-    match probes.get(call).copied().unwrap_or(None) {
-        None => None,
-        Some(probe) => state.partner(probe),
+/// The send of the message that this call, the receive on a handle, fetches.
+fn fetched_from(state: &State, probes: &[(usize, usize)], call: usize) -> Option<usize> {
+    let place = probes.partition_point(|(receive, _)| *receive < call);
+    match probes.get(place) {
+        Some((receive, probe)) if *receive == call => state.partner(*probe),
+        _ => None,
     }
 }
 
@@ -156,7 +176,7 @@ fn fetched_from(state: &State, probes: &[Option<usize>], call: usize) -> Option<
 fn wake_by(
     program: &LongProgram,
     state: &State,
-    probes: &[Option<usize>],
+    probes: &[(usize, usize)],
     ready: &mut Vec<u32>,
     step: Step,
 ) -> Result<(), AllocError> {
@@ -186,22 +206,12 @@ fn all_ranks(alloc: Global, ranks: u32) -> Result<Vec<u32>, AllocError> {
     Ok(ready)
 }
 
-/// For each slot the place in its row before which all is matched, which is 0. The only error is
-/// want of memory.
-fn no_heads(alloc: Global, slots: usize) -> Result<Vec<usize>, AllocError>
-    ensures { IfOk result (λ heads. heads.items ≡ replicate slots 0) }
-{
-    let heads = vec![in alloc; 0; slots]?;
-    Ok(heads)
-}
-
 /// The run that buffers as little as the policy allows, as far as it goes, and the state after it,
 /// in which no step is enabled. A standard send is issued as buffered only where the policy has
 /// each one buffered. Whether the run finishes or gets stuck, `State::unfinished` of that state
 /// tells. Ranks and calls in the steps count from 0. The only error is want of memory.
 ///
-/// The time is near linear in the calls, unless a call waits long: each one that has its slot then
-/// looks over all those that came since.
+/// The time is near linear in the calls.
 pub fn least_buffered_run(
     alloc: Global,
     program: &LongProgram,
@@ -209,23 +219,23 @@ pub fn least_buffered_run(
     ensures run { IfOk result (λ walked. IsLeastBufferedRun program.now walked.0.items) }
     ensures end { IfOk result (λ walked. walked.1 ≡ after_all (opening program.now) walked.0.items) }
 {
-    let keys = keys_of(program);
     let probes = probes_of(alloc, program)?;
     let mut ready = all_ranks(alloc, program.ranks())?;
-    let mut rows = Rows::new(alloc, keys.slots)?;
-    let mut heads = no_heads(alloc, keys.slots)?;
+    let mut tables = Tables::new(alloc, program)?;
     let mut state = State::start(alloc, program)?;
-    let mut steps = Vec::new(alloc);
+    let most = 2 * program.calls().len() + 1;
+    let mut steps = Vec::with_capacity(alloc, most)?;
     let mut fresh = None;
-    for turn in 0..2 * program.calls().len() + 1 {
-        let Some(step) = next_step(program, &state, keys, &rows, &mut heads, &mut ready, fresh)
-        else {
+    for turn in 0..most {
+        let next = next_step(program, &state, &mut tables, &mut ready, &mut fresh)?;
+        let Some(step) = next else {
             return Ok((steps, state));
         };
         wake_by(program, &state, &probes, &mut ready, step)?;
-        fresh = take_in(program, &state, keys, &mut rows, &heads, fresh, step)?;
+        fresh = fresh_after(&state, fresh, step);
         steps.push(step)?;
         state.apply(program, step);
+        pass_by(program, &state, &mut tables, step);
     }
     Ok((steps, state))
 }

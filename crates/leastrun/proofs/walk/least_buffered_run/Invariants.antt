@@ -1,7 +1,7 @@
 use Rattle.std.proofs.Common.{◌≡◌, length}
 use Rattle.semantics.specs.Machine.{IsConfigurationOf, IsRun, opening, after_all}
 use Rattle.races.specs.Races.{BuffersNoneByChoice}
-use Rattle.leastrun.specs.Waiting.{IsKept, OnlyFresh}
+use Rattle.leastrun.specs.Waiting.{IsKept, IsFresh}
 use Rattle.leastrun.proofs.walk.least_buffered_run.Given as goal
 
 abbrev pub invariant-loop-turn : goal.invariant-loop-turn
@@ -11,7 +11,7 @@ invariant-loop-turn l =
       now : l.state ≡ after_all (opening l.program) l.steps.items;
       run : IsRun l.program (opening l.program) l.steps.items;
       size : length l.steps.items ≡ l.turn;
-      kept : IsKept l.program l.keys l.state l.rows l.heads.items;
-      fresh : OnlyFresh l.program l.state l.fresh;
+      kept : IsKept l.program l.fresh l.state l.tables;
+      fresh : IsFresh l.program l.state l.fresh;
       choice : BuffersNoneByChoice l.program l.steps.items;
     }

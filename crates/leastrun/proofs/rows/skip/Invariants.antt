@@ -1,0 +1,5 @@
+use Rattle.leastrun.specs.Queues.{IsSkipped}
+use Rattle.leastrun.proofs.rows.skip.Given as goal
+
+abbrev pub invariant-loop : goal.invariant-loop
+invariant-loop l = IsSkipped l.state l.fn.row.items l.row.items

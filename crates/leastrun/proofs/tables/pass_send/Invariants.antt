@@ -1,0 +1,5 @@
+use Rattle.leastrun.specs.Queues.{IsPassed}
+use Rattle.leastrun.proofs.tables.pass_send.Given as goal
+
+abbrev pub invariant-loop-place : goal.invariant-loop-place
+invariant-loop-place l = IsPassed l.state l.fn.sends l.sends
