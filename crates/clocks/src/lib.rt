@@ -22,8 +22,7 @@
 //!
 //! Rows take the calls times the columns, in time and in memory. Then the sends are looked at: of
 //! one envelope (the rank, the destination, the communicator and the tag) each finder is looked at
-//! for one send at most, or, in a block with others, for about as many as that block has taken.
-//! Ranks, and calls by their place in the program's list, count from 0.
+//! for one send at most. Ranks, and calls by their place in the program's list, count from 0.
 #![tactic(auto)]
 
 mod classes;

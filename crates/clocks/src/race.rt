@@ -197,7 +197,7 @@ fn race_of_send(
 {
     let first = classes.first_open(program, state, names, other);
     let start = classes.rank_start(program, other);
-    let end = end_open(program, state, other);
+    let end = end_open(program, state, names, other);
     let last = classes.rank_end(program, other);
     let low = larger(first, start);
     let high = smaller(end, last);
