@@ -11,7 +11,7 @@ use Rattle.semantics.proofs.RankOrder.{one_rank_between}
 use Rattle.races.specs.Blocks.{Blocks, HasFellow}
 use Rattle.races.specs.Tells.{Table, tells_return_call}
 use Rattle.races.proofs.Steps.{one_rank, one_rank_made}
-use Rattle.clocks.specs.Clocks.{IsNoRace, ShowsAll, HasEarlier, IsTakenUpTo, IsChecked, level}
+use Rattle.clocks.specs.Clocks.{IsNoRace, ShowsAll, HasEarlier, IsTaken, IsChecked, level}
 use Rattle.clocks.proofs.Levels.{or_left, level_within}
 
 -- what is known where a call is issued is known at each later call of its rank, some rounds later
@@ -96,7 +96,7 @@ checked_shows p block e sure n is checked finder own other found mine fit apart 
     (all_later p block e sure n (length p.calls) other is checked within finder own found fit apart later)
 
 -- a send is checked where it is looked at for each finder that the four bounds leave
-pub checked_by : (p : MpiProgram) (block : Blocks) (e : Configuration) (knows : Table) (other first start end last low high : ℕ) → ((f : ℕ) → f < first → are_fit p other f ≡ true → HasEarlier p block e other f) → ((f : ℕ) → f < start → are_fit p other f ≡ true → ⊥) → ((f : ℕ) → end ≤ f → are_fit p other f ≡ true → IsTakenUpTo e other f) → ((f : ℕ) → last ≤ f → are_fit p other f ≡ true → ⊥) → ((n : ℕ) → first ≤ n → start ≤ n → low ≤ n) → ((n : ℕ) → n < end → n < last → n < high) → ((f own : ℕ) → low ≤ f → f < high → partner_of e f ≡ Some own → IsNoRace p block e knows f own other) → IsChecked p block e knows other
+pub checked_by : (p : MpiProgram) (block : Blocks) (e : Configuration) (knows : Table) (other first start end last low high : ℕ) → ((f : ℕ) → f < first → are_fit p other f ≡ true → HasEarlier p block e other f) → ((f : ℕ) → f < start → are_fit p other f ≡ true → ⊥) → ((f : ℕ) → end ≤ f → are_fit p other f ≡ true → IsTaken block e other f) → ((f : ℕ) → last ≤ f → are_fit p other f ≡ true → ⊥) → ((n : ℕ) → first ≤ n → start ≤ n → low ≤ n) → ((n : ℕ) → n < end → n < last → n < high) → ((f own : ℕ) → low ≤ f → f < high → partner_of e f ≡ Some own → IsNoRace p block e knows f own other) → IsChecked p block e knows other
 checked_by p block e knows other first start end last low high a b c d from to looked f own found = by (are_fit p other f) refl
   where
     by : (fit : Bool) → are_fit p other f ≡ fit → IsNoRace p block e knows f own other ⊎ HasEarlier p block e other f
@@ -109,7 +109,7 @@ checked_by p block e knows other first start end last low high a b c d from to l
                 | inl lt ↦ absurd (b f lt is)
                 | inr above ↦
                     elim (cases_lt f end) [
-                      | inr past ↦ inl (λ fit apart later. absurd (let w = c f past is in later w.taker w.found (inl w.first)))
+                      | inr past ↦ inl (λ fit apart later. absurd (let w = c f past is in later w.taker w.found w.which))
                       | inl before ↦
                           elim (cases_lt f last) [
                             | inr past ↦ absurd (d f past is)

@@ -20,6 +20,19 @@ name_below p block (suc c) spans =
       | inr e ↦ omega (arith, e)
     ]
 
+-- from the first call of a span up to any call of it, each call has its name
+pub named_from : (p : MpiProgram) (block : Blocks) (g c : ℕ) → AreSpans p block → block g ≤ c → c ≤ g → block c ≡ block g
+named_from p block zero c spans from upto = let at : c ≡ zero = omega (arith, upto) in ap block at
+named_from p block (suc b) c spans from upto =
+    elim (cases_lt c (suc b)) [
+      | inr ge ↦ let at : c ≡ suc b = omega (arith, ge, upto) in ap block at
+      | inl lt ↦
+          elim (spans.next b) [
+            | inr e ↦ absurd (omega (arith, e, from, lt))
+            | inl w ↦ named_from p block b c spans (let e = w.1 in omega (arith, e, from)) (omega (arith, lt)) ∙ sym w.1
+          ]
+    ]
+
 -- between two of one name each call has that name and is joined to the next one
 pub chain : (p : MpiProgram) (block : Blocks) (f g c : ℕ) → AreSpans p block → f ≤ c → c < g → block f ≡ block g → IsJoined p block c × (block c ≡ block f)
 chain p block f zero c spans from lt same = absurd (omega (arith, lt))

@@ -1,12 +1,11 @@
 -- Rows of some level that show no race.
 use Rattle.std.proofs.Common.{zero, suc, ap, ◌∙◌, IfSome, [], ◌∷◌, ◌++◌, slice_get, ◌≡◌, ℕ, ◌<◌, ◌≤◌, ◌⊎◌, inl, inr, true, Option, None, IfNone, IfOk, Ok, Err, Result, List, length, ◌+◌, refl, take, get_or, Some, sym, subst, arith}
-use Rattle.std.proofs.lemmas.Option.{slice_get-get_or}
+use Rattle.std.proofs.lemmas.Option.{slice_get-get_or, slice_get_within}
 use Rattle.semantics.proofs.Runs.{IsRun-at}
 use Rattle.std.proofs.lemmas.Bool.{cases_lt}
-use Rattle.std.specs.Global.{Vec}
 use Rattle.calltext.specs.Limits.{long}
 use Rattle.callorder.specs.declared.calls.Call.{Call}
-use Rattle.callorder.specs.Programs.{are_of_one_rank, MpiProgram, are_fit, IsProgramWithin, fit_calls}
+use Rattle.callorder.specs.Programs.{are_of_one_rank, MpiProgram, are_fit, IsProgramWithin, call_at, fit_calls}
 use Rattle.semantics.specs.declared.state.Step.{Step}
 use Rattle.semantics.specs.Machine.{Configuration, opening, after_all, partner_of, IsEnabled, IsRun, IsFinishedRun, IsStuckRun}
 use Rattle.races.specs.Races.{BuffersNoneByChoice}
@@ -15,9 +14,10 @@ use Rattle.races.specs.Blocks.{Blocks, HasFellow, IsSure, ShowsNoRaceOfBlocks}
 use Rattle.races.proofs.Telling.{programs_are_in_order}
 use Rattle.races.proofs.LikeRuns.{table_of_blocks_never_sticks}
 use Rattle.clocks.specs.declared.race.Race.{Race}
-use Rattle.clocks.specs.Clocks.{Numbering, AreRows, AreSound, IsNoRace, ShowsAll, HasNoRaceShown, HasEarlier, IsTakenUpTo, IsTaken, IsSingle, IsSurePartner, IsChecked, IsRival, IsRivalIfSingle, level}
+use Rattle.clocks.specs.declared.rows.Count.{Count}
+use Rattle.clocks.specs.Clocks.{Numbering, AreTold, AreToldSoundly, IsNoRace, ShowsAll, HasNoRaceShown, HasEarlier, IsTaken, IsSingle, IsSurePartner, IsChecked, IsRival, IsRivalIfSingle, level}
 use Rattle.clocks.specs.Spans.{AreSpans}
-use Rattle.clocks.proofs.Members.{chain, name_below, spans_are_blocks}
+use Rattle.clocks.proofs.Members.{chain, name_below, named_from, spans_are_blocks}
 use Rattle.std.specs.Option.{unwrap_or}
 use Rattle.clocks.specs.Clocks.{with_partners}
 use Rattle.clocks.proofs.Counts.{same_some}
@@ -67,8 +67,8 @@ none_is_stuck p steps other is finished choice w stuck =
     table_of_blocks_never_sticks p steps other w.block w.sure w.knows order.0 order.1 finished choice (spans_are_blocks p w.block w.spans)
     w.is_sure w.justified (shows p w.block (after_all (opening p) steps) w.knows w.shows) stuck
 
-pub none_shown : (p : MpiProgram) (block : Blocks) (e sure : Configuration) (ns : Numbering) (rows : List (Vec ℕ)) (found : Option Race) → IsProgramWithin long p → AreSpans p block → ((c x : ℕ) → partner_of sure c ≡ Some x → IsSurePartner block e c x) → AreSound p sure ns rows → IfNone found ((knows : Table) → AreRows ns knows rows → (other : ℕ) → IsChecked p block e knows other) → IfNone found (HasNoRaceShown p e)
-none_shown p block e sure ns rows None is spans within sound shown =
+pub none_shown : (p : MpiProgram) (block : Blocks) (e sure : Configuration) (ns : Numbering) (told : List Count) (found : Option Race) → IsProgramWithin long p → AreSpans p block → ((c x : ℕ) → partner_of sure c ≡ Some x → IsSurePartner block e c x) → AreToldSoundly p sure ns told → IfNone found ((knows : Table) → AreTold ns knows told → (other : ℕ) → IsChecked p block e knows other) → IfNone found (HasNoRaceShown p e)
+none_shown p block e sure ns told None is spans within sound shown =
     record {
       block = block;
       spans = spans;
@@ -76,13 +76,13 @@ none_shown p block e sure ns rows None is spans within sound shown =
       knows = level p sure (sound.rounds + length p.calls);
       is_sure = is_sure p block e sure spans within;
       justified = level_justified p sure (sound.rounds + length p.calls);
-      shows = checked_shows p block e sure sound.rounds is (shown (level p sure sound.rounds) sound.are);
+      shows = checked_shows p block e sure sound.rounds is (shown (level p sure sound.rounds) sound.told);
     }
-none_shown p block e sure ns rows (Some race) is spans within sound shown = shown
+none_shown p block e sure ns told (Some race) is spans within sound shown = shown
 
-pub checked_if : (p : MpiProgram) (block : Blocks) (e : Configuration) (ns : Numbering) (rows : List (Vec ℕ)) (other first start end last low high : ℕ) (r : Option ℕ) → ((f : ℕ) → f < first → are_fit p other f ≡ true → HasEarlier p block e other f) → ((f : ℕ) → f < start → are_fit p other f ≡ true → ⊥) → ((f : ℕ) → end ≤ f → are_fit p other f ≡ true → IsTakenUpTo e other f) → ((f : ℕ) → last ≤ f → are_fit p other f ≡ true → ⊥) → ((n : ℕ) → first ≤ n → start ≤ n → low ≤ n) → ((n : ℕ) → n < end → n < last → n < high) → IfNone r ((knows : Table) → AreRows ns knows rows → (f own : ℕ) → low ≤ f → f < high → partner_of e f ≡ Some own → IsNoRace p block e knows f own other) → IfNone r ((knows : Table) → AreRows ns knows rows → IsChecked p block e knows other)
-checked_if p block e ns rows other first start end last low high None a b c d from to looked = λ knows are. checked_by p block e knows other first start end last low high a b c d from to (looked knows are)
-checked_if p block e ns rows other first start end last low high (Some x) a b c d from to looked = looked
+pub checked_if : (p : MpiProgram) (block : Blocks) (e : Configuration) (ns : Numbering) (told : List Count) (other first start end last low high : ℕ) (r : Option ℕ) → ((f : ℕ) → f < first → are_fit p other f ≡ true → HasEarlier p block e other f) → ((f : ℕ) → f < start → are_fit p other f ≡ true → ⊥) → ((f : ℕ) → end ≤ f → are_fit p other f ≡ true → IsTaken block e other f) → ((f : ℕ) → last ≤ f → are_fit p other f ≡ true → ⊥) → ((n : ℕ) → first ≤ n → start ≤ n → low ≤ n) → ((n : ℕ) → n < end → n < last → n < high) → IfNone r ((knows : Table) → AreTold ns knows told → (f own : ℕ) → low ≤ f → f < high → partner_of e f ≡ Some own → IsNoRace p block e knows f own other) → IfNone r ((knows : Table) → AreTold ns knows told → IsChecked p block e knows other)
+checked_if p block e ns told other first start end last low high None a b c d from to looked = λ knows are. checked_by p block e knows other first start end last low high a b c d from to (looked knows are)
+checked_if p block e ns told other first start end last low high (Some x) a b c d from to looked = looked
 
 -- one of four reasons shows that the other send doesn't race
 pub no_race_by_rank : (p : MpiProgram) (block : Blocks) (e : Configuration) (knows : Table) (finder own other : ℕ) → AreSpans p block → are_of_one_rank p own other ≡ true → IsSingle block finder → IsNoRace p block e knows finder own other
@@ -96,19 +96,27 @@ pub open_below : (p : MpiProgram) (block : Blocks) (e : Configuration) (earlier 
 open_below p block e earlier taker finder spans found below t is (inl le) = let same : taker ≡ t = same_some taker t (sym found ∙ is) in absurd (omega (arith, le, below, same, name_below p block taker spans))
 open_below p block e earlier taker finder spans found below t is (inr one) = let same : taker ≡ t = same_some taker t (sym found ∙ is) in let at : block taker ≡ block finder = ap block same ∙ one in absurd (omega (arith, at, below, name_below p block finder spans))
 
+-- what stands from the first call of the taker's block on is of that block, or behind the taker
+pub taken_from : (p : MpiProgram) (block : Blocks) (e : Configuration) (send taker finder : ℕ) → AreSpans p block → partner_of e send ≡ Some taker → block taker ≤ finder → IsTaken block e send finder
+taken_from p block e send taker finder spans found from =
+    record {
+      taker = taker;
+      found = found;
+      which = elim (cases_lt finder taker) [ inl lt ↦ inr (sym (named_from p block taker finder spans from (omega (arith, lt)))) | inr ge ↦ inl ge ];
+    }
+
 -- the step at a place of a run is enabled where the steps before it lead
 pub enabled_there : (p : MpiProgram) (steps : List Step) (i : ℕ) (d : Step) (m : Configuration) → i < length steps → m ≡ after_all (opening p) (take i steps) → IsRun p (opening p) steps → IsEnabled p m (get_or steps i d)
 enabled_there p steps i d m within now run =
     subst (λ (z : Configuration). IsEnabled p z (get_or steps i d)) (sym now) (IsRun-at p (opening p) steps i (get_or steps i d) run (slice_get-get_or steps i d within))
 
-fits_there : (o u : Option Call) → fit_calls o u ≡ true → (x : Call) × (o ≡ Some x)
-fits_there None u fit = absurd (cc)
-fits_there (Some x) u fit = (x, refl)
-
 finder_there : (o u : Option Call) → fit_calls o u ≡ true → (x : Call) × (u ≡ Some x)
 finder_there None u fit = absurd (cc)
 finder_there (Some x) None fit = absurd (cc)
 finder_there (Some x) (Some y) fit = (y, refl)
+
+pub fits_within : (p : MpiProgram) (send finder : ℕ) → are_fit p send finder ≡ true → finder < length p.calls
+fits_within p send finder fit = let w = finder_there (call_at p send) (call_at p finder) fit in slice_get_within p.calls finder w.0 w.1
 
 pub shown_if : (p : MpiProgram) (e m : Configuration) (r : Result (Option Race) AllocError) → m ≡ e → IfOk r (λ found. IfNone found (HasNoRaceShown p m)) → r ≡ Ok None → HasNoRaceShown p e
 shown_if p e m r same h is =

@@ -2,7 +2,7 @@
 
 ghost use Rattle.std.specs.Prelude.{◌≡◌, ◌≤◌, ◌<◌, ℕ, IsTrue, IfSome};
 ghost use Rattle.callorder.specs.Programs.{are_fit, are_of_one_rank};
-ghost use Rattle.clocks.specs.Clocks.{HasEarlier, IsTakenUpTo, IsOfRank, block_of};
+ghost use Rattle.clocks.specs.Clocks.{HasEarlier, IsTaken, IsOfRank, block_of};
 ghost use Rattle.clocks.specs.Spans.{AreSpans};
 
 use crate::spans::name;
@@ -89,14 +89,15 @@ fn is_earlier(program: &LongProgram, earlier: usize, other: usize) -> bool
         && have_one_message(program, earlier, other)
 }
 
-/// A call from which on each one is the send's taker or behind it. Of a send that is not taken it
-/// is the number of calls.
-pub fn end_open(program: &LongProgram, state: &State, other: usize) -> usize
-    ensures { (finder : ℕ) → result ≤ finder → IsTrue (are_fit program.now other finder) → IsTakenUpTo state.now other finder }
+/// A call from which on each one is of the block of the send's taker, or behind the taker. Of a send
+/// that is not taken it is the number of calls.
+pub fn end_open(program: &LongProgram, state: &State, names: &[usize], other: usize) -> usize
+    requires { AreSpans program.now (block_of names.now) }
+    ensures { (finder : ℕ) → result ≤ finder → IsTrue (are_fit program.now other finder) → IsTaken (block_of names.now) state.now other finder }
 {
     match state.partner(other) {
         None => program.calls().len(),
-        Some(taker) => taker,
+        Some(taker) => name(names, taker),
     }
 }
 

@@ -23,6 +23,7 @@ pub struct Columns {
     starts: Vec<usize>,
     listed: Vec<usize>,
     marks: Vec<Option<Mark>>,
+    ranks: Vec<Option<usize>>,
 }
 
 impl Model for Columns {
@@ -33,21 +34,36 @@ impl Model for Columns {
     ghost view = { λ c. record { starts = c.starts.items; listed = c.listed.items } };
 }
 
+/// The operation that is done where this call has returned, if there is one that isn't done as soon
+/// as it is issued.
+pub fn done_by_return(program: &LongProgram, call: usize) -> Option<usize> {
+    match program.call(call)?.kind {
+        Kind::Send { blocking: true, .. }
+        | Kind::Receive { blocking: true, .. }
+        | Kind::MatchedProbe { .. }
+        | Kind::Probe { .. } => Some(call),
+        Kind::Wait { operation } => Some(operation),
+        _ => None,
+    }
+}
+
 /// The finder of any source that is complete where this call has returned.
 fn completed(program: &LongProgram, call: usize) -> Option<usize> {
-    let known = program.call(call)?;
-    let finder = match known.kind {
-        Kind::Receive { blocking: true, .. } | Kind::MatchedProbe { .. } | Kind::Probe { .. } => {
-            call
-        }
-        Kind::Wait { operation } => operation,
-        _ => return None,
-    };
+    let finder = done_by_return(program, call)?;
     let pattern = program.call(finder)?.kind.pattern()?;
     if pattern.source.is_none() {
         Some(finder)
     } else {
         None
+    }
+}
+
+/// Notes that this is the column of the call's rank.
+fn note_column(program: &LongProgram, ranks: &mut Vec<Option<usize>>, call: usize, column: usize) {
+    if let Some(known) = program.call(call) {
+        if let Some(place) = ranks.get_mut(known.rank as usize) {
+            *place = Some(column);
+        }
     }
 }
 
@@ -58,6 +74,7 @@ impl Columns {
         let mut starts = Vec::new(alloc);
         let mut listed = Vec::new(alloc);
         let mut marks: Vec<Option<Mark>> = vec![in alloc; None; calls]?;
+        let mut ranks: Vec<Option<usize>> = vec![in alloc; None; program.ranks() as usize]?;
         let mut column = 0;
         let mut last = None;
         for call in 0..calls {
@@ -69,6 +86,7 @@ impl Columns {
                 if !same {
                     column = starts.len();
                     starts.push(listed.len())?;
+                    note_column(program, &mut ranks, call, column);
                 }
                 last = Some(call);
                 if let Some(mark) = marks.get_mut(finder) {
@@ -84,6 +102,7 @@ impl Columns {
             starts,
             listed,
             marks,
+            ranks,
         })
     }
 
@@ -95,6 +114,11 @@ impl Columns {
     /// Where the finder is counted, if it is.
     pub fn mark(&self, finder: usize) -> Option<Mark> {
         self.marks.get(finder).copied().unwrap_or(None)
+    }
+
+    /// The column of the rank, if it has one.
+    pub fn column(&self, rank: u32) -> Option<usize> {
+        self.ranks.get(rank as usize).copied().unwrap_or(None)
     }
 
     /// The finder with this number, if there is one.

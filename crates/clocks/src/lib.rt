@@ -10,7 +10,8 @@
 //! numbered, in a column for each rank that has some, and each call has a row with one count for
 //! each column: the finders before that count have found. A row is right where it tells no more
 //! than some number of rounds of one rule, from nothing (`level` in `specs/Clocks.antt`), so rows
-//! may be made in any order, and may tell too little.
+//! may be made in any order, and may tell too little. Of each send one count is asked later, that
+//! of the rank that it goes to, and a row is let go once no other row will be made from it.
 //!
 //! A span of calls of one rank is a block where which of its receives and matched probes takes which
 //! of their messages doesn't matter, so that no send that one of them has taken races for another.
@@ -20,10 +21,10 @@
 //! finder is taken once more as a block of its own. Names of blocks are made by what may be wrong,
 //! and are used only where a look at each call shows that they are right.
 //!
-//! Rows take the calls times the columns, in time and in memory. Then the sends are looked at: of
-//! one envelope (the rank, the destination, the communicator and the tag) each finder is looked at
-//! for one send at most, or, in a block with others, for about as many as that block has taken.
-//! Ranks, and calls by their place in the program's list, count from 0.
+//! That takes the calls times the columns in time, and in memory the calls, and the columns for each
+//! call that is open at one time. Then the sends are looked at: of one envelope (the rank, the
+//! destination, the communicator and the tag) each finder is looked at for one send at most. Ranks,
+//! and calls by their place in the program's list, count from 0.
 #![tactic(auto)]
 
 mod classes;

@@ -1,17 +1,17 @@
 //! The first race of a run.
 
-ghost use Rattle.std.specs.Prelude.{◌≡◌, ◌≤◌, ◌<◌, ℕ, IfOk, IfNone, IfSome, Bool, IsTrue, Option, Some, slice_index, false};
+ghost use Rattle.std.specs.Prelude.{◌≡◌, ◌≤◌, ◌<◌, ℕ, IfOk, IfNone, IfSome, Bool, IsTrue, Option, Some, slice_get, false};
 ghost use Rattle.semantics.specs.Machine.{opening, after_all, IsFinishedRun, partner_of};
 ghost use Rattle.races.specs.Races.{BuffersNoneByChoice, NamesSources};
 ghost use Rattle.races.specs.Tells.{Table};
 ghost use Rattle.semantics.specs.Headline.{NoStuckRun};
-ghost use Rattle.clocks.specs.Clocks.{AreRows, IsRow, IsNoRace, IsChecked, HasNoRaceShown, IsTaken, IsSingle, IsSurePartner, IsRival, IsRivalIfSingle, block_of, with_partners};
+ghost use Rattle.clocks.specs.Clocks.{AreTold, IsCount, IsNoRace, IsChecked, HasNoRaceShown, IsTaken, IsSingle, IsSurePartner, IsRival, IsRivalIfSingle, block_of, with_partners};
 ghost use Rattle.clocks.specs.Spans.{AreSpans};
 ghost use Rattle.callorder.specs.Programs.{are_of_one_rank};
 
 use crate::classes::{Classes, end_open};
 use crate::columns::Columns;
-use crate::rows::rows_of;
+use crate::rows::{Count, told_of};
 use crate::spans::{is_single, name, names_of, no_names};
 use callorder::LongProgram;
 use leastrun::names_sources;
@@ -28,16 +28,9 @@ pub struct Race {
     pub finder: usize,
 }
 
-/// The row's count for the column, and 0 where it has none.
-fn count_of(row: &[usize], column: usize) -> usize
-    ensures { result ≡ slice_index row.now column }
-{
-    row.get(column).copied().unwrap_or(0)
-}
-
-/// Whether the row tells that the finder has found.
-fn reaches(columns: &Columns, row: &[usize], finder: usize) -> bool
-    ensures { IsTrue result → (known : ℕ → Bool) → IsRow columns.now known row.now → IsTrue (known finder) }
+/// Whether the count tells that the finder has found.
+fn reaches(columns: &Columns, told: &Count, finder: usize) -> bool
+    ensures { IsTrue result → (known : ℕ → Bool) → IsCount columns.now known told.now.column told.now.count → IsTrue (known finder) }
 {
     let Some(mark) = columns.mark(finder) else {
         return false;
@@ -48,22 +41,29 @@ fn reaches(columns: &Columns, row: &[usize], finder: usize) -> bool
     if found != finder {
         return false;
     }
-    if mark.number < columns.start(mark.column) {
+    if mark.column != told.column || mark.number < columns.start(told.column) {
         return false;
     }
-    if count_of(row, mark.column) <= mark.number {
+    if told.count <= mark.number {
         return false;
     }
     true
 }
 
-/// Whether the finder is known to have found wherever the call is issued.
-fn is_known(columns: &Columns, rows: &[Vec<usize>], call: usize, finder: usize) -> bool
-    ensures { IsTrue result → (knows : Table) → AreRows columns.now knows rows.now → IsTrue (knows call finder) }
+/// The count that is kept of the call.
+fn count_at(told: &[Count], call: usize) -> Option<Count>
+    ensures { result ≡ slice_get told.now call }
 {
-    match rows.get(call) {
+    told.get(call).copied()
+}
+
+/// Whether the finder is known to have found wherever the call is issued.
+fn is_known(columns: &Columns, told: &[Count], call: usize, finder: usize) -> bool
+    ensures { IsTrue result → (knows : Table) → AreTold columns.now knows told.now → IsTrue (knows call finder) }
+{
+    match count_at(told, call) {
         None => false,
-        Some(row) => reaches(columns, row.as_slice(), finder),
+        Some(count) => reaches(columns, &count, finder),
     }
 }
 
@@ -102,14 +102,14 @@ fn is_no_race(
     program: &LongProgram,
     state: &State,
     columns: &Columns,
-    rows: &[Vec<usize>],
+    told: &[Count],
     names: &[usize],
     finder: usize,
     own: usize,
     other: usize,
 ) -> bool
     requires { AreSpans program.now (block_of names.now) }
-    ensures none { IsTrue result → (knows : Table) → AreRows columns.now knows rows.now → IsNoRace program.now (block_of names.now) state.now knows finder own other }
+    ensures none { IsTrue result → (knows : Table) → AreTold columns.now knows told.now → IsNoRace program.now (block_of names.now) state.now knows finder own other }
     ensures rival { result ≡ false → partner_of state.now finder ≡ Some own → IsRivalIfSingle program.now (block_of names.now) state.now other finder }
 {
     if !program.are_fit(other, finder) {
@@ -121,7 +121,7 @@ fn is_no_race(
     if is_taken(state, names, other, finder) {
         return true;
     }
-    is_known(columns, rows, other, finder)
+    is_known(columns, told, other, finder)
 }
 
 /// As `is_no_race`, of a finder that may have found nothing.
@@ -129,18 +129,18 @@ fn is_no_race_if_found(
     program: &LongProgram,
     state: &State,
     columns: &Columns,
-    rows: &[Vec<usize>],
+    told: &[Count],
     names: &[usize],
     finder: usize,
     other: usize,
 ) -> bool
     requires { AreSpans program.now (block_of names.now) }
-    ensures none { IsTrue result → (knows : Table) → AreRows columns.now knows rows.now → (own : ℕ) → partner_of state.now finder ≡ Some own → IsNoRace program.now (block_of names.now) state.now knows finder own other }
+    ensures none { IsTrue result → (knows : Table) → AreTold columns.now knows told.now → (own : ℕ) → partner_of state.now finder ≡ Some own → IsNoRace program.now (block_of names.now) state.now knows finder own other }
     ensures rival { result ≡ false → IsRivalIfSingle program.now (block_of names.now) state.now other finder }
 {
     match state.partner(finder) {
         None => true,
-        Some(own) => is_no_race(program, state, columns, rows, names, finder, own, other),
+        Some(own) => is_no_race(program, state, columns, told, names, finder, own, other),
     }
 }
 
@@ -149,18 +149,18 @@ fn race_between(
     program: &LongProgram,
     state: &State,
     columns: &Columns,
-    rows: &[Vec<usize>],
+    told: &[Count],
     names: &[usize],
     other: usize,
     first: usize,
     end: usize,
 ) -> Option<usize>
     requires { AreSpans program.now (block_of names.now) }
-    ensures none { IfNone result ((knows : Table) → AreRows columns.now knows rows.now → (finder own : ℕ) → first ≤ finder → finder < end → partner_of state.now finder ≡ Some own → IsNoRace program.now (block_of names.now) state.now knows finder own other) }
+    ensures none { IfNone result ((knows : Table) → AreTold columns.now knows told.now → (finder own : ℕ) → first ≤ finder → finder < end → partner_of state.now finder ≡ Some own → IsNoRace program.now (block_of names.now) state.now knows finder own other) }
     ensures rival { IfSome result (IsRivalIfSingle program.now (block_of names.now) state.now other) }
 {
     for finder in first..end {
-        if !is_no_race_if_found(program, state, columns, rows, names, finder, other) {
+        if !is_no_race_if_found(program, state, columns, told, names, finder, other) {
             return Some(finder);
         }
     }
@@ -186,22 +186,22 @@ fn race_of_send(
     program: &LongProgram,
     state: &State,
     columns: &Columns,
-    rows: &[Vec<usize>],
+    told: &[Count],
     names: &[usize],
     classes: &Classes,
     other: usize,
 ) -> Option<usize>
     requires { AreSpans program.now (block_of names.now) }
-    ensures none { IfNone result ((knows : Table) → AreRows columns.now knows rows.now → IsChecked program.now (block_of names.now) state.now knows other) }
+    ensures none { IfNone result ((knows : Table) → AreTold columns.now knows told.now → IsChecked program.now (block_of names.now) state.now knows other) }
     ensures rival { IfSome result (IsRivalIfSingle program.now (block_of names.now) state.now other) }
 {
     let first = classes.first_open(program, state, names, other);
     let start = classes.rank_start(program, other);
-    let end = end_open(program, state, other);
+    let end = end_open(program, state, names, other);
     let last = classes.rank_end(program, other);
     let low = larger(first, start);
     let high = smaller(end, last);
-    race_between(program, state, columns, rows, names, other, low, high)
+    race_between(program, state, columns, told, names, other, low, high)
 }
 
 /// The first send that races, with the finder.
@@ -209,16 +209,16 @@ fn race_in(
     program: &LongProgram,
     state: &State,
     columns: &Columns,
-    rows: &[Vec<usize>],
+    told: &[Count],
     names: &[usize],
     classes: &Classes,
 ) -> Option<Race>
     requires { AreSpans program.now (block_of names.now) }
-    ensures none { IfNone result ((knows : Table) → AreRows columns.now knows rows.now → (other : ℕ) → IsChecked program.now (block_of names.now) state.now knows other) }
+    ensures none { IfNone result ((knows : Table) → AreTold columns.now knows told.now → (other : ℕ) → IsChecked program.now (block_of names.now) state.now knows other) }
     ensures rival { IfSome result (λ race. IsRivalIfSingle program.now (block_of names.now) state.now race.send race.finder) }
 {
     for send in 0..program.calls().len() {
-        if let Some(finder) = race_of_send(program, state, columns, rows, names, classes, send) {
+        if let Some(finder) = race_of_send(program, state, columns, told, names, classes, send) {
             return Some(Race { send, finder });
         }
     }
@@ -320,9 +320,9 @@ fn race_by(
     let _calls = program.calls();
     let partners = partners_of(alloc, program, state, names)?;
     let columns = Columns::new(alloc, program)?;
-    let rows = rows_of(alloc, program, &columns, partners.as_slice(), run)?;
+    let told = told_of(alloc, program, &columns, partners.as_slice(), run)?;
     let classes = Classes::new(alloc, program)?;
-    Ok(race_in(program, state, &columns, rows.as_slice(), names, &classes))
+    Ok(race_in(program, state, &columns, told.as_slice(), names, &classes))
 }
 
 /// A send that may get to a receive, matched probe or probe before the send that it found in the

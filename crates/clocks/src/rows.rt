@@ -1,17 +1,26 @@
 //! For each call a row: how many of each column's finders are known to have found where it is
-//! issued.
+//! issued. A row is kept until it was read for the last time; of each send one count stays.
 
-ghost use Rattle.std.specs.Prelude.{◌≡◌, ◌||◌, ◌&&◌, ◌+◌, ℕ, IsTrue, IfOk, OnOk, List, Option, Some, slice_get};
+ghost use Rattle.std.specs.Prelude.{◌≡◌, ◌||◌, ◌&&◌, ◌+◌, ℕ, Bool, IsTrue, IfOk, OnOk, List, Option, Some, slice_get};
 ghost use Rattle.callorder.specs.Programs.{call_at};
 ghost use Rattle.semantics.specs.Machine.{Configuration, partner_of};
 ghost use Rattle.races.specs.Tells.{Table, knows_at, tells_find, tells_receive, tells_fetch, tells_done, tells_return_call, tells_issue, never_buffers};
-ghost use Rattle.clocks.specs.Clocks.{Numbering, IsJoin, Adds, AreRows, AreSound, IsRow, level, with_partners, tells_sent};
+ghost use Rattle.clocks.specs.Clocks.{Numbering, IsJoin, Adds, AreRows, AreTold, AreSound, AreToldSoundly, IsCount, IsRow, level, with_partners, tells_sent};
 
-use crate::columns::Columns;
+use crate::columns::{Columns, done_by_return};
 use callorder::{Kind, LongProgram, Policy};
 use calltext::Mode;
 use semantics::Step;
 use std::alloc::{AllocError, Global};
+
+/// How many finders of a column are known to have found, with those of all columns before it.
+#[derive(Clone, Copy)]
+pub struct Count {
+    /// The column.
+    pub column: usize,
+    /// The number from which on none of its finders is known.
+    pub count: usize,
+}
 
 /// What a call is matched with, or has seen, by the list.
 pub fn partner(partners: &[Option<usize>], call: usize) -> Option<usize>
@@ -274,28 +283,239 @@ fn issue_row(
     Ok(row)
 }
 
-/// Puts the row in the call's place.
-fn put(rows: &mut Vec<Vec<usize>>, call: usize, row: Vec<usize>)
+/// The count of the row that is asked later: that of the column of the rank that the call sends to.
+fn count_for(program: &LongProgram, columns: &Columns, row: &[usize], call: usize) -> Count
+    ensures { (numbering : Numbering) (known : ℕ → Bool) → IsRow numbering known row.now → IsCount numbering known result.column result.count }
+{
+    let column = destination_column(program, columns, call).unwrap_or(0);
+    Count {
+        column,
+        count: row.get(column).copied().unwrap_or(0),
+    }
+}
+
+/// The column of the rank that the call sends to, if it is a send and there is one.
+fn destination_column(program: &LongProgram, columns: &Columns, call: usize) -> Option<usize> {
+    let message = program.call(call)?.kind.message()?;
+    columns.column(message.destination)
+}
+
+/// Puts the count in the call's place.
+fn tell(told: &mut Vec<Count>, call: usize, count: Count)
+    ensures { (numbering : Numbering) (knows more : Table) → AreTold numbering knows told.old.items → ((c f : ℕ) → IsTrue (knows c f) → IsTrue (more c f)) → IsCount numbering (more call) count.column count.count → AreTold numbering more told.new.items }
+{
+    if let Some(place) = told.get_mut(call) {
+        *place = count;
+    }
+}
+
+/// Puts the row in the call's place, if it will be read.
+fn put(rows: &mut Vec<Vec<usize>>, reads: &[usize], call: usize, row: Vec<usize>)
     ensures { (numbering : Numbering) (knows more : Table) → AreRows numbering knows rows.old.items → ((c f : ℕ) → IsTrue (knows c f) → IsTrue (more c f)) → IsRow numbering (more call) row.items → AreRows numbering more rows.new.items }
 {
+    if reads.get(call).copied().unwrap_or(0) == 0 {
+        return;
+    }
     if let Some(place) = rows.get_mut(call) {
         *place = row;
     }
 }
 
-/// Makes the row of the call, and puts it in its place. The only error is want of memory.
+/// Lets the row go that was read for the last time.
+fn forget(alloc: Global, rows: &mut Vec<Vec<usize>>, reads: &mut [usize], call: Option<usize>)
+    ensures { (numbering : Numbering) (knows : Table) → AreRows numbering knows rows.old.items → AreRows numbering knows rows.new.items }
+{
+    let Some(call) = call else {
+        return;
+    };
+    if !is_last_read(reads, call) {
+        return;
+    }
+    if let Some(place) = rows.get_mut(call) {
+        *place = Vec::new(alloc);
+    }
+}
+
+/// Whether the row won't be read again, after this time.
+fn is_last_read(reads: &mut [usize], call: usize) -> bool {
+    match reads.get_mut(call) {
+        None => false,
+        Some(left) => {
+            *left = left.saturating_sub(1);
+            *left == 0
+        }
+    }
+}
+
+/// The calls whose rows are read where a row is made.
+#[derive(Clone, Copy)]
+struct Read {
+    /// The call before it in its rank.
+    before: Option<usize>,
+    /// The finder that has found where the one before has returned.
+    finder: Option<usize>,
+    /// What that one found.
+    send: Option<usize>,
+    /// The receive on its handle, where the send was waited for.
+    receive: Option<usize>,
+}
+
+/// Whether the end of the send's operation tells something.
+fn is_told_by_send(program: &LongProgram, mode: Mode) -> bool {
+    match mode {
+        Mode::Standard => matches!(program.policy(), Policy::Never),
+        Mode::Synchronous => true,
+        Mode::Buffered => false,
+    }
+}
+
+/// The finder that has found where the operation is done, and, of a send, the receive on the
+/// finder's handle.
+fn found_by(
+    program: &LongProgram,
+    partners: &[Option<usize>],
+    operation: usize,
+) -> (Option<usize>, Option<usize>) {
+    let Some(call) = program.call(operation) else {
+        return (None, None);
+    };
+    match call.kind {
+        Kind::Send { mode, .. } => {
+            if !is_told_by_send(program, mode) {
+                return (None, None);
+            }
+            let taker = partner(partners, operation);
+            (taker, received_on(program, taker))
+        }
+        _ => (Some(operation), None),
+    }
+}
+
+/// The receive on the handle of the call, if it is a matched probe.
+fn received_on(program: &LongProgram, taker: Option<usize>) -> Option<usize> {
+    match program.call(taker?)?.kind {
+        Kind::MatchedProbe { receive, .. } => Some(receive),
+        _ => None,
+    }
+}
+
+/// The calls whose rows are read where that of this call is made.
+fn read_for(program: &LongProgram, partners: &[Option<usize>], call: usize) -> Read {
+    let none = Read {
+        before: None,
+        finder: None,
+        send: None,
+        receive: None,
+    };
+    if call == 0 || !program.are_of_one_rank(call - 1, call) {
+        return none;
+    }
+    let before = Some(call - 1);
+    let Some(operation) = done_by_return(program, call - 1) else {
+        return Read { before, ..none };
+    };
+    let (finder, receive) = found_by(program, partners, operation);
+    let send = match finder {
+        None => None,
+        Some(finder) => partner(partners, finder),
+    };
+    Read {
+        before,
+        finder,
+        send,
+        receive,
+    }
+}
+
+/// Counts one read more of the row.
+fn count_read(reads: &mut Vec<usize>, call: Option<usize>) {
+    if let Some(call) = call {
+        if let Some(count) = reads.get_mut(call) {
+            *count = count.saturating_add(1);
+        }
+    }
+}
+
+/// For each call how often its row will be read. The only error is want of memory.
+fn reads_of(
+    alloc: Global,
+    program: &LongProgram,
+    partners: &[Option<usize>],
+) -> Result<Vec<usize>, AllocError> {
+    let calls = program.calls().len();
+    let mut reads = vec![in alloc; 0; calls]?;
+    for call in 0..calls {
+        let read = read_for(program, partners, call);
+        count_read(&mut reads, read.before);
+        count_read(&mut reads, read.finder);
+        count_read(&mut reads, read.send);
+        count_read(&mut reads, read.receive);
+    }
+    Ok(reads)
+}
+
+/// Lets go of the rows that were read for the last time where that of the call was made.
+fn forget_read(
+    alloc: Global,
+    program: &LongProgram,
+    partners: &[Option<usize>],
+    rows: &mut Vec<Vec<usize>>,
+    reads: &mut [usize],
+    call: usize,
+)
+    ensures { (numbering : Numbering) (knows : Table) → AreRows numbering knows rows.old.items → AreRows numbering knows rows.new.items }
+{
+    let read = read_for(program, partners, call);
+    forget(alloc, rows, reads, read.before);
+    forget(alloc, rows, reads, read.finder);
+    forget(alloc, rows, reads, read.send);
+    forget(alloc, rows, reads, read.receive);
+}
+
+/// What is known in a run, up to some step.
+#[derive(Drop)]
+struct Known {
+    /// For each call its row, which is empty before it is made and once nothing will read it.
+    rows: Vec<Vec<usize>>,
+    /// For each call the one count that is asked later.
+    told: Vec<Count>,
+    /// For each call how often its row will still be read.
+    reads: Vec<usize>,
+    /// For each rank the call that it issues next.
+    next: Vec<usize>,
+}
+
+/// Makes the row of the call, and puts what is asked of it in its place. The only error is want of
+/// memory.
 fn note(
     alloc: Global,
     program: &LongProgram,
     columns: &Columns,
     partners: &[Option<usize>],
-    rows: &mut Vec<Vec<usize>>,
+    known: &mut Known,
     call: usize,
 ) -> Result<(), AllocError>
-    ensures { OnOk result (AreSound program.now (with_partners partners.now) columns.now rows.old.items → AreSound program.now (with_partners partners.now) columns.now rows.new.items) }
+    ensures { OnOk result (AreSound program.now (with_partners partners.now) columns.now known.old.rows.items known.old.told.items → AreSound program.now (with_partners partners.now) columns.now known.new.rows.items known.new.told.items) }
 {
-    let row = issue_row(alloc, program, columns, partners, rows.as_slice(), call)?;
-    put(rows, call, row);
+    let row = issue_row(
+        alloc,
+        program,
+        columns,
+        partners,
+        known.rows.as_slice(),
+        call,
+    )?;
+    let count = count_for(program, columns, row.as_slice(), call);
+    tell(&mut known.told, call, count);
+    put(&mut known.rows, known.reads.as_slice(), call, row);
+    forget_read(
+        alloc,
+        program,
+        partners,
+        &mut known.rows,
+        known.reads.as_mut_slice(),
+        call,
+    );
     Ok(())
 }
 
@@ -305,46 +525,69 @@ fn take_step(
     program: &LongProgram,
     columns: &Columns,
     partners: &[Option<usize>],
-    rows: &mut Vec<Vec<usize>>,
-    next: &mut [usize],
+    known: &mut Known,
     step: &Step,
 ) -> Result<(), AllocError>
-    ensures { OnOk result (AreSound program.now (with_partners partners.now) columns.now rows.old.items → AreSound program.now (with_partners partners.now) columns.now rows.new.items) }
+    ensures { OnOk result (AreSound program.now (with_partners partners.now) columns.now known.old.rows.items known.old.told.items → AreSound program.now (with_partners partners.now) columns.now known.new.rows.items known.new.told.items) }
 {
     match step {
         Step::Issue { rank, .. } => {
-            let call = issued(next, *rank);
-            note(alloc, program, columns, partners, rows, call)
+            let call = issued(&mut known.next, *rank);
+            note(alloc, program, columns, partners, known, call)
         }
         _ => Ok(()),
     }
 }
 
-/// For each call its row, from the issues of this run, in their order. The only error is want of
-/// memory.
-pub fn rows_of(
+/// For each send what is known, where it is issued, of the rank that it goes to, from the issues of
+/// this run, in their order. The only error is want of memory.
+pub fn told_of(
     alloc: Global,
     program: &LongProgram,
     columns: &Columns,
     partners: &[Option<usize>],
     run: &[Step],
-) -> Result<Vec<Vec<usize>>, AllocError>
-    ensures { IfOk result (λ rows. AreSound program.now (with_partners partners.now) columns.now rows.items) }
+) -> Result<Vec<Count>, AllocError>
+    ensures { IfOk result (λ told. AreToldSoundly program.now (with_partners partners.now) columns.now told.items) }
 {
-    let mut rows = empty_rows(alloc, program, columns, partners)?;
-    let mut next = first_calls(alloc, program)?;
+    let mut known = nothing_known(alloc, program, columns, partners)?;
     for step in run {
-        take_step(
-            alloc,
-            program,
-            columns,
-            partners,
-            &mut rows,
-            next.as_mut_slice(),
-            step,
-        )?;
+        take_step(alloc, program, columns, partners, &mut known, step)?;
     }
-    Ok(rows)
+    let Known { told, .. } = known;
+    Ok(told)
+}
+
+/// What is known before a run: nothing. The only error is want of memory.
+fn nothing_known(
+    alloc: Global,
+    program: &LongProgram,
+    columns: &Columns,
+    partners: &[Option<usize>],
+) -> Result<Known, AllocError>
+    ensures { IfOk result (λ known. AreSound program.now (with_partners partners.now) columns.now known.rows.items known.told.items) }
+{
+    let rows = empty_rows(alloc, program, columns, partners)?;
+    let told = zero_counts(alloc, program)?;
+    let reads = reads_of(alloc, program, partners)?;
+    let next = first_calls(alloc, program)?;
+    Ok(Known {
+        rows,
+        told,
+        reads,
+        next,
+    })
+}
+
+/// For each call a count of no finders. The only error is want of memory.
+fn zero_counts(alloc: Global, program: &LongProgram) -> Result<Vec<Count>, AllocError>
+    ensures { IfOk result (λ told. (numbering : Numbering) (knows : Table) → AreTold numbering knows told.items) }
+{
+    let zero = Count {
+        column: 0,
+        count: 0,
+    };
+    vec![in alloc; zero; program.calls().len()]
 }
 
 /// For each call an empty row, which tells nothing. The only error is want of memory.
@@ -377,7 +620,7 @@ fn first_calls(alloc: Global, program: &LongProgram) -> Result<Vec<usize>, Alloc
 }
 
 /// The call that a rank issues next, which is past then.
-fn issued(next: &mut [usize], rank: u32) -> usize {
+fn issued(next: &mut Vec<usize>, rank: u32) -> usize {
     match next.get_mut(rank as usize) {
         None => 0,
         Some(place) => {
