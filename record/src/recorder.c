@@ -1,0 +1,276 @@
+/* The recording of one rank: its file and its lines, and which calls are the program's own. */
+#define _GNU_SOURCE
+#include "recorder.h"
+
+#include <dlfcn.h>
+#include <errno.h>
+#include <execinfo.h>
+#include <fcntl.h>
+#include <pthread.h>
+#include <stdarg.h>
+#include <stdio.h>
+#include <stdlib.h>
+#include <string.h>
+#include <sys/stat.h>
+#include <sys/syscall.h>
+#include <unistd.h>
+
+#define MOST_FRAMES 24
+#define KEPT_FRAMES 6
+
+static pthread_mutex_t lock = PTHREAD_MUTEX_INITIALIZER;
+static _Thread_local int depth;
+static int file = -1;
+static char path[4096];
+static int begun;        /* MPI_Init was seen */
+static int ended;        /* MPI_Finalize was seen */
+static int by_marks;     /* only what stands between two marks is recorded */
+static int inside_marks = 1;
+static long most_calls;  /* 0: no limit */
+static long calls;
+static long shaken;      /* 0: calls are not delayed */
+static int polling;
+static long thread_seen;
+static int threads_told;
+
+static char *line;
+static size_t line_length, line_room;
+
+void *room(void *old, size_t bytes) {
+    void *place = realloc(old, bytes);
+    if (!place) {
+        fprintf(stderr, "record: out of memory\n");
+        _exit(70);
+    }
+    return place;
+}
+
+void *real_call(const char *name) {
+    void *place = dlsym(RTLD_NEXT, name);
+    if (!place) {
+        fprintf(stderr, "record: the MPI library has no %s\n", name);
+        _exit(70);
+    }
+    return place;
+}
+
+/* ---- lines ---- */
+
+static void put_list(const char *format, va_list list) {
+    for (;;) {
+        va_list copy;
+        va_copy(copy, list);
+        int need = vsnprintf(line + line_length, line_room - line_length, format, copy);
+        va_end(copy);
+        if (need >= 0 && (size_t)need < line_room - line_length) {
+            line_length += (size_t)need;
+            return;
+        }
+        line_room = line_room * 2 + 4096;
+        line = room(line, line_room);
+    }
+}
+
+void put(const char *format, ...) {
+    va_list list;
+    va_start(list, format);
+    put_list(format, list);
+    va_end(list);
+}
+
+/* No text is to be made of a part, so what was written is taken away. */
+static void give_up(void) {
+    fprintf(stderr, "record: %s can't be written, and is taken away\n", path);
+    close(file);
+    unlink(path);
+    file = -1;
+}
+
+/* What the system has taken is kept, also where the process is killed. */
+void write_bytes(const char *bytes, size_t length) {
+    size_t done = 0;
+    while (file >= 0 && done < length) {
+        ssize_t n = write(file, bytes + done, length - done);
+        if (n < 0 && errno == EINTR) continue;
+        if (n <= 0)
+            give_up();
+        else
+            done += (size_t)n;
+    }
+}
+
+void write_line(void) {
+    write_bytes(line, line_length);
+    line_length = 0;
+}
+
+void new_line(void) { line_length = 0; }
+
+void plain_line(const char *format, ...) {
+    if (!inside_marks || (most_calls && calls > most_calls)) return;
+    va_list list;
+    va_start(list, format);
+    put_list(format, list);
+    va_end(list);
+    put("\n");
+    write_line();
+}
+
+void begin_call(const char *function, const char *operation) {
+    polling = 0;
+    line_length = 0;
+    put("call %s %s", function, operation);
+}
+
+void end_call(void) {
+    if (!inside_marks || (most_calls && calls > most_calls)) {
+        line_length = 0;
+        return;
+    }
+    if (most_calls && calls == most_calls) {
+        calls++;
+        line_length = 0;
+        put("cut\n");
+        write_line();
+        return;
+    }
+    calls++;
+    void *frames[MOST_FRAMES];
+    int count = backtrace(frames, MOST_FRAMES);
+    put(" @");
+    for (int i = 0, kept = 0; i < count && kept < KEPT_FRAMES; i++) {
+        int number = site_number(frames[i]);
+        if (number) {
+            put(" %d", number);
+            kept++;
+        }
+    }
+    put("\n");
+    write_line();
+    if (shaken) {
+        shaken = (long)((unsigned long)shaken * 6364136223846793005u + 1442695040888963407u);
+        usleep((useconds_t)(((unsigned long)shaken >> 33) % 2000));
+    }
+}
+
+void check_result(int result) {
+    if (result != MPI_SUCCESS) plain_line("failed %d", result);
+}
+
+void put_peer(const struct comm *comm, int peer) {
+    if (peer == MPI_PROC_NULL)
+        put(" -");
+    else if (peer == MPI_ANY_SOURCE)
+        put(" *");
+    else if (peer < 0 || peer >= comm->size || comm->inter)
+        put(" ?");
+    else
+        put(" %d", comm->members[peer]);
+}
+
+void put_tag(int tag) {
+    if (tag == MPI_ANY_TAG)
+        put(" *");
+    else
+        put(" %d", tag);
+}
+
+void put_name(int id) {
+    if (id == UNKNOWN)
+        put(" ?");
+    else if (id != NOTHING)
+        put(" %d", id);
+}
+
+int polls(void) { return !polling; }
+
+void begin_poll(void) { polling = 1; }
+
+void took(const char *function, const int *ids, int count) {
+    begin_call(function, "took");
+    for (int i = 0; i < count; i++) put_name(ids[i]);
+    end_call();
+}
+
+long bytes_of(long count, MPI_Datatype type) {
+    int size = 0;
+    if (count <= 0 || type == MPI_DATATYPE_NULL) return 0;
+    PMPI_Type_size(type, &size);
+    return size < 0 ? count : count * (long)size;  /* beyond an int it is undefined */
+}
+
+/* ---- calls of the program, not of the library itself ---- */
+
+int enter(void) {
+    if (depth++ > 0 || !begun || ended) return 0;
+    pthread_mutex_lock(&lock);
+    long thread = syscall(SYS_gettid);
+    if (!thread_seen) thread_seen = thread;
+    if (thread != thread_seen && !threads_told) {
+        threads_told = 1;
+        plain_line("threads");
+    }
+    return 1;
+}
+
+void hold(void) { pthread_mutex_lock(&lock); }
+
+void release(void) { pthread_mutex_unlock(&lock); }
+
+void leave(void) { depth--; }
+
+static void first_lines(int rank, int size) {
+    char version[MPI_MAX_LIBRARY_VERSION_STRING];
+    int length;
+    PMPI_Get_library_version(version, &length);
+    version[strcspn(version, "\n\r,")] = 0;
+    line_length = 0;
+    put("recording 1 %d %d %s\n", rank, size, version);
+    write_line();
+}
+
+void start_recording(void) {
+    if (begun) return;
+    begun = 1;
+    int rank, size;
+    PMPI_Comm_rank(MPI_COMM_WORLD, &rank);
+    PMPI_Comm_size(MPI_COMM_WORLD, &size);
+    const char *directory = getenv("RECORD_DIRECTORY");
+    if (!directory) directory = "recording";
+    mkdir(directory, 0777);
+    snprintf(path, sizeof path, "%s/rank.%d", directory, rank);
+    file = open(path, O_WRONLY | O_CREAT | O_TRUNC | O_APPEND | O_CLOEXEC, 0666);
+    if (file < 0) fprintf(stderr, "record: %s can't be written\n", path);
+    const char *option = getenv("RECORD_CALLS");
+    if (option) most_calls = atol(option);
+    option = getenv("RECORD_SHAKE");
+    if (option && atol(option) > 0) shaken = atol(option) * 1000003 + rank + 1;
+    option = getenv("RECORD_MARKS");
+    first_lines(rank, size);
+    void *frame[1];
+    backtrace(frame, 1);
+    add_comm(MPI_COMM_WORLD, NULL, 0);
+    add_comm(MPI_COMM_SELF, NULL, 0);
+    if (option && *option && *option != '0') {
+        by_marks = 1;
+        inside_marks = 0;
+    }
+}
+
+void end_recording(void) {
+    ended = 1;
+    if (file >= 0) close(file);
+    file = -1;
+}
+
+void pass_mark(int level) {
+    if (!by_marks) return;
+    if (level > 0 && !inside_marks) {
+        inside_marks = 1;
+        plain_line("mark 1");
+    } else if (level == 0 && inside_marks) {
+        plain_line("mark 0");
+        inside_marks = 0;
+    }
+}
+
