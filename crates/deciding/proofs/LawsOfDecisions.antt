@@ -10,7 +10,7 @@ use Rattle.semantics.specs.Headline.{NoStuckRun}
 use Rattle.semantics.specs.Machine.{IsStuckRun}
 use Rattle.races.specs.Races.{names_source, NamesSources}
 use Rattle.deciding.specs.Decisions.{takes_any_source_call, IsRace}
-use Rattle.deciding.specs.Laws.{NamedSourcesAreDecided, ShortTextsAreDecided}
+use Rattle.deciding.specs.Laws.{LoneSendersAreDecided, NamedSourcesAreDecided, ShortTextsAreDecided}
 use Rattle.deciding.specs.declared.decision.Race.{Race}
 
 not_both : (b : Bool) → b ≡ true → not b ≡ true → ⊥
@@ -28,6 +28,13 @@ pub named_sources_are_decided : NamedSourcesAreDecided
 named_sources_are_decided program race p decided text named =
     let same : decided.p ≡ p = one_program_of_bytes_within long program decided.p p decided.text text in
     no_free p race named (subst (λ (q : MpiProgram). IsRace q race) same decided.calls)
+
+pub lone_senders_are_decided : LoneSendersAreDecided
+lone_senders_are_decided program race p decided text lone =
+    let same : decided.p ≡ p = one_program_of_bytes_within long program decided.p p decided.text text in
+    let is : IsRace p race = subst (λ (q : MpiProgram). IsRace q race) same decided.calls in
+    let one = lone race.finder.place race.found.place race.other.place is.found_fits is.other_fits in
+    cc (one, is.apart)
 
 -- the program of a text within the short limits is that within the long ones
 same_long : (program : List ℕ) (p q : MpiProgram) → IsTextOf program p → IsTextOfWithin long program q → q ≡ p

@@ -1,7 +1,7 @@
 -- What holds of each decision.
-use Rattle.std.specs.Prelude.{ℕ, List}
+use Rattle.std.specs.Prelude.{ℕ, IsTrue, List}
 use Rattle.calltext.specs.Limits.{long, short}
-use Rattle.callorder.specs.Programs.{MpiProgram}
+use Rattle.callorder.specs.Programs.{MpiProgram, are_fit, are_of_one_rank}
 use Rattle.callorder.specs.Resolving.{IsTextOf, IsTextOfWithin}
 use Rattle.semantics.specs.declared.state.Step.{Step}
 use Rattle.semantics.specs.Headline.{IsNeverStuckWithin, IsStuckRunWithin}
@@ -15,6 +15,15 @@ use Rattle.deciding.specs.declared.decision.Race.{Race}
 abbrev pub NamedSourcesAreDecided : Type 0
 NamedSourcesAreDecided =
     (program : List ℕ) (race : Race) (p : MpiProgram) → Decides program (decisions.Race race) → IsTextOfWithin long program p → NamesSources p → ⊥
+
+-- any two sends that fit one receive, matched probe or probe are of one rank
+abbrev pub HasLoneSenders : MpiProgram → Type 0
+HasLoneSenders p = (finder one other : ℕ) → IsTrue (are_fit p one finder) → IsTrue (are_fit p other finder) → IsTrue (are_of_one_rank p one other)
+
+-- where the sends that fit each receive, matched probe and probe of the program are of one rank, it is never a race that is decided
+abbrev pub LoneSendersAreDecided : Type 0
+LoneSendersAreDecided =
+    (program : List ℕ) (race : Race) (p : MpiProgram) → Decides program (decisions.Race race) → IsTextOfWithin long program p → HasLoneSenders p → ⊥
 
 -- what is decided of a text within the short limits is true of the program that it is within these
 pub record ShortTextsAreDecided : Type 0 where
