@@ -36,7 +36,8 @@ fn told(number: Option<u32>) -> u64
     }
 }
 
-/// The slot of what a rank is sent by this communicator, from this source and with this tag, or any.
+/// The slot of what a rank is sent by this communicator, from this source, or any, and with this
+/// tag, or any.
 fn slot_of(rank: u32, communicator: u32, source: Option<u32>, tag: Option<u32>) -> u64
     ensures { result ≡ slot_of rank communicator source tag }
 {
