@@ -3,7 +3,8 @@
 ghost use Rattle.std.specs.Prelude.{◌≡◌, slice_get, slice_index};
 ghost use Rattle.clocks.specs.Clocks.{IsRaised};
 
-use callorder::{Kind, LongProgram};
+use crate::reads::done_by_return;
+use callorder::LongProgram;
 use std::alloc::{AllocError, Global};
 use std::marker::Model;
 
@@ -32,19 +33,6 @@ impl Model for Columns {
     ghost Value = { Numbering };
 
     ghost view = { λ c. record { starts = c.starts.items; listed = c.listed.items } };
-}
-
-/// The operation that is done where this call has returned, if there is one that isn't done as soon
-/// as it is issued.
-pub fn done_by_return(program: &LongProgram, call: usize) -> Option<usize> {
-    match program.call(call)?.kind {
-        Kind::Send { blocking: true, .. }
-        | Kind::Receive { blocking: true, .. }
-        | Kind::MatchedProbe { .. }
-        | Kind::Probe { .. } => Some(call),
-        Kind::Wait { operation } => Some(operation),
-        _ => None,
-    }
 }
 
 /// The finder of any source that is complete where this call has returned.

@@ -31,6 +31,7 @@ mod classes;
 mod columns;
 mod laws;
 mod race;
+mod reads;
 mod rows;
 mod spans;
 

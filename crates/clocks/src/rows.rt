@@ -1,15 +1,15 @@
 //! For each call a row: how many of each column's finders are known to have found where it is
 //! issued. A row is kept until it was read for the last time; of each send one count stays.
 
-ghost use Rattle.std.specs.Prelude.{◌≡◌, ◌||◌, ◌&&◌, ◌+◌, ℕ, Bool, IsTrue, IfOk, OnOk, List, Option, Some, slice_get};
-ghost use Rattle.callorder.specs.Programs.{call_at};
+ghost use Rattle.std.specs.Prelude.{◌≡◌, ℕ, Bool, IsTrue, IfOk, OnOk, Option, Some, slice_get};
 ghost use Rattle.semantics.specs.Machine.{Configuration, partner_of};
-ghost use Rattle.races.specs.Tells.{Table, knows_at, tells_find, tells_receive, tells_fetch, tells_done, tells_return_call, tells_issue, never_buffers};
-ghost use Rattle.clocks.specs.Clocks.{Numbering, IsJoin, Adds, AreRows, AreTold, AreSound, AreToldSoundly, IsCount, IsRow, level, with_partners, tells_sent};
+ghost use Rattle.races.specs.Tells.{Table, knows_at, tells_find};
+ghost use Rattle.clocks.specs.Clocks.{Numbering, IsJoin, Adds, AreRows, AreTold, AreSound, AreToldSoundly, IsCount, IsRow, level, with_partners};
+ghost use Rattle.clocks.specs.Reads.{tells_find_at, tells_read};
 
-use crate::columns::{Columns, done_by_return};
-use callorder::{Kind, LongProgram, Policy};
-use calltext::Mode;
+use crate::columns::Columns;
+use crate::reads::{Read, found_send, is_last_read, partner, read_for, reads_of};
+use callorder::LongProgram;
 use semantics::Step;
 use std::alloc::{AllocError, Global};
 
@@ -20,13 +20,6 @@ pub struct Count {
     pub column: usize,
     /// The number from which on none of its finders is known.
     pub count: usize,
-}
-
-/// What a call is matched with, or has seen, by the list.
-pub fn partner(partners: &[Option<usize>], call: usize) -> Option<usize>
-    ensures { result ≡ partner_of (with_partners partners.now) call }
-{
-    partners.get(call).copied().unwrap_or(None)
 }
 
 /// Raises each count to that of the other row, where that one is larger.
@@ -50,18 +43,12 @@ fn join_row(columns: &Columns, rows: &[Vec<usize>], row: &mut Vec<usize>, call: 
     }
 }
 
-/// Adds what the issue of the call's partner tells.
-fn join_partner(
-    columns: &Columns,
-    partners: &[Option<usize>],
-    rows: &[Vec<usize>],
-    row: &mut Vec<usize>,
-    call: usize,
-)
-    ensures { Adds columns.now rows.now (λ knows f. knows_at knows (partner_of (with_partners partners.now) call) f) row.old.items row.new.items }
+/// Adds what the issue of the call tells, if there is one.
+fn join_at(columns: &Columns, rows: &[Vec<usize>], row: &mut Vec<usize>, call: Option<usize>)
+    ensures { Adds columns.now rows.now (λ knows f. knows_at knows call f) row.old.items row.new.items }
 {
-    if let Some(other) = partner(partners, call) {
-        join_row(columns, rows, row, other);
+    if let Some(call) = call {
+        join_row(columns, rows, row, call);
     }
 }
 
@@ -77,209 +64,52 @@ fn add_find(
     ensures { Adds columns.now rows.now (λ knows f. tells_find (with_partners partners.now) knows finder f) row.old.items row.new.items }
 {
     join_row(columns, rows, row, finder);
-    join_partner(columns, partners, rows, row, finder);
+    join_at(columns, rows, row, partner(partners, finder));
     columns.raise(row, finder);
 }
 
-/// Adds what the issue of the receive on a matched probe's handle tells.
-fn add_receive(
-    program: &LongProgram,
+/// Adds what is told where the finder has found, if there is one.
+fn add_find_at(
     columns: &Columns,
+    partners: &[Option<usize>],
     rows: &[Vec<usize>],
     row: &mut Vec<usize>,
-    taker: usize,
+    finder: Option<usize>,
 )
-    ensures { Adds columns.now rows.now (λ knows f. tells_receive knows (call_at program.now taker) f) row.old.items row.new.items }
+    ensures { Adds columns.now rows.now (λ knows f. tells_find_at (with_partners partners.now) knows finder f) row.old.items row.new.items }
 {
-    if let Some(call) = program.call(taker) {
-        if let Kind::MatchedProbe { receive, .. } = call.kind {
-            join_row(columns, rows, row, receive);
-        }
+    if let Some(finder) = finder {
+        add_find(columns, partners, rows, row, finder);
     }
 }
 
-/// Adds what is told where the taker has fetched its message.
-fn add_taker(
-    program: &LongProgram,
+/// Adds what is told by what is read.
+fn add_read(
     columns: &Columns,
     partners: &[Option<usize>],
     rows: &[Vec<usize>],
     row: &mut Vec<usize>,
-    taker: usize,
+    read: &Read,
 )
-    ensures { Adds columns.now rows.now (λ knows f. tells_find (with_partners partners.now) knows taker f || tells_receive knows (call_at program.now taker) f) row.old.items row.new.items }
+    ensures { Adds columns.now rows.now (λ knows f. tells_read (with_partners partners.now) knows read.now f) row.old.items row.new.items }
 {
-    add_find(columns, partners, rows, row, taker);
-    add_receive(program, columns, rows, row, taker);
+    join_at(columns, rows, row, read.before);
+    add_find_at(columns, partners, rows, row, read.found.finder);
+    join_at(columns, rows, row, read.found.receive);
 }
 
-/// Adds what is told where the send's message is fetched.
-fn add_fetch(
-    program: &LongProgram,
-    columns: &Columns,
-    partners: &[Option<usize>],
-    rows: &[Vec<usize>],
-    row: &mut Vec<usize>,
-    send: usize,
-)
-    ensures { Adds columns.now rows.now (λ knows f. tells_fetch program.now (with_partners partners.now) knows send f) row.old.items row.new.items }
-{
-    if let Some(taker) = partner(partners, send) {
-        add_taker(program, columns, partners, rows, row, taker);
-    }
-}
-
-/// Adds what is told where the operation is done.
-fn add_done(
-    program: &LongProgram,
-    columns: &Columns,
-    partners: &[Option<usize>],
-    rows: &[Vec<usize>],
-    row: &mut Vec<usize>,
-    operation: usize,
-)
-    ensures { Adds columns.now rows.now (λ knows f. tells_done program.now (with_partners partners.now) knows operation f) row.old.items row.new.items }
-{
-    let Some(call) = program.call(operation) else {
-        return;
-    };
-    match call.kind {
-        Kind::Send { mode, .. } => add_sent(program, columns, partners, rows, row, mode, operation),
-        Kind::Receive { .. } => add_find(columns, partners, rows, row, operation),
-        Kind::MatchedProbe { .. } => add_find(columns, partners, rows, row, operation),
-        Kind::Probe { .. } => add_find(columns, partners, rows, row, operation),
-        _ => {}
-    }
-}
-
-/// Adds what is told where a standard send is done, which is something only where none is buffered.
-fn add_unbuffered(
-    program: &LongProgram,
-    columns: &Columns,
-    partners: &[Option<usize>],
-    rows: &[Vec<usize>],
-    row: &mut Vec<usize>,
-    send: usize,
-)
-    ensures { Adds columns.now rows.now (λ knows f. never_buffers program.now.policy && tells_fetch program.now (with_partners partners.now) knows send f) row.old.items row.new.items }
-{
-    match program.policy() {
-        Policy::Never => add_fetch(program, columns, partners, rows, row, send),
-        _ => {}
-    }
-}
-
-/// Adds what is told where a send of this mode is done.
-fn add_sent(
-    program: &LongProgram,
-    columns: &Columns,
-    partners: &[Option<usize>],
-    rows: &[Vec<usize>],
-    row: &mut Vec<usize>,
-    mode: Mode,
-    send: usize,
-)
-    ensures { Adds columns.now rows.now (λ knows f. tells_sent program.now (with_partners partners.now) knows send mode f) row.old.items row.new.items }
-{
-    match mode {
-        Mode::Standard => add_unbuffered(program, columns, partners, rows, row, send),
-        Mode::Synchronous => add_fetch(program, columns, partners, rows, row, send),
-        Mode::Buffered => {}
-    }
-}
-
-/// Adds what is told where the call has returned, which is something only of a blocking one.
-fn add_if_blocking(
-    program: &LongProgram,
-    columns: &Columns,
-    partners: &[Option<usize>],
-    rows: &[Vec<usize>],
-    row: &mut Vec<usize>,
-    blocking: bool,
-    call: usize,
-)
-    ensures { Adds columns.now rows.now (λ knows f. blocking && tells_done program.now (with_partners partners.now) knows call f) row.old.items row.new.items }
-{
-    if blocking {
-        add_done(program, columns, partners, rows, row, call);
-    }
-}
-
-/// Adds what is told where the call has returned.
-fn add_return(
-    program: &LongProgram,
-    columns: &Columns,
-    partners: &[Option<usize>],
-    rows: &[Vec<usize>],
-    row: &mut Vec<usize>,
-    call: usize,
-)
-    ensures { Adds columns.now rows.now (λ knows f. tells_return_call program.now (with_partners partners.now) knows call (call_at program.now call) f) row.old.items row.new.items }
-{
-    let Some(known) = program.call(call) else {
-        return;
-    };
-    match known.kind {
-        Kind::Send { blocking, .. } => {
-            add_if_blocking(program, columns, partners, rows, row, blocking, call);
-        }
-        Kind::Receive { blocking, .. } => {
-            add_if_blocking(program, columns, partners, rows, row, blocking, call);
-        }
-        Kind::MatchedProbe { .. } => add_done(program, columns, partners, rows, row, call),
-        Kind::Probe { .. } => add_done(program, columns, partners, rows, row, call),
-        Kind::MatchedReceive { .. } => {}
-        Kind::Wait { operation } => add_done(program, columns, partners, rows, row, operation),
-    }
-}
-
-/// Adds what is told where the call has returned, and where it was issued.
-fn add_before(
-    program: &LongProgram,
-    columns: &Columns,
-    partners: &[Option<usize>],
-    rows: &[Vec<usize>],
-    row: &mut Vec<usize>,
-    before: usize,
-)
-    ensures { Adds columns.now rows.now (λ knows f. knows before f || tells_return_call program.now (with_partners partners.now) knows before (call_at program.now before) f) row.old.items row.new.items }
-{
-    join_row(columns, rows, row, before);
-    add_return(program, columns, partners, rows, row, before);
-}
-
-/// Adds what the issue of the call tells, by the call before it in its rank.
-fn add_issue(
-    program: &LongProgram,
-    columns: &Columns,
-    partners: &[Option<usize>],
-    rows: &[Vec<usize>],
-    row: &mut Vec<usize>,
-    call: usize,
-)
-    ensures { Adds columns.now rows.now (λ knows f. tells_issue program.now (with_partners partners.now) knows call f) row.old.items row.new.items }
-{
-    if call > 0 {
-        let before = call - 1;
-        if program.are_of_one_rank(before, call) {
-            add_before(program, columns, partners, rows, row, before);
-        }
-    }
-}
-
-/// The row of the call. The only error is want of memory.
-fn issue_row(
+/// The row that is made from these. The only error is want of memory.
+fn row_from(
     alloc: Global,
-    program: &LongProgram,
     columns: &Columns,
     partners: &[Option<usize>],
     rows: &[Vec<usize>],
-    call: usize,
+    read: &Read,
 ) -> Result<Vec<usize>, AllocError>
-    ensures { IfOk result (λ row. (knows : Table) → AreRows columns.now knows rows.now → IsRow columns.now (λ f. tells_issue program.now (with_partners partners.now) knows call f) row.items) }
+    ensures { IfOk result (λ row. (knows : Table) → AreRows columns.now knows rows.now → IsRow columns.now (λ f. tells_read (with_partners partners.now) knows read.now f) row.items) }
 {
     let mut row = vec![in alloc; 0; columns.count()]?;
-    add_issue(program, columns, partners, rows, &mut row, call);
+    add_read(columns, partners, rows, &mut row, read);
     Ok(row)
 }
 
@@ -336,140 +166,20 @@ fn forget(alloc: Global, rows: &mut Vec<Vec<usize>>, reads: &mut [usize], call: 
     }
 }
 
-/// Whether the row won't be read again, after this time.
-fn is_last_read(reads: &mut [usize], call: usize) -> bool {
-    match reads.get_mut(call) {
-        None => false,
-        Some(left) => {
-            *left = left.saturating_sub(1);
-            *left == 0
-        }
-    }
-}
-
-/// The calls whose rows are read where a row is made.
-#[derive(Clone, Copy)]
-struct Read {
-    /// The call before it in its rank.
-    before: Option<usize>,
-    /// The finder that has found where the one before has returned.
-    finder: Option<usize>,
-    /// What that one found.
-    send: Option<usize>,
-    /// The receive on its handle, where the send was waited for.
-    receive: Option<usize>,
-}
-
-/// Whether the end of the send's operation tells something.
-fn is_told_by_send(program: &LongProgram, mode: Mode) -> bool {
-    match mode {
-        Mode::Standard => matches!(program.policy(), Policy::Never),
-        Mode::Synchronous => true,
-        Mode::Buffered => false,
-    }
-}
-
-/// The finder that has found where the operation is done, and, of a send, the receive on the
-/// finder's handle.
-fn found_by(
-    program: &LongProgram,
-    partners: &[Option<usize>],
-    operation: usize,
-) -> (Option<usize>, Option<usize>) {
-    let Some(call) = program.call(operation) else {
-        return (None, None);
-    };
-    match call.kind {
-        Kind::Send { mode, .. } => {
-            if !is_told_by_send(program, mode) {
-                return (None, None);
-            }
-            let taker = partner(partners, operation);
-            (taker, received_on(program, taker))
-        }
-        _ => (Some(operation), None),
-    }
-}
-
-/// The receive on the handle of the call, if it is a matched probe.
-fn received_on(program: &LongProgram, taker: Option<usize>) -> Option<usize> {
-    match program.call(taker?)?.kind {
-        Kind::MatchedProbe { receive, .. } => Some(receive),
-        _ => None,
-    }
-}
-
-/// The calls whose rows are read where that of this call is made.
-fn read_for(program: &LongProgram, partners: &[Option<usize>], call: usize) -> Read {
-    let none = Read {
-        before: None,
-        finder: None,
-        send: None,
-        receive: None,
-    };
-    if call == 0 || !program.are_of_one_rank(call - 1, call) {
-        return none;
-    }
-    let before = Some(call - 1);
-    let Some(operation) = done_by_return(program, call - 1) else {
-        return Read { before, ..none };
-    };
-    let (finder, receive) = found_by(program, partners, operation);
-    let send = match finder {
-        None => None,
-        Some(finder) => partner(partners, finder),
-    };
-    Read {
-        before,
-        finder,
-        send,
-        receive,
-    }
-}
-
-/// Counts one read more of the row.
-fn count_read(reads: &mut Vec<usize>, call: Option<usize>) {
-    if let Some(call) = call {
-        if let Some(count) = reads.get_mut(call) {
-            *count = count.saturating_add(1);
-        }
-    }
-}
-
-/// For each call how often its row will be read. The only error is want of memory.
-fn reads_of(
-    alloc: Global,
-    program: &LongProgram,
-    partners: &[Option<usize>],
-) -> Result<Vec<usize>, AllocError> {
-    let calls = program.calls().len();
-    let mut reads = vec![in alloc; 0; calls]?;
-    for call in 0..calls {
-        let read = read_for(program, partners, call);
-        count_read(&mut reads, read.before);
-        count_read(&mut reads, read.finder);
-        count_read(&mut reads, read.send);
-        count_read(&mut reads, read.receive);
-    }
-    Ok(reads)
-}
-
-/// Lets go of the rows that were read for the last time where that of the call was made.
+/// Lets go of the rows that were read for the last time.
 fn forget_read(
     alloc: Global,
-    program: &LongProgram,
     partners: &[Option<usize>],
     rows: &mut Vec<Vec<usize>>,
     reads: &mut [usize],
-    call: usize,
+    read: &Read,
 )
     ensures { (numbering : Numbering) (knows : Table) → AreRows numbering knows rows.old.items → AreRows numbering knows rows.new.items }
 {
-    let read = read_for(program, partners, call);
     forget(alloc, rows, reads, read.before);
-    forget(alloc, rows, reads, read.finder);
-    forget(alloc, rows, reads, read.send);
-    forget(alloc, rows, reads, read.receive);
+    forget(alloc, rows, reads, read.found.finder);
+    forget(alloc, rows, reads, found_send(partners, read));
+    forget(alloc, rows, reads, read.found.receive);
 }
 
 /// What is known in a run, up to some step.
@@ -497,24 +207,17 @@ fn note(
 ) -> Result<(), AllocError>
     ensures { OnOk result (AreSound program.now (with_partners partners.now) columns.now known.old.rows.items known.old.told.items → AreSound program.now (with_partners partners.now) columns.now known.new.rows.items known.new.told.items) }
 {
-    let row = issue_row(
-        alloc,
-        program,
-        columns,
-        partners,
-        known.rows.as_slice(),
-        call,
-    )?;
+    let read = read_for(program, partners, call);
+    let row = row_from(alloc, columns, partners, known.rows.as_slice(), &read)?;
     let count = count_for(program, columns, row.as_slice(), call);
     tell(&mut known.told, call, count);
     put(&mut known.rows, known.reads.as_slice(), call, row);
     forget_read(
         alloc,
-        program,
         partners,
         &mut known.rows,
         known.reads.as_mut_slice(),
-        call,
+        &read,
     );
     Ok(())
 }
