@@ -101,26 +101,57 @@ pub fn end_open(program: &LongProgram, state: &State, names: &[usize], other: us
     }
 }
 
+/// Notes that there is a call of the rank at the place.
+fn note_call(starts: &mut Vec<usize>, ends: &mut Vec<usize>, rank: u32, place: usize) {
+    if let Some(end) = ends.get_mut(rank as usize) {
+        if *end == 0 {
+            if let Some(start) = starts.get_mut(rank as usize) {
+                *start = place;
+            }
+        }
+        *end = place.saturating_add(1);
+    }
+}
+
+/// For each send the one before it of its rank with the same envelope, from the sends' ranks,
+/// destinations, communicators, tags and places, which are sorted. The only error is want of
+/// memory.
+fn previous_of(
+    alloc: Global,
+    sends: &[(u32, u32, u32, u32, usize)],
+    calls: usize,
+) -> Result<Vec<Option<usize>>, AllocError> {
+    let mut previous: Vec<Option<usize>> = vec![in alloc; None; calls]?;
+    let mut last: Option<(u32, u32, u32, u32, usize)> = None;
+    for send in sends.iter() {
+        if let Some(before) = last {
+            if before.0 == send.0
+                && before.1 == send.1
+                && before.2 == send.2
+                && before.3 == send.3
+            {
+                if let Some(slot) = previous.get_mut(send.4) {
+                    *slot = Some(before.4);
+                }
+            }
+        }
+        last = Some(*send);
+    }
+    Ok(previous)
+}
+
 impl Classes {
     /// Those of a program. The only error is want of memory.
     pub fn new(alloc: Global, program: &LongProgram) -> Result<Self, AllocError> {
         let calls = program.calls().len();
-        let mut keys: Vec<(u32, u32, u32, u32, usize)> = Vec::new(alloc);
+        let mut sends: Vec<(u32, u32, u32, u32, usize)> = Vec::new(alloc);
         let mut starts = vec![in alloc; 0; program.ranks() as usize]?;
         let mut ends = vec![in alloc; 0; program.ranks() as usize]?;
-        let mut previous: Vec<Option<usize>> = vec![in alloc; None; calls]?;
         for place in 0..calls {
             if let Some(call) = program.call(place) {
-                if let Some(end) = ends.get_mut(call.rank as usize) {
-                    if *end == 0 {
-                        if let Some(start) = starts.get_mut(call.rank as usize) {
-                            *start = place;
-                        }
-                    }
-                    *end = place.saturating_add(1);
-                }
+                note_call(&mut starts, &mut ends, call.rank, place);
                 if let Some(message) = call.kind.message() {
-                    keys.push((
+                    sends.push((
                         call.rank,
                         message.destination,
                         message.communicator,
@@ -130,24 +161,9 @@ impl Classes {
                 }
             }
         }
-        keys.sort()?;
-        let mut last: Option<(u32, u32, u32, u32, usize)> = None;
-        for key in keys.iter() {
-            if let Some(before) = last {
-                if before.0 == key.0
-                    && before.1 == key.1
-                    && before.2 == key.2
-                    && before.3 == key.3
-                {
-                    if let Some(slot) = previous.get_mut(key.4) {
-                        *slot = Some(before.4);
-                    }
-                }
-            }
-            last = Some(*key);
-        }
+        sends.sort()?;
         Ok(Classes {
-            previous,
+            previous: previous_of(alloc, sends.as_slice(), calls)?,
             starts,
             ends,
         })

@@ -46,52 +46,46 @@ fn completed(program: &LongProgram, call: usize) -> Option<usize> {
     }
 }
 
-/// Notes that this is the column of the call's rank.
-fn note_column(program: &LongProgram, ranks: &mut Vec<Option<usize>>, call: usize, column: usize) {
-    if let Some(known) = program.call(call) {
-        if let Some(place) = ranks.get_mut(known.rank as usize) {
-            *place = Some(column);
-        }
-    }
-}
-
 impl Columns {
     /// The columns of a program. The only error is want of memory.
     pub fn new(alloc: Global, program: &LongProgram) -> Result<Self, AllocError> {
         let calls = program.calls().len();
-        let mut starts = Vec::new(alloc);
-        let mut listed = Vec::new(alloc);
-        let mut marks: Vec<Option<Mark>> = vec![in alloc; None; calls]?;
-        let mut ranks: Vec<Option<usize>> = vec![in alloc; None; program.ranks() as usize]?;
-        let mut column = 0;
-        let mut last = None;
+        let mut columns = Columns {
+            starts: Vec::new(alloc),
+            listed: Vec::new(alloc),
+            marks: vec![in alloc; None; calls]?,
+            ranks: vec![in alloc; None; program.ranks() as usize]?,
+        };
         for call in 0..calls {
             if let Some(finder) = completed(program, call) {
-                let same = match last {
-                    None => false,
-                    Some(before) => program.are_of_one_rank(before, call),
-                };
-                if !same {
-                    column = starts.len();
-                    starts.push(listed.len())?;
-                    note_column(program, &mut ranks, call, column);
-                }
-                last = Some(call);
-                if let Some(mark) = marks.get_mut(finder) {
-                    *mark = Some(Mark {
-                        column,
-                        number: listed.len(),
-                    });
-                }
-                listed.push(finder)?;
+                columns.list(program, finder)?;
             }
         }
-        Ok(Columns {
-            starts,
-            listed,
-            marks,
-            ranks,
-        })
+        Ok(columns)
+    }
+
+    /// Counts the finder as the last one of its rank. The only error is want of memory.
+    fn list(&mut self, program: &LongProgram, finder: usize) -> Result<(), AllocError> {
+        let Some(call) = program.call(finder) else {
+            return Ok(());
+        };
+        let number = self.listed.len();
+        let column = match self.column(call.rank) {
+            Some(column) => column,
+            None => {
+                let column = self.starts.len();
+                self.starts.push(number)?;
+                if let Some(place) = self.ranks.get_mut(call.rank as usize) {
+                    *place = Some(column);
+                }
+                column
+            }
+        };
+        if let Some(mark) = self.marks.get_mut(finder) {
+            *mark = Some(Mark { column, number });
+        }
+        self.listed.push(finder)?;
+        Ok(())
     }
 
     /// How many columns there are.
