@@ -1,5 +1,5 @@
 -- A call that two sends of different ranks fit takes any source.
-use Rattle.std.proofs.Common.{◌≡◌, ℕ, ◌⊎◌, inl, inr, Bool, true, false, not, ◌==◌, Option, Some, None, IsTrue, is_some, refl, sym, ap, subst, ◌∙◌}
+use Rattle.std.proofs.Common.{◌≡◌, ℕ, ◌⊎◌, inl, inr, Bool, true, false, not, IfNone, ◌==◌, Option, Some, None, IsTrue, is_some, refl, sym, ap, subst, ◌∙◌}
 use Rattle.std.proofs.lemmas.Bool.{eqb-true, eq-eqb}
 use Rattle.calltext.proofs.Conjunctions.{and_true}
 use Rattle.callorder.specs.declared.calls.Call.{Call}
@@ -89,3 +89,8 @@ race_of p e rival send finder found other is fit partner (f, f_at) (s, s_at) (o,
       other_fits = ap (λ (z : ℕ). are_fit p z finder.place) o_at ∙ ap (are_fit p rival.send) f_at ∙ is.fits;
       apart = ap (λ (z : ℕ). are_of_one_rank p z other.place) s_at ∙ ap (are_of_one_rank p send) o_at ∙ apart;
     }
+
+-- what is known where there is none
+pub if_none : {A : Type 0} (o : Option A) (P : Type 0) (b : Bool) → b ≡ is_some o → b ≡ false → IfNone o P → P
+if_none None P b is not_some there = there
+if_none (Some x) P b is not_some there = let both : true ≡ false = sym is ∙ not_some in absurd cc

@@ -5,7 +5,7 @@ use Rattle.races.specs.Races.{BuffersNoneByChoice}
 use Rattle.races.proofs.Kept.{Kept}
 use Rattle.races.proofs.Passing.{kept_run}
 use Rattle.races.proofs.Telling.{programs_are_in_order}
-use Rattle.leastrun.proofs.Entries.{if_none}
+use Rattle.deciding.proofs.Racing.{if_none}
 use Rattle.deciding.proofs.decision.decide_program.Goals as goal
 
 pub first_race-requires-clause-finished : goal.first_race-requires-clause-finished
