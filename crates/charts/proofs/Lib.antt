@@ -1,3 +1,4 @@
+pub mod Parts
 mod Columns
 mod Listed
 mod Replayed

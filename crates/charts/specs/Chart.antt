@@ -1,5 +1,5 @@
 -- A message sequence chart: a heading, a row for each step, and a row of where each rank stands at the end. Each rank has a column.
-use Rattle.std.specs.Prelude.{codes, ℕ, zero, suc, ◌-◌, ◌==◌, ◌&&◌, ◌||◌, nat_le, nat_lt, Bool, true, false, if◌then◌else◌, List, [], ◌∷◌, ◌++◌, length, replicate, Option, Some, None, slice_get}
+use Rattle.std.specs.Prelude.{codes, ℕ, zero, suc, ◌-◌, ◌==◌, ◌&&◌, ◌||◌, nat_le, nat_lt, Bool, true, false, if◌then◌else◌, List, [], ◌∷◌, ◌++◌, length, drop, replicate, Option, Some, None, slice_get}
 use Rattle.std.specs.List.{flat_map}
 use Rattle.plaintext.specs.Plain.{numeral}
 use Rattle.calltext.specs.Grammar.{ProgramText}
@@ -10,6 +10,7 @@ use Rattle.charts.specs.declared.acts.Act.{Act}
 use Rattle.charts.specs.declared.acts.Act.TheVariants.{Issue, Match, See}
 use Rattle.charts.specs.Acts.{acts_from}
 use Rattle.charts.specs.Calls.{Telling, told_calls, shortened}
+use Rattle.charts.specs.Cuts.{undrawn, undrawn_line}
 
 -- ---- columns
 
@@ -120,8 +121,13 @@ end_cell p m rank = padded (end_word (is_rank_finished p m rank)) 32 (width_at p
 abbrev pub end_row : MpiProgram → Configuration → List ℕ
 end_row p m = columns (end_cell p m) p.ranks ++ codes "\n"
 
--- the heading, a row for each step, in order, and the row of where each rank stands at the end
+-- how many steps come before, and a row for each of the others, in order
+abbrev pub rows_of : MpiProgram → List Telling → List Act → List ℕ
+rows_of p calls acts =
+    undrawn_line (undrawn p (length acts)) ++ flat_map (row_of p.ranks calls) (drop (undrawn p (length acts)) acts)
+
+-- the heading, a row for each step that is drawn, and the row of where each rank stands at the end
 abbrev pub chart_of : List ℕ → ProgramText → MpiProgram → List Step → List ℕ
 chart_of text source p steps =
     heading p.ranks
-    ++ (flat_map (row_of p.ranks (told_calls text source p)) (acts_from (opening p) steps) ++ end_row p (after_all (opening p) steps))
+    ++ (rows_of p (told_calls text source p) (acts_from (opening p) steps) ++ end_row p (after_all (opening p) steps))

@@ -1,5 +1,6 @@
 pub mod Calls
 pub mod Acts
 pub mod Lining
+pub mod Cuts
 pub mod Chart
 pub mod Picture

@@ -1,6 +1,6 @@
 -- A message sequence chart as a picture, in SVG: a lifeline for each rank, a group for each step, and where each rank stands at the end.
 -- Numbers are pixels; x counts from the left, y from the top.
-use Rattle.std.specs.Prelude.{codes, ℕ, ◌+◌, ◌-◌, ◌*◌, ◌==◌, ◌&&◌, nat_lt, not, Bool, true, false, if◌then◌else◌, is_some, List, [], ◌∷◌, ◌++◌, length, Option, Some, None, slice_get, slice_index}
+use Rattle.std.specs.Prelude.{codes, ℕ, ◌+◌, ◌-◌, ◌*◌, ◌==◌, ◌&&◌, nat_lt, not, Bool, true, false, if◌then◌else◌, is_some, List, [], ◌∷◌, ◌++◌, length, drop, Option, Some, None, slice_get, slice_index}
 use Rattle.std.specs.List.{flat_map}
 use Rattle.plaintext.specs.Plain.{numeral}
 use Rattle.calltext.specs.Grammar.{ProgramText}
@@ -14,6 +14,7 @@ use Rattle.charts.specs.declared.acts.Act.TheVariants.{Issue, Match, See}
 use Rattle.charts.specs.Acts.{acts_from}
 use Rattle.charts.specs.Calls.{Telling, told_calls, shortened}
 use Rattle.charts.specs.Chart.{columns}
+use Rattle.charts.specs.Cuts.{undrawn, undrawn_text}
 
 -- ---- places and words
 
@@ -161,10 +162,14 @@ end_text p m calls rank =
 abbrev pub drawn_end : MpiProgram → Configuration → List Telling → ℕ → ℕ → List ℕ
 drawn_end p m calls steps rank = group_head (codes "end") (x_of rank) (y_of steps + 20) ++ (end_text p m calls rank ++ codes "</g>\n")
 
--- the parts of a picture: the head, the lifelines, a group for each step, in order, where each rank stands at the end, and the foot
+-- the parts of a picture: the head, how many steps come before the drawn ones, the lifelines, a group for each drawn step, in order, where
+-- each rank stands at the end, and the foot
+abbrev pub picture_behind : MpiProgram → Configuration → List Telling → ℕ → List Act → List ℕ
+picture_behind p m calls before acts =
+    head p.ranks (length acts) ++ (undrawn_text before ++ (columns (lifeline (length acts)) p.ranks ++ (columns (drawn_at p m calls acts) (length acts) ++ (columns (drawn_end p m calls (length acts)) p.ranks ++ codes "</svg>\n"))))
+
 abbrev pub picture_from : MpiProgram → Configuration → List Telling → List Act → List ℕ
-picture_from p m calls acts =
-    head p.ranks (length acts) ++ (columns (lifeline (length acts)) p.ranks ++ (columns (drawn_at p m calls acts) (length acts) ++ (columns (drawn_end p m calls (length acts)) p.ranks ++ codes "</svg>\n")))
+picture_from p m calls acts = picture_behind p m calls (undrawn p (length acts)) (drop (undrawn p (length acts)) acts)
 
 abbrev pub picture_of : List ℕ → ProgramText → MpiProgram → List Step → List ℕ
 picture_of text source p steps =

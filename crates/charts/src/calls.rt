@@ -2,7 +2,7 @@
 
 ghost use Rattle.std.specs.Prelude.{◌≡◌, ◌==◌, ◌-◌, IfOk, map, take};
 ghost use Rattle.std.specs.List.{count_by, slice_split};
-ghost use Rattle.charts.specs.Calls.{line_at, part_words, part_of, shortened, told_calls, telling_at};
+ghost use Rattle.charts.specs.Calls.{earlier, line_at, part_words, part_of, shortened, told_calls, telling_at};
 
 use callorder::LongProgram;
 use calltext::LongSource;
@@ -79,17 +79,6 @@ fn part_of(place: usize) -> &'static str
     }
 }
 
-/// What stands behind the words of a line, for a call that has so many calls of the line before it.
-fn part_words(line: &[u8], place: usize) -> &'static str
-    ensures { result.now ≡ part_words line.now place }
-{
-    if line.starts_with(b"sendrecv ") {
-        part_of(place)
-    } else {
-        ""
-    }
-}
-
 /// The line with this number, from 1; empty where there is none.
 fn line_at<'a>(lines: &[&'a [u8]], number: usize) -> &'a [u8]
     ensures { result.now ≡ line_at (map (λ l. l.now) lines.now) number }
@@ -117,6 +106,18 @@ fn earlier(numbers: &[usize], place: usize, number: usize) -> usize
         .count()
 }
 
+/// What stands behind the words of a line for the call at a place, which stands in it. Only where the line is a `sendrecv` are
+/// its earlier calls counted.
+fn part_at(line: &[u8], numbers: &[usize], place: usize) -> &'static str
+    ensures { result.now ≡ part_words line.now (earlier numbers.now place) }
+{
+    if !line.starts_with(b"sendrecv ") {
+        return "";
+    }
+    let number = numbers.get(place).copied().unwrap_or(0);
+    part_of(earlier(numbers, place, number))
+}
+
 /// The call at a place, which is one of this rank.
 fn told_at(
     alloc: Global,
@@ -130,7 +131,7 @@ fn told_at(
     let line = numbers.get(place).copied().unwrap_or(0);
     let bytes = line_at(lines, line);
     let mut words = shortened(alloc, bytes, MOST_WORDS)?;
-    let part = part_words(bytes, earlier(numbers, place, line));
+    let part = part_at(bytes, numbers, place);
     words.extend_from_slice(part.as_bytes())?;
     Ok(Told { rank, line, words })
 }

@@ -3,11 +3,12 @@
 ghost use Rattle.std.specs.Prelude.{◌≡◌, ◌++◌, Some, codes, IfOk, OnOk, slice_get};
 ghost use Rattle.std.specs.List.{flat_map};
 ghost use Rattle.semantics.specs.Machine.{IsStuckRun};
-ghost use Rattle.charts.specs.Chart.{chart_of, columns, end_row, find_cell, find_note, find_row, find_row_of, heading, issue_row, issue_row_of, row_of};
+ghost use Rattle.charts.specs.Chart.{chart_of, columns, end_row, find_cell, find_note, find_row, find_row_of, heading, issue_row, issue_row_of, row_of, rows_of};
 
 use crate::acts::{Act, play};
 use crate::calls::{Told, told_calls};
 use crate::cells::{issue_mark, put_end_cell, put_find_cell, put_heading_cell, put_issue_cell};
+use crate::cutting::{put_undrawn_line, undrawn};
 use crate::writing::put_number;
 use callorder::LongProgram;
 use calltext::LongSource;
@@ -169,6 +170,21 @@ fn put_rows(
     Ok(())
 }
 
+/// Writes how many steps come before the drawn ones, and the rows of these.
+fn put_drawn_rows(
+    out: &mut Vec<u8>,
+    alloc: Global,
+    program: &LongProgram,
+    calls: &[Told],
+    acts: &[Act],
+) -> Result<(), AllocError>
+    ensures { OnOk result (out.new.items ≡ out.old.items ++ rows_of program.now calls.now acts.now) }
+{
+    let before = undrawn(program, acts.len());
+    put_undrawn_line(out, before)?;
+    put_rows(out, alloc, program.ranks(), calls, &acts[before..])
+}
+
 /// Writes the last row, of where each rank stands.
 fn put_end(out: &mut Vec<u8>, program: &LongProgram, end: &State) -> Result<(), AllocError>
     ensures { OnOk result (out.new.items ≡ out.old.items ++ end_row program.now end.now) }
@@ -184,7 +200,8 @@ fn put_end(out: &mut Vec<u8>, program: &LongProgram, end: &State) -> Result<(), 
 /// to 15 characters, a buffered send with `b ` before them. A match is an arrow from `o` in the sender's column to `>` or `<` in that of
 /// the rank that takes the message, or `@` where both are one rank, and the lines of the two calls behind it; a see is such an arrow
 /// of dots. The last row has `waits` or `done` for each rank. More than 8 ranks have columns 6 wide, headed `r0` and so on, and no
-/// words: `i4` is the issue of a call in line 4, and `b4` that of a buffered send. `text` is the program's text, `source` what it says, and
+/// words: `i4` is the issue of a call in line 4, and `b4` that of a buffered send. Of a run of a program of more than 64 ranks or 1,024 calls
+/// the last 400 steps are drawn, below a line that tells how many come before. `text` is the program's text, `source` what it says, and
 /// `program` its calls. The only error is want of memory.
 pub fn chart(
     alloc: Global,
@@ -200,7 +217,7 @@ pub fn chart(
     let played = play(alloc, program, steps)?;
     let mut out = Vec::new(alloc);
     put_heading(&mut out, alloc, program.ranks())?;
-    put_rows(&mut out, alloc, program.ranks(), &calls, &played.acts)?;
+    put_drawn_rows(&mut out, alloc, program, &calls, &played.acts)?;
     put_end(&mut out, program, &played.end)?;
     Ok(out)
 }

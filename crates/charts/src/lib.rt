@@ -8,6 +8,7 @@ mod acts;
 mod calls;
 mod cells;
 mod charting;
+mod cutting;
 mod drawing;
 mod lining;
 mod picturing;

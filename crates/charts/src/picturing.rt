@@ -3,10 +3,11 @@
 ghost use Rattle.std.specs.Prelude.{◌≡◌, ◌-◌, ◌++◌, IfOk, OnOk, Some, length, slice_get, slice_index};
 ghost use Rattle.semantics.specs.Machine.{IsStuckRun};
 ghost use Rattle.charts.specs.Chart.{columns};
-ghost use Rattle.charts.specs.Picture.{blank, drawn, drawn_at, drawn_end, drawn_find, drawn_find_of, drawn_issue, drawn_issue_of, end_text, is_left, lifeline, picture_from, picture_of, waits_text, y_of};
+ghost use Rattle.charts.specs.Picture.{blank, drawn, drawn_at, drawn_end, drawn_find, drawn_find_of, drawn_issue, drawn_issue_of, end_text, is_left, lifeline, picture_behind, picture_from, picture_of, waits_text, y_of};
 
 use crate::acts::{Act, play};
 use crate::calls::{Told, told_calls};
+use crate::cutting::{behind, put_undrawn_text, undrawn};
 use crate::drawing::{
     MOST_WORDS, left_of, put_arrow, put_group, put_head, put_label, put_lifeline, put_note,
     put_short, put_stub, x_of, y_of,
@@ -266,8 +267,29 @@ fn put_ends(
     Ok(())
 }
 
-/// Writes the whole picture.
+/// Writes a picture of these steps, behind so many others.
 fn put_picture(
+    out: &mut Vec<u8>,
+    alloc: Global,
+    program: &LongProgram,
+    end: &State,
+    calls: &[Told],
+    before: usize,
+    acts: &[Act],
+) -> Result<(), AllocError>
+    ensures { OnOk result (out.new.items ≡ out.old.items ++ picture_behind program.now end.now calls.now before acts.now) }
+{
+    put_head(out, program.ranks(), acts.len())?;
+    put_undrawn_text(out, before)?;
+    put_lifelines(out, acts.len(), program.ranks())?;
+    put_steps(out, alloc, program, end, calls, acts)?;
+    put_ends(out, alloc, program, end, calls, acts.len())?;
+    put_text(out, "</svg>\n")?;
+    Ok(())
+}
+
+/// Writes a picture of those of all steps that are drawn.
+fn put_drawn_picture(
     out: &mut Vec<u8>,
     alloc: Global,
     program: &LongProgram,
@@ -277,11 +299,9 @@ fn put_picture(
 ) -> Result<(), AllocError>
     ensures { OnOk result (out.new.items ≡ out.old.items ++ picture_from program.now end.now calls.now acts.now) }
 {
-    put_head(out, program.ranks(), acts.len())?;
-    put_lifelines(out, acts.len(), program.ranks())?;
-    put_steps(out, alloc, program, end, calls, acts)?;
-    put_ends(out, alloc, program, end, calls, acts.len())?;
-    put_text(out, "</svg>\n")?;
+    let before = undrawn(program, acts.len());
+    let drawn = behind(acts, before);
+    put_picture(out, alloc, program, end, calls, before, drawn)?;
     Ok(())
 }
 
@@ -290,7 +310,8 @@ fn put_picture(
 /// with the words of the call's line, cut to 40 characters; that of a buffered send is blue, with the word `buffered`, and a message
 /// that is never received has a red stub to the left. A match is an arrow from the sender's lifeline to that of the rank that takes the
 /// message, or a circle where both are one rank, with the lines of the two calls; that of a see is dashed. Below the steps stands in red
-/// in which call each unfinished rank waits, its words cut so too. `text` is the program's text, `source` what it says, and
+/// in which call each unfinished rank waits, its words cut so too. Of a run of a program of more than 64 ranks or 1,024 calls the last 400
+/// steps are drawn, and below the names stands how many come before. `text` is the program's text, `source` what it says, and
 /// `program` its calls. The only error is want of memory.
 pub fn picture(
     alloc: Global,
@@ -305,6 +326,6 @@ pub fn picture(
     let calls = told_calls(alloc, text, source, program)?;
     let played = play(alloc, program, steps)?;
     let mut out = Vec::new(alloc);
-    put_picture(&mut out, alloc, program, &played.end, &calls, &played.acts)?;
+    put_drawn_picture(&mut out, alloc, program, &played.end, &calls, &played.acts)?;
     Ok(out)
 }

@@ -99,19 +99,18 @@ fn put_folded(
     out.push('\n')
 }
 
-/// The calls of a rank among these that are reached, or those that aren't.
-fn of_rank(
+/// The calls among these that are reached, or those that aren't.
+fn of_fate(
     alloc: Global,
     program: &LongProgram,
     scene: &Scene,
     calls: &[usize],
-    rank: u32,
     reached: bool,
 ) -> Result<Vec<usize>, AllocError> {
     let mut found = Vec::new(alloc);
     for call in calls {
         let is_reached = fate_of(program, &scene.state, *call) != Fate::NotIssued;
-        if program.is_of_rank(*call, rank) && is_reached == reached {
+        if is_reached == reached {
             found.push(*call)?;
         }
     }
@@ -135,23 +134,40 @@ fn put_calls(
     Ok(())
 }
 
-/// Tells the calls of a rank among these, and whether there are any. Where they aren't wanted, nothing is told.
+/// Tells these calls, which are of one rank.
 fn put_of_rank(
     out: &mut String,
     alloc: Global,
     program: &LongProgram,
     scene: &Scene,
     calls: &[usize],
-    rank: u32,
-    wanted: bool,
-) -> Result<bool, AllocError> {
-    let taken = of_rank(alloc, program, scene, calls, rank, true)?;
-    let ahead = of_rank(alloc, program, scene, calls, rank, false)?;
-    if wanted {
-        put_calls(out, program, scene, &taken, true)?;
-        put_calls(out, program, scene, &ahead, false)?;
+) -> Result<(), AllocError> {
+    let taken = of_fate(alloc, program, scene, calls, true)?;
+    let ahead = of_fate(alloc, program, scene, calls, false)?;
+    put_calls(out, program, scene, &taken, true)?;
+    put_calls(out, program, scene, &ahead, false)
+}
+
+/// Whether the call at a place of a list, which is in rank order, is the first of its rank there.
+fn begins_rank(program: &LongProgram, calls: &[usize], place: usize) -> bool {
+    if place == 0 {
+        return true;
     }
-    Ok(!taken.is_empty() || !ahead.is_empty())
+    match (calls.get(place - 1), calls.get(place)) {
+        (Some(before), Some(call)) => !program.are_of_one_rank(*before, *call),
+        _ => true,
+    }
+}
+
+/// The calls of a list from this place on, up to the first of another rank.
+fn of_one_rank<'a>(program: &LongProgram, calls: &'a [usize], place: usize) -> &'a [usize] {
+    let (_earlier, later) = calls.split_at(place.min(calls.len()));
+    let count = later
+        .iter()
+        .take_while(|other| program.are_of_one_rank(later[0], **other))
+        .count();
+    let (own, _others) = later.split_at(count.min(later.len()));
+    own
 }
 
 /// Tells of how many ranks beyond those that a list tells calls fit, if there are more.
@@ -182,9 +198,12 @@ pub fn put_candidates(
         })?;
     }
     let mut ranks: usize = 0;
-    for rank in 0..program.ranks() {
-        let wanted = ranks < scene.most(MOST_TOLD);
-        if put_of_rank(out, alloc, program, scene, &calls, rank, wanted)? {
+    for place in 0..calls.len() {
+        if begins_rank(program, &calls, place) {
+            if ranks < scene.most(MOST_TOLD) {
+                let own = of_one_rank(program, &calls, place);
+                put_of_rank(out, alloc, program, scene, own)?;
+            }
             ranks = ranks.saturating_add(1);
         }
     }

@@ -2,34 +2,34 @@
 
 use crate::placing::{MOST_TOLD, Scene, put_more};
 use crate::standings::{put_need, put_waiting};
-use callorder::Program;
+use callorder::LongProgram;
 use std::alloc::{AllocError, Global};
-use waits::{RankSet, Standing, awaited, standing_of};
+use waits::{Standing, standing_of};
 
 /// Whether a rank waits for nobody.
-pub fn lacks(program: &Program, scene: &Scene, rank: u32) -> bool {
+pub fn lacks(program: &LongProgram, scene: &Scene, rank: u32) -> bool {
     match standing_of(program, &scene.state, rank) {
-        Standing::Waits { .. } => awaited(program, &scene.state, rank).is_empty(),
+        Standing::Waits { .. } => scene.awaited_by(rank).is_empty(),
         _ => false,
     }
 }
 
-/// The ranks that wait for nobody.
-pub fn lacking(program: &Program, scene: &Scene) -> RankSet {
-    let mut ranks = RankSet::empty();
-    for rank in 0..64 {
-        if lacks(program, scene, rank) {
-            ranks.insert(rank);
-        }
-    }
-    ranks
+/// The ranks that wait for nobody, in rising order.
+pub fn lacking(
+    alloc: Global,
+    program: &LongProgram,
+    scene: &Scene,
+) -> Result<Vec<u32>, AllocError> {
+    (0..program.ranks())
+        .filter(|rank| lacks(program, scene, *rank))
+        .collect(alloc)
 }
 
 /// Tells for what a rank waits, if it does.
 fn put_lack(
     out: &mut String,
     alloc: Global,
-    program: &Program,
+    program: &LongProgram,
     scene: &Scene,
     rank: u32,
 ) -> Result<(), AllocError> {
@@ -45,20 +45,15 @@ fn put_lack(
 /// Tells what ranks that wait for nobody wait in.
 pub fn lacks_of(
     alloc: Global,
-    program: &Program,
+    program: &LongProgram,
     scene: &Scene,
-    lacking: RankSet,
+    lacking: &[u32],
 ) -> Result<String, AllocError> {
     let mut out = String::new(alloc);
-    let mut told: usize = 0;
-    for rank in 0..64 {
-        if lacking.contains(rank) {
-            if told < scene.most(MOST_TOLD) {
-                put_lack(&mut out, alloc, program, scene, rank)?;
-            }
-            told = told.saturating_add(1);
-        }
+    let most = scene.most(MOST_TOLD);
+    for rank in lacking.iter().take(most) {
+        put_lack(&mut out, alloc, program, scene, *rank)?;
     }
-    put_more(&mut out, scene, told)?;
+    put_more(&mut out, most, lacking.len())?;
     Ok(out)
 }

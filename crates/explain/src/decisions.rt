@@ -3,7 +3,7 @@
 
 ghost use Rattle.semantics.specs.Machine.{IsStuckRun};
 
-use crate::placing::{Scene, put_call_of, put_finding, put_number_of};
+use crate::placing::{Scene, put_call_of, put_entry, put_finding, put_more, put_number_of};
 use callorder::{LongProgram, Policy};
 use semantics::{State, Step};
 use std::alloc::{AllocError, Global};
@@ -27,14 +27,32 @@ fn is_free_send(program: &LongProgram, state: &State, send: usize, finder: usize
     program.are_fit(send, finder) && state.partner(send).is_none()
 }
 
-/// Whether an earlier send of the send's rank would be found by the call first.
+/// Whether an earlier send of the send's rank would be found by the call first. The calls of a rank stand together.
 fn is_behind(program: &LongProgram, state: &State, send: usize, finder: usize) -> bool {
-    (0..send).any(|earlier| {
-        program.are_of_one_rank(earlier, send) && is_free_send(program, state, earlier, finder)
-    })
+    for earlier in (0..send).rev() {
+        if !program.are_of_one_rank(earlier, send) {
+            return false;
+        }
+        if is_free_send(program, state, earlier, finder) {
+            return true;
+        }
+    }
+    false
 }
 
-/// The sends of other ranks that fit the call too, of each rank the first one that is not matched.
+/// Whether the call is a receive, a matched probe or a probe that names its source.
+fn names_source(program: &LongProgram, finder: usize) -> bool {
+    match program.call(finder) {
+        None => false,
+        Some(call) => match call.kind.pattern() {
+            None => false,
+            Some(pattern) => pattern.source.is_some(),
+        },
+    }
+}
+
+/// The sends of other ranks than that of the send, which the call finds, that fit the call too, of each rank the first one that is
+/// not matched.
 pub fn rivals(
     alloc: Global,
     program: &LongProgram,
@@ -42,6 +60,9 @@ pub fn rivals(
     send: usize,
     finder: usize,
 ) -> Result<Vec<usize>, AllocError> {
+    if names_source(program, finder) {
+        return Ok(Vec::new(alloc));
+    }
     (0..program.calls().len())
         .filter(|other| {
             is_free_send(program, state, *other, finder)
@@ -131,9 +152,13 @@ pub fn decisions(
 {
     let mut out = String::new(alloc);
     let mut state = State::start(alloc, program)?;
+    let mut told: usize = 0;
     for step in steps {
-        put_decision(&mut out, alloc, program, scene, &state, *step)?;
+        let mut decision = String::new(alloc);
+        put_decision(&mut decision, alloc, program, scene, &state, *step)?;
         state.apply(program, *step);
+        told = put_entry(&mut out, &decision, told, scene.most_of_large())?;
     }
+    put_more(&mut out, scene.most_of_large(), told)?;
     Ok(out)
 }

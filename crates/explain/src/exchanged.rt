@@ -1,13 +1,20 @@
 //! Receives that took another message than the one that a probe before them saw.
 
-use crate::placing::{Scene, put_finding, put_number_of};
+use crate::placing::{Scene, put_entry, put_finding, put_more, put_number_of};
 use callorder::LongProgram;
 use std::alloc::{AllocError, Global};
 
 /// The first receive or matched probe behind a probe, in its rank, that the send fits, if there is one.
 fn next_taker(program: &LongProgram, send: usize, probe: usize) -> Option<usize> {
-    (probe..program.calls().len()).find(|call| program.are_of_one_rank(*call, probe)
-        && program.takes(send, *call))
+    for call in probe..program.calls().len() {
+        if !program.are_of_one_rank(call, probe) {
+            return None;
+        }
+        if program.takes(send, call) {
+            return Some(call);
+        }
+    }
+    None
 }
 
 /// Tells the receive or matched probe that stands behind a probe to take the message that this saw, where it took another one.
@@ -43,10 +50,14 @@ pub fn exchanged(
     scene: &Scene,
 ) -> Result<String, AllocError> {
     let mut out = String::new(alloc);
+    let mut told: usize = 0;
     for place in 0..program.calls().len() {
         if program.is_probe(place) {
-            put_exchange(&mut out, program, scene, place)?;
+            let mut exchange = String::new(alloc);
+            put_exchange(&mut exchange, program, scene, place)?;
+            told = put_entry(&mut out, &exchange, told, scene.most_of_large())?;
         }
     }
+    put_more(&mut out, scene.most_of_large(), told)?;
     Ok(out)
 }

@@ -11,8 +11,8 @@ use crate::scene::scene_of;
 use crate::standings::standings;
 use crate::unreceived::unreceived;
 use crate::waiters::waiters;
-use callorder::Program;
-use calltext::Source;
+use callorder::LongProgram;
+use calltext::LongSource;
 use semantics::Step;
 use std::alloc::{AllocError, Global};
 
@@ -20,11 +20,12 @@ use std::alloc::{AllocError, Global};
 fn put_cause(
     out: &mut String,
     alloc: Global,
-    program: &Program,
+    program: &LongProgram,
     scene: &Scene,
 ) -> Result<(), AllocError> {
     put_a_cycle(out, alloc, program, scene)?;
-    let lacks = lacks_of(alloc, program, scene, lacking(program, scene))?;
+    let lacking = lacking(alloc, program, scene)?;
+    let lacks = lacks_of(alloc, program, scene, &lacking)?;
     put_part(out, "what can't come:", &lacks)
 }
 
@@ -32,19 +33,19 @@ fn put_cause(
 fn put_rest(
     out: &mut String,
     alloc: Global,
-    program: &Program,
+    program: &LongProgram,
     scene: &Scene,
 ) -> Result<(), AllocError> {
     let exchanged = exchanged(alloc, program, scene)?;
     let heading = "receives that took another message than a probe saw:";
     put_part(out, heading, &exchanged)?;
-    let lacking = lacking(program, scene);
+    let lacking = lacking(alloc, program, scene)?;
     let heading = if lacking.is_empty() {
         "where each rank stands:"
     } else {
         "where the other ranks stand:"
     };
-    put_part(out, heading, &standings(alloc, program, scene, lacking)?)?;
+    put_part(out, heading, &standings(alloc, program, scene)?)?;
     put_part(out, "who waits for whom:", &waiters(alloc, program, scene)?)?;
     let unreceived = unreceived(alloc, program, scene)?;
     put_part(out, "messages that nobody received:", &unreceived)
@@ -58,8 +59,8 @@ fn put_rest(
 pub fn explanation(
     alloc: Global,
     text: &[u8],
-    source: &Source,
-    program: &Program,
+    source: &LongSource,
+    program: &LongProgram,
     steps: &[Step],
     decided: &str,
     whole: bool,

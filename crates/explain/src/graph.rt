@@ -3,16 +3,16 @@
 ghost use Rattle.semantics.specs.Machine.{IsStuckRun};
 
 use crate::cause::lacks;
-use crate::links::{cycle_of, next_on};
+use crate::links::{cycle_of, followers};
 use crate::missing::{MOST_MISSES, likely_misses};
-use crate::placing::{Scene, are_in_one_line, are_several, put_line};
+use crate::placing::{Scene, are_in_one_line, put_line};
 use crate::scene::scene_of;
-use callorder::Program;
-use calltext::Source;
+use callorder::LongProgram;
+use calltext::LongSource;
 use misses::{Part, misses_in};
 use semantics::Step;
 use std::alloc::{AllocError, Global};
-use waits::{Need, Standing, awaited, need_of, operation_of, standing_of};
+use waits::{Need, Standing, need_of, operation_of, standing_of};
 
 /// The most ranks that are laid out in layers.
 const MOST_LAYERED: u32 = 16;
@@ -26,8 +26,8 @@ fn put_layout(out: &mut String, ranks: u32) -> Result<(), AllocError> {
 }
 
 /// How the node of a rank is drawn that waits: red where it is on the cycle, with a double border where nothing can come.
-fn node_style(program: &Program, scene: &Scene, ranks: &[u32], rank: u32) -> &'static str {
-    if next_on(ranks, rank).is_some() {
+fn node_style(program: &LongProgram, scene: &Scene, rank: u32, next: Option<u32>) -> &'static str {
+    if next.is_some() {
         return ", color=red";
     }
     if lacks(program, scene, rank) {
@@ -41,7 +41,7 @@ fn node_style(program: &Program, scene: &Scene, ranks: &[u32], rank: u32) -> &'s
 /// stands in another line.
 fn put_label(
     out: &mut String,
-    program: &Program,
+    program: &LongProgram,
     scene: &Scene,
     call: usize,
 ) -> Result<(), AllocError> {
@@ -54,13 +54,22 @@ fn put_label(
     put_line(out, &scene.calls, operation)
 }
 
+/// Adds for how many ranks a rank waits, where not all edges are drawn.
+fn put_count(out: &mut String, scene: &Scene, rank: u32) -> Result<(), AllocError> {
+    let count = scene.awaited_by(rank).len();
+    if count <= scene.most_of_large() {
+        return Ok(());
+    }
+    write!(out, "\\nwaits for any of {count} ranks")
+}
+
 /// Adds the node of a rank: a box where it is finished, else with the call that it waits in.
 fn put_node(
     out: &mut String,
-    program: &Program,
+    program: &LongProgram,
     scene: &Scene,
-    ranks: &[u32],
     rank: u32,
+    next: Option<u32>,
 ) -> Result<(), AllocError> {
     let Standing::Waits { call } = standing_of(program, &scene.state, rank) else {
         write!(out, "  r{rank} [shape=box, label=\"rank {rank}\\n")?;
@@ -68,8 +77,9 @@ fn put_node(
     };
     write!(out, "  r{rank} [label=\"rank {rank}\\n")?;
     put_label(out, program, scene, call)?;
+    put_count(out, scene, rank)?;
     out.push('"')?;
-    out.push_str(node_style(program, scene, ranks, rank))?;
+    out.push_str(node_style(program, scene, rank, next))?;
     out.push_str("];\n")
 }
 
@@ -83,20 +93,19 @@ fn edge_style(is_one_of_several: bool, is_on_cycle: bool) -> &'static str {
     }
 }
 
-/// Adds the edges from a rank.
+/// Adds the edges from a rank; in large programs the first ones, and that of the cycle.
 fn put_edges(
     out: &mut String,
-    program: &Program,
     scene: &Scene,
-    ranks: &[u32],
     rank: u32,
+    next: Option<u32>,
 ) -> Result<(), AllocError> {
-    let awaited = awaited(program, &scene.state, rank);
-    let are_several = are_several(&awaited);
-    let next = next_on(ranks, rank);
-    for other in 0..program.ranks() {
-        if awaited.contains(other) {
-            let style = edge_style(are_several, next == Some(other));
+    let awaited = scene.awaited_by(rank);
+    let are_several = awaited.len() > 1;
+    for (place, other) in awaited.iter().enumerate() {
+        let is_on_cycle = next == Some(*other);
+        if place < scene.most_of_large() || is_on_cycle {
+            let style = edge_style(are_several, is_on_cycle);
             writeln!(out, "  r{rank} -> r{other}{style};")?;
         }
     }
@@ -116,7 +125,7 @@ fn part_word(part: Part) -> &'static str {
 /// Adds the edge from a rank to that of a call that misses an operation.
 fn put_near_miss(
     out: &mut String,
-    program: &Program,
+    program: &LongProgram,
     scene: &Scene,
     rank: u32,
     operation: usize,
@@ -138,7 +147,7 @@ fn put_near_miss(
 fn put_near_misses(
     out: &mut String,
     alloc: Global,
-    program: &Program,
+    program: &LongProgram,
     scene: &Scene,
     rank: u32,
 ) -> Result<(), AllocError> {
@@ -160,13 +169,14 @@ fn put_near_misses(
 fn put_ranks(
     out: &mut String,
     alloc: Global,
-    program: &Program,
+    program: &LongProgram,
     scene: &Scene,
-    ranks: &[u32],
+    followers: &[Option<u32>],
 ) -> Result<(), AllocError> {
     for rank in 0..program.ranks() {
-        put_node(out, program, scene, ranks, rank)?;
-        put_edges(out, program, scene, ranks, rank)?;
+        let next = followers.get(rank as usize).copied().unwrap_or(None);
+        put_node(out, program, scene, rank, next)?;
+        put_edges(out, scene, rank, next)?;
         put_near_misses(out, alloc, program, scene, rank)?;
     }
     Ok(())
@@ -180,17 +190,18 @@ fn put_ranks(
 pub fn wait_graph(
     alloc: Global,
     text: &[u8],
-    source: &Source,
-    program: &Program,
+    source: &LongSource,
+    program: &LongProgram,
     steps: &[Step],
 ) -> Result<Vec<u8>, AllocError>
     requires { IsStuckRun program.now steps.now }
 {
     let scene = scene_of(alloc, text, source, program, steps, false)?;
-    let ranks = cycle_of(alloc, program, &scene)?;
+    let cycle = cycle_of(alloc, &scene)?;
+    let followers = followers(alloc, program.ranks(), &cycle)?;
     let mut out = String::from_str(alloc, "digraph waits {\n")?;
     put_layout(&mut out, program.ranks())?;
-    put_ranks(&mut out, alloc, program, &scene, &ranks)?;
+    put_ranks(&mut out, alloc, program, &scene, &followers)?;
     out.push_str("}\n")?;
     Ok(out.into_bytes())
 }

@@ -3,37 +3,36 @@
 ghost use Rattle.std.specs.Prelude.{◌≡◌, IsTrue, IfSome};
 ghost use Rattle.explain.specs.Links.{is_missing, IsNeeded};
 
-use crate::placing::{MOST_TOLD, Scene, are_in_one_line, are_several, put_line, put_more};
-use callorder::{LongProgram, Program};
+use crate::placing::{MOST_OF_LARGE, MOST_TOLD, Scene, are_in_one_line, put_line, put_more};
+use callorder::LongProgram;
 use semantics::State;
 use std::alloc::{AllocError, Global};
-use waits::{
-    Need, RankSet, Standing, awaited, cycle, fits_with, need_of, operation_of, standing_of,
-};
-
-/// The ranks that each rank waits for.
-fn edges(alloc: Global, program: &Program, scene: &Scene) -> Result<Vec<RankSet>, AllocError> {
-    (0..program.ranks())
-        .map(|rank| awaited(program, &scene.state, rank))
-        .collect(alloc)
-}
+use waits::{Need, Standing, cycle, fits_with, need_of, operation_of, standing_of};
 
 /// The ranks of a cycle, each of which waits for the next one and the last for the first; none where there is no cycle.
-pub fn cycle_of(alloc: Global, program: &Program, scene: &Scene) -> Result<Vec<u32>, AllocError> {
-    let edges = edges(alloc, program, scene)?;
-    let found = cycle(alloc, &edges)?;
+pub fn cycle_of(alloc: Global, scene: &Scene) -> Result<Vec<u32>, AllocError> {
+    let found = cycle(alloc, &scene.awaited)?;
     Ok(found.unwrap_or(Vec::new(alloc)))
 }
 
-/// The rank of a cycle that this one waits for, where this one is on it.
-pub fn next_on(ranks: &[u32], rank: u32) -> Option<u32> {
-    let Some(place) = ranks.iter().position(|other| *other == rank) else {
-        return None;
-    };
+/// The rank of a cycle that the one at a place waits for.
+fn next_at(ranks: &[u32], place: usize) -> Option<u32> {
     match ranks.get(place.saturating_add(1)) {
         Some(next) => Some(*next),
         None => ranks.first().copied(),
     }
+}
+
+/// For each rank of a program the rank of a cycle that it waits for, where it is on it.
+pub fn followers(alloc: Global, ranks: u32, cycle: &[u32]) -> Result<Vec<Option<u32>>, AllocError> {
+    let mut next = vec![in alloc; None; ranks as usize]?;
+    for (place, rank) in cycle.iter().enumerate() {
+        let rank = *rank as usize;
+        if rank < next.len() {
+            next[rank] = next_at(cycle, place);
+        }
+    }
+    Ok(next)
 }
 
 /// Whether the call is one of this rank that the operation looks for, and its rank has not come to it.
@@ -55,7 +54,8 @@ fn is_missing(
 fn first_missing(program: &LongProgram, state: &State, operation: usize, rank: u32) -> Option<usize>
     ensures { IfSome result (λ call. IsTrue (is_missing program.now state.now operation rank call)) }
 {
-    for call in 0..program.calls().len() {
+    let next = state.next_of(rank).unwrap_or(0);
+    for call in next..program.calls().len() {
         if is_missing(program, state, operation, rank, call) {
             return Some(call);
         }
@@ -77,7 +77,7 @@ pub fn needed(program: &LongProgram, state: &State, operation: usize, rank: u32)
 /// Tells which call of the next rank would end what a rank of a cycle waits for.
 fn put_needed(
     out: &mut String,
-    program: &Program,
+    program: &LongProgram,
     scene: &Scene,
     rank: u32,
     operation: usize,
@@ -86,8 +86,7 @@ fn put_needed(
     let Some(needed) = needed(program, &scene.state, operation, next) else {
         return Ok(());
     };
-    let others = awaited(program, &scene.state, rank);
-    out.push_str(if are_several(&others) {
+    out.push_str(if scene.awaited_by(rank).len() > 1 {
         ", which needs one of several, as "
     } else {
         ", which needs "
@@ -113,7 +112,7 @@ fn put_operation(
 /// Tells in which call a rank of a cycle waits, and what that needs of the next rank.
 fn put_link(
     out: &mut String,
-    program: &Program,
+    program: &LongProgram,
     scene: &Scene,
     rank: u32,
     next: u32,
@@ -129,27 +128,60 @@ fn put_link(
     out.push('\n')
 }
 
-/// What stands before the line of a rank of a cycle.
-fn front_of(ranks: &[u32], rank: u32) -> &'static str {
-    if ranks.first().copied() == Some(rank) {
-        "cycle: "
-    } else {
-        "       "
+/// Tells the links of a cycle from one place up to another, in a line for each.
+fn put_links(
+    out: &mut String,
+    program: &LongProgram,
+    scene: &Scene,
+    ranks: &[u32],
+    from: usize,
+    to: usize,
+) -> Result<(), AllocError> {
+    for place in from..to.min(ranks.len()) {
+        let rank = ranks[place];
+        out.push_str(if place == 0 { "cycle: " } else { "       " })?;
+        let next = next_at(ranks, place).unwrap_or(rank);
+        put_link(out, program, scene, rank, next)?;
     }
+    Ok(())
+}
+
+/// Tells a cycle of a large program: whole where it is short, else its first links and its last ones.
+fn put_long_cycle(
+    out: &mut String,
+    program: &LongProgram,
+    scene: &Scene,
+    ranks: &[u32],
+) -> Result<(), AllocError> {
+    let count = ranks.len();
+    if count <= MOST_OF_LARGE {
+        return put_links(out, program, scene, ranks, 0, count);
+    }
+    put_links(out, program, scene, ranks, 0, MOST_TOLD)?;
+    let more = count.saturating_sub(MOST_OF_LARGE);
+    writeln!(out, "       and {more} more ranks")?;
+    put_links(
+        out,
+        program,
+        scene,
+        ranks,
+        count.saturating_sub(MOST_TOLD),
+        count,
+    )
 }
 
 /// Tells a cycle of ranks that wait for one another, if there is one, in a line for each of its ranks.
 pub fn put_a_cycle(
     out: &mut String,
     alloc: Global,
-    program: &Program,
+    program: &LongProgram,
     scene: &Scene,
 ) -> Result<(), AllocError> {
-    let ranks = cycle_of(alloc, program, scene)?;
-    for rank in ranks.iter().take(scene.most(MOST_TOLD)) {
-        out.push_str(front_of(&ranks, *rank))?;
-        let next = next_on(&ranks, *rank).unwrap_or(*rank);
-        put_link(out, program, scene, *rank, next)?;
+    let ranks = cycle_of(alloc, scene)?;
+    if scene.large && !scene.whole {
+        return put_long_cycle(out, program, scene, &ranks);
     }
-    put_more(out, scene, ranks.len())
+    let most = scene.most(MOST_TOLD);
+    put_links(out, program, scene, &ranks, 0, most)?;
+    put_more(out, most, ranks.len())
 }

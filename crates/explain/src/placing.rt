@@ -4,24 +4,48 @@ use crate::written::Written;
 use callorder::LongProgram;
 use semantics::State;
 use std::alloc::AllocError;
-use waits::{RankSet, Standing, standing_of};
+use waits::{Standing, standing_of};
 
 /// The most ranks, and the most messages, that a list tells.
 pub const MOST_TOLD: usize = 8;
+
+/// The most entries of a list that is cut in large programs alone.
+pub const MOST_OF_LARGE: usize = 16;
 
 /// The end of a run, with the calls of its program as the text has them.
 #[derive(Drop)]
 pub struct Scene {
     pub calls: Vec<Written>,
     pub state: State,
+    /// For each rank the ranks that it waits for, in rising order.
+    pub awaited: Vec<Vec<u32>>,
     /// Whether each list is told whole.
     pub whole: bool,
+    /// Whether the program has more than 64 ranks, or more than 1,024 calls.
+    pub large: bool,
 }
 
 impl Scene {
     /// The most entries of a list that are told, where usually these are.
     pub fn most(&self, usual: usize) -> usize {
         if self.whole { usize::MAX } else { usual }
+    }
+
+    /// The most entries that are told of a list that is cut in large programs alone.
+    pub fn most_of_large(&self) -> usize {
+        if self.large {
+            self.most(MOST_OF_LARGE)
+        } else {
+            usize::MAX
+        }
+    }
+
+    /// The ranks that a rank waits for, in rising order.
+    pub fn awaited_by(&self, rank: u32) -> &[u32] {
+        match self.awaited.get(rank as usize) {
+            None => &[],
+            Some(ranks) => ranks,
+        }
     }
 }
 
@@ -91,13 +115,39 @@ pub fn put_where(
     Ok(())
 }
 
-/// Tells how many there are beyond those that a list tells, if there are more.
-pub fn put_more(out: &mut String, scene: &Scene, count: usize) -> Result<(), AllocError> {
-    let more = count.saturating_sub(scene.most(MOST_TOLD));
+/// Tells how many there are beyond those that a list tells at most, if there are more.
+pub fn put_more(out: &mut String, most: usize, count: usize) -> Result<(), AllocError> {
+    let more = count.saturating_sub(most);
     if more == 0 {
         return Ok(());
     }
     writeln!(out, "  and {more} more")
+}
+
+/// Tells, behind a list on one line, how many there are beyond those that it tells at most, if there are more.
+pub fn put_more_behind(out: &mut String, most: usize, count: usize) -> Result<(), AllocError> {
+    let more = count.saturating_sub(most);
+    if more == 0 {
+        return Ok(());
+    }
+    write!(out, " and {more} more")
+}
+
+/// Adds an entry, if it isn't empty, behind so many others, and gives how many there are then. Behind as many as are told at most it is
+/// only counted.
+pub fn put_entry(
+    out: &mut String,
+    entry: &String,
+    told: usize,
+    most: usize,
+) -> Result<usize, AllocError> {
+    if entry.is_empty() {
+        return Ok(told);
+    }
+    if told < most {
+        out.push_str(entry.as_str())?;
+    }
+    Ok(told.saturating_add(1))
 }
 
 /// Tells that a receive or matched probe took the message of a send, or that a probe saw it, and begins a line below.
@@ -119,26 +169,20 @@ pub fn put_finding(
     out.push_str("\n    ")
 }
 
-/// Whether the set has more than one rank.
-pub fn are_several(ranks: &RankSet) -> bool {
-    let mut others = *ranks;
-    if let Some(first) = ranks.first() {
-        others.remove(first);
+/// Tells the ranks, parted by commas, for which this one waits; any of several is enough.
+pub fn put_ranks(out: &mut String, scene: &Scene, waiting: u32) -> Result<(), AllocError> {
+    let ranks = scene.awaited_by(waiting);
+    let most = scene.most_of_large();
+    if ranks.len() > 1 {
+        out.push_str("any of ")?;
     }
-    !others.is_empty()
-}
-
-/// Tells the ranks of a set, parted by commas, for which this one waits; any of several is enough.
-pub fn put_ranks(out: &mut String, ranks: RankSet, waiting: u32) -> Result<(), AllocError> {
-    let mut before = if are_several(&ranks) { "any of " } else { "" };
-    for rank in 0..64 {
-        if ranks.contains(rank) {
-            out.push_str(before)?;
-            put_rank(out, rank, waiting)?;
-            before = ", ";
+    for (place, rank) in ranks.iter().take(most).enumerate() {
+        if place > 0 {
+            out.push_str(", ")?;
         }
+        put_rank(out, *rank, waiting)?;
     }
-    Ok(())
+    put_more_behind(out, most, ranks.len())
 }
 
 /// Tells a rank for which this one waits.

@@ -1,10 +1,11 @@
 //! Where each rank stands, and what it waits for.
 
 use crate::candidates::{put_candidates, put_where_its_rank};
-use crate::placing::{MOST_TOLD, Scene, put_call, put_call_of, put_more};
+use crate::cause::lacks;
+use crate::placing::{MOST_TOLD, Scene, put_call, put_call_of, put_more, put_more_behind};
 use callorder::LongProgram;
 use std::alloc::{AllocError, Global};
-use waits::{Need, RankSet, Standing, need_of, operation_of, standing_of};
+use waits::{Need, Standing, need_of, operation_of, standing_of};
 
 /// Tells the call that a rank waits in, and the operation that it waits for, where that is another call's.
 pub fn put_waiting(
@@ -86,37 +87,41 @@ fn is_finished(program: &LongProgram, scene: &Scene, rank: u32) -> bool {
 /// Tells the ranks that are finished, on one line.
 fn put_finished(out: &mut String, program: &LongProgram, scene: &Scene) -> Result<(), AllocError> {
     let mut before = "  finished: ";
+    let mut count: usize = 0;
     for rank in 0..program.ranks() {
         if is_finished(program, scene, rank) {
-            out.push_str(before)?;
-            write!(out, "rank {rank}")?;
-            before = ", ";
+            if count < scene.most_of_large() {
+                out.push_str(before)?;
+                write!(out, "rank {rank}")?;
+                before = ", ";
+            }
+            count = count.saturating_add(1);
         }
     }
-    if before == ", " {
+    put_more_behind(out, scene.most_of_large(), count)?;
+    if count > 0 {
         out.push('\n')?;
     }
     Ok(())
 }
 
-/// Tells where the ranks stand that weren't told before.
+/// Tells where the ranks stand, but for those that wait for nobody.
 pub fn standings(
     alloc: Global,
     program: &LongProgram,
     scene: &Scene,
-    told: RankSet,
 ) -> Result<String, AllocError> {
     let mut out = String::new(alloc);
     let mut count: usize = 0;
     for rank in 0..program.ranks() {
-        if !told.contains(rank) && !is_finished(program, scene, rank) {
+        if !lacks(program, scene, rank) && !is_finished(program, scene, rank) {
             if count < scene.most(MOST_TOLD) {
                 put_standing(&mut out, alloc, program, scene, rank)?;
             }
             count = count.saturating_add(1);
         }
     }
-    put_more(&mut out, scene, count)?;
+    put_more(&mut out, scene.most(MOST_TOLD), count)?;
     put_finished(&mut out, program, scene)?;
     Ok(out)
 }

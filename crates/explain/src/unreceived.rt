@@ -43,6 +43,6 @@ pub fn unreceived(
             told = told.saturating_add(1);
         }
     }
-    put_more(&mut out, scene, told)?;
+    put_more(&mut out, scene.most(MOST_TOLD), told)?;
     Ok(out)
 }

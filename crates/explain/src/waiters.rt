@@ -1,15 +1,15 @@
 //! Who waits for whom.
 
 use crate::placing::{MOST_TOLD, Scene, put_more, put_ranks};
-use callorder::Program;
+use callorder::LongProgram;
 use std::alloc::{AllocError, Global};
-use waits::{Standing, awaited, fitting, operation_of, standing_of};
+use waits::{Standing, fitting, operation_of, standing_of};
 
 /// Tells why a rank that waits in this call waits for nobody.
 fn put_nobody(
     out: &mut String,
     alloc: Global,
-    program: &Program,
+    program: &LongProgram,
     call: usize,
 ) -> Result<(), AllocError> {
     let candidates = fitting(alloc, program, operation_of(program, call))?;
@@ -24,23 +24,22 @@ fn put_nobody(
 fn put_awaited(
     out: &mut String,
     alloc: Global,
-    program: &Program,
+    program: &LongProgram,
     scene: &Scene,
     rank: u32,
     call: usize,
 ) -> Result<(), AllocError> {
     write!(out, "  rank {rank} waits for ")?;
-    let ranks = awaited(program, &scene.state, rank);
-    if ranks.is_empty() {
+    if scene.awaited_by(rank).is_empty() {
         put_nobody(out, alloc, program, call)?;
     } else {
-        put_ranks(out, ranks, rank)?;
+        put_ranks(out, scene, rank)?;
     }
     out.push('\n')
 }
 
 /// Tells for whom each rank waits.
-pub fn waiters(alloc: Global, program: &Program, scene: &Scene) -> Result<String, AllocError> {
+pub fn waiters(alloc: Global, program: &LongProgram, scene: &Scene) -> Result<String, AllocError> {
     let mut out = String::new(alloc);
     let mut told: usize = 0;
     for rank in 0..program.ranks() {
@@ -51,6 +50,6 @@ pub fn waiters(alloc: Global, program: &Program, scene: &Scene) -> Result<String
             told = told.saturating_add(1);
         }
     }
-    put_more(&mut out, scene, told)?;
+    put_more(&mut out, scene.most(MOST_TOLD), told)?;
     Ok(out)
 }

@@ -102,10 +102,7 @@ fn written_call(
     } else {
         b""
     };
-    let first = numbers
-        .iter()
-        .position(|other| *other == line)
-        .unwrap_or(place);
+    let first = numbers.partition_point(|other| *other < line);
     let part = if bytes.starts_with(b"sendrecv ") {
         part_of(place.saturating_sub(first))
     } else {

@@ -4,8 +4,8 @@ ghost use Rattle.semantics.specs.Machine.{IsStuckRun};
 
 use crate::choices::{Choice, choices_of};
 use crate::ranks::{Rank, ranks_of};
-use callorder::Program;
-use calltext::Source;
+use callorder::LongProgram;
+use calltext::LongSource;
 use explain::{Scene, Written, cycle_of, is_unreceived, scene_of};
 use semantics::Step;
 use serde::Serialize;
@@ -59,7 +59,7 @@ fn lines_of(alloc: Global, scene: &Scene) -> Result<Vec<Line>, AllocError> {
 /// The numbers of the sends whose message was sent and that nobody received.
 fn unreceived_of(
     alloc: Global,
-    program: &Program,
+    program: &LongProgram,
     scene: &Scene,
 ) -> Result<Vec<usize>, AllocError> {
     let mut numbers = Vec::new(alloc);
@@ -82,7 +82,7 @@ fn texts_of(alloc: Global, text: &str) -> Result<Vec<&str>, AllocError> {
 /// What is told of the end of a run.
 fn deadlock_of<'a>(
     alloc: Global,
-    program: &Program,
+    program: &LongProgram,
     scene: &Scene,
     steps: &[Step],
     decided: &'a str,
@@ -95,7 +95,7 @@ fn deadlock_of<'a>(
         steps: steps.len(),
         calls: lines_of(alloc, scene)?,
         ranks: ranks_of(alloc, program, scene)?,
-        cycle: cycle_of(alloc, program, scene)?,
+        cycle: cycle_of(alloc, scene)?,
         decided: texts_of(alloc, decided)?,
         choices: choices_of(alloc, program, steps)?,
         unreceived: unreceived_of(alloc, program, scene)?,
@@ -120,8 +120,8 @@ fn text_of(alloc: Global, deadlock: &Deadlock<'_>) -> Result<String, AllocError>
 pub fn object_text(
     alloc: Global,
     text: &[u8],
-    source: &Source,
-    program: &Program,
+    source: &LongSource,
+    program: &LongProgram,
     steps: &[Step],
     decided: &str,
 ) -> Result<Vec<u8>, AllocError>

@@ -1,11 +1,11 @@
 //! Where each rank stands, and what it waits for.
 
-use callorder::Program;
+use callorder::LongProgram;
 use explain::{Scene, likely_misses};
 use misses::{Part, misses_in};
 use serde::Serialize;
 use std::alloc::{AllocError, Global};
-use waits::{Fate, RankSet, Standing, awaited, fate_of, fitting, operation_of, standing_of};
+use waits::{Fate, Standing, fate_of, fitting, operation_of, standing_of};
 
 /// A call that fits, and what became of it.
 #[derive(Clone, Copy, Serialize)]
@@ -40,7 +40,7 @@ fn number_of(place: usize) -> usize {
 }
 
 /// What became of a call that fits.
-fn fit_of(program: &Program, scene: &Scene, call: usize) -> Fit {
+fn fit_of(program: &LongProgram, scene: &Scene, call: usize) -> Fit {
     let (fate, with) = match fate_of(program, &scene.state, call) {
         Fate::Taken(other) => ("taken", Some(number_of(other))),
         Fate::NotIssued => ("not reached", None),
@@ -56,7 +56,7 @@ fn fit_of(program: &Program, scene: &Scene, call: usize) -> Fit {
 /// The calls that fit with an operation.
 fn fits_of(
     alloc: Global,
-    program: &Program,
+    program: &LongProgram,
     scene: &Scene,
     operation: usize,
 ) -> Result<Vec<Fit>, AllocError> {
@@ -81,7 +81,7 @@ fn name_of(part: Option<Part>) -> &'static str {
 /// The near misses of an operation.
 fn misses_of(
     alloc: Global,
-    program: &Program,
+    program: &LongProgram,
     scene: &Scene,
     operation: usize,
 ) -> Result<Vec<Miss>, AllocError> {
@@ -93,11 +93,6 @@ fn misses_of(
             part: name_of(misses_in(program, operation, *call)),
         })
         .collect(alloc)
-}
-
-/// The ranks of a set.
-fn list_of(alloc: Global, ranks: &RankSet) -> Result<Vec<u32>, AllocError> {
-    (0..64).filter(|rank| ranks.contains(*rank)).collect(alloc)
 }
 
 /// A rank that waits for nothing, or is finished.
@@ -116,7 +111,7 @@ fn resting(alloc: Global, rank: u32, finished: bool) -> Rank {
 /// A rank that waits in a call.
 fn waiting(
     alloc: Global,
-    program: &Program,
+    program: &LongProgram,
     scene: &Scene,
     rank: u32,
     call: usize,
@@ -127,14 +122,19 @@ fn waiting(
         finished: false,
         call: Some(number_of(call)),
         operation: Some(number_of(operation)),
-        waits_for: list_of(alloc, &awaited(program, &scene.state, rank))?,
+        waits_for: Vec::from_slice(alloc, scene.awaited_by(rank))?,
         fits: fits_of(alloc, program, scene, operation)?,
         near_misses: misses_of(alloc, program, scene, operation)?,
     })
 }
 
 /// Where a rank stands.
-fn rank_of(alloc: Global, program: &Program, scene: &Scene, rank: u32) -> Result<Rank, AllocError> {
+fn rank_of(
+    alloc: Global,
+    program: &LongProgram,
+    scene: &Scene,
+    rank: u32,
+) -> Result<Rank, AllocError> {
     match standing_of(program, &scene.state, rank) {
         Standing::Finished => Ok(resting(alloc, rank, true)),
         Standing::Ready => Ok(resting(alloc, rank, false)),
@@ -143,7 +143,11 @@ fn rank_of(alloc: Global, program: &Program, scene: &Scene, rank: u32) -> Result
 }
 
 /// Where the ranks stand, in their order.
-pub fn ranks_of(alloc: Global, program: &Program, scene: &Scene) -> Result<Vec<Rank>, AllocError> {
+pub fn ranks_of(
+    alloc: Global,
+    program: &LongProgram,
+    scene: &Scene,
+) -> Result<Vec<Rank>, AllocError> {
     let mut ranks = Vec::new(alloc);
     for rank in 0..program.ranks() {
         ranks.push(rank_of(alloc, program, scene, rank)?)?;

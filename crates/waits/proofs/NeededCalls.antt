@@ -1,9 +1,10 @@
 -- Calls that could end a wait: where all is stuck, none of them is issued and unmatched.
 use Rattle.std.proofs.Common.{◌≡◌, ℕ, suc, ◌≤◌, inl, inr, Bool, true, false, not, ◌&&◌, Option, Some, None, is_some, slice_index, unwrap_or, refl, sym, ◌∙◌, ap, arith}
 use Rattle.std.proofs.lemmas.Bool.{and_parts, and_from, or_cases, not-true, true≢false, lt-ltb, eqb-true}
+use Rattle.calltext.specs.declared.limits.Limits.{Limits}
 use Rattle.callorder.specs.declared.calls.Call.{Call}
 use Rattle.callorder.specs.Calls.{operation_of}
-use Rattle.callorder.specs.Programs.{MpiProgram, IsProgram, call_at, is_of_rank}
+use Rattle.callorder.specs.Programs.{MpiProgram, IsProgramWithin, call_at, is_of_rank}
 use Rattle.semantics.specs.Machine.{Configuration, is_issued, is_issued_call, is_matched, is_open, partner_of}
 use Rattle.histories.proofs.Descent.{no_open_pair_where_stuck}
 use Rattle.waits.specs.declared.fates.Fate.TheVariants.{Open}
@@ -33,8 +34,8 @@ pub own_rank : (o : Option Call) (rank : ℕ) → is_of_rank o rank ≡ true →
 own_rank None rank own = absurd (cc)
 own_rank (Some call) rank own = (call, refl, eqb-true call.rank rank own)
 
-pub operation_is_issued : (p : MpiProgram) (m : Configuration) (rank call : ℕ) → IsProgram p → WaitsIn p m rank call → is_issued p m (operation_of_call p call) ≡ true
-operation_is_issued p m rank call is waits =
+pub operation_is_issued : (l : Limits) (p : MpiProgram) (m : Configuration) (rank call : ℕ) → IsProgramWithin l p → WaitsIn p m rank call → is_issued p m (operation_of_call p call) ≡ true
+operation_is_issued l p m rank call is waits =
     let known = own_rank (call_at p call) rank waits.own in
     by_operation known.0 known.1 known.2 (operation_of known.0.kind) refl
   where
@@ -55,10 +56,10 @@ open_is None false e = absurd (cc)
 open_is None true e = refl
 
 pub needed_calls_are_not_open : NeededCallsAreNotOpen
-needed_calls_are_not_open p m rank call needed is stuck waits unmatched fit fate =
+needed_calls_are_not_open l p m rank call needed is stuck waits unmatched fit fate =
     let o = operation_of_call p call in
     let free : not (is_matched m o) ≡ true = ap (λ (x : Option ℕ). not (is_some x)) unmatched in
-    let here : is_open p m o ≡ true = and_from _ _ (operation_is_issued p m rank call is waits) free in
+    let here : is_open p m o ≡ true = and_from _ _ (operation_is_issued l p m rank call is waits) free in
     let there : is_open p m needed ≡ true = open_is (partner_of m needed) (is_issued p m needed) fate in
     elim (or_cases _ _ fit) [
       | inl sends ↦ fit_calls_are_not_both_open p m o needed stuck (and_parts _ _ sends).0 here there

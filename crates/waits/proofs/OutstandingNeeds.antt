@@ -5,13 +5,14 @@ use Rattle.std.proofs.lemmas.Bool.{cases_eq, cases_lt, and_from, and_parts, or_c
 use Rattle.std.proofs.lemmas.List.{get_or-set_same, get_or-set_other, set_past, get_or-replicate, get_or_past, length-replicate}
 use Rattle.std.proofs.lemmas.Option.{same_Some, none-some, unwrap_or-slice_get}
 use Rattle.calltext.specs.declared.call.Mode.TheVariants.{Standard, Synchronous, Buffered}
+use Rattle.calltext.specs.declared.limits.Limits.{Limits}
 use Rattle.callorder.specs.declared.calls.Call.{Call}
 use Rattle.callorder.specs.declared.calls.Kind.{Kind}
 use Rattle.callorder.specs.declared.calls.Kind.TheVariants.{Send, Receive, MatchedProbe, Probe, MatchedReceive, Wait}
 use Rattle.callorder.specs.declared.calls.Message.{Message}
 use Rattle.callorder.specs.declared.calls.Pattern.{Pattern}
 use Rattle.callorder.specs.Calls.{message_of, pattern_of, receive_of, operation_of, is_probe_kind, fits_between}
-use Rattle.callorder.specs.Programs.{MpiProgram, IsProgram, call_at, fit_calls, is_probe_call}
+use Rattle.callorder.specs.Programs.{MpiProgram, IsProgramWithin, call_at, fit_calls, is_probe_call}
 use Rattle.semantics.specs.declared.state.Step.{Step}
 use Rattle.semantics.specs.declared.state.Step.TheVariants.{Issue, Match as MatchStep, See}
 use Rattle.semantics.specs.Machine.{Configuration, IsEnabled, IsRun, after, after_all, opening, partner_of, is_done, is_done_call, is_done_kind, is_returned, is_returned_call, is_returned_kind, is_issued, fetches, fetches_call, fetches_partner}
@@ -150,8 +151,8 @@ undone p m call known there pending =
     by_kind (MatchedReceive blocking) unreturned = absurd (true≢false unreturned)
     by_kind (Wait operation) unreturned = unreturned
 
-operation_there : (p : MpiProgram) (call : ℕ) (known : Call) → IsProgram p → call_at p call ≡ Some known → (operation : Call) × (call_at p (operation_of_call p call) ≡ Some operation)
-operation_there p call known is there = by_operation (operation_of known.kind) refl
+operation_there : (l : Limits) (p : MpiProgram) (call : ℕ) (known : Call) → IsProgramWithin l p → call_at p call ≡ Some known → (operation : Call) × (call_at p (operation_of_call p call) ≡ Some operation)
+operation_there l p call known is there = by_operation (operation_of known.kind) refl
   where
     by_operation : (o : Option ℕ) → operation_of known.kind ≡ o → (operation : Call) × (call_at p (operation_of_call p call) ≡ Some operation)
     by_operation None none =
@@ -161,8 +162,8 @@ operation_there p call known is there = by_operation (operation_of known.kind) r
         (started.0, ap (λ (x : ℕ). call_at p x) (ap (operation_at call) there ∙ ap (λ (x : Option ℕ). unwrap_or x call) some) ∙ started.1)
 
 pub waiting_ranks_need : WaitingRanksNeed
-waiting_ranks_need p steps rank call is run waits =
+waiting_ranks_need l p steps rank call is run waits =
     let m = after_all (opening p) steps in
     let known = own_rank (call_at p call) rank waits.own in
-    let operation = operation_there p call known.0 is known.1 in
+    let operation = operation_there l p call known.0 is known.1 in
     need_there p m (operation_of_call p call) operation.0 (partner_of m (operation_of_call p call)) operation.1 (undone p m call known.0 known.1 waits.pending) refl (partners_fit p steps run)

@@ -1,31 +1,26 @@
--- Cycles of ranks that wait for one another. A graph is a list of the sets of ranks that each rank waits for, by rank.
-use Rattle.std.specs.Prelude.{ℕ, ◌<◌, Bool, false, IsTrue, List, [], ◌∷◌, length, Option, Some, None, slice_get, slice_index}
+-- Cycles of ranks that wait for one another. A graph is a list of the ranks that each rank waits for, by rank.
+use Rattle.std.specs.Prelude.{ℕ, List, [], ◌∷◌, Option, Some, None, slice_get, Contains}
 use Rattle.std.specs.List.{slice_index_or}
-use Rattle.waits.specs.declared.rank_set.RankSet.{RankSet}
-use Rattle.waits.specs.RankSets.{has_rank}
+use Rattle.std.specs.Global.{Vec}
 
-abbrev pub has_edge_in : Option RankSet → ℕ → Bool
-has_edge_in None to = false
-has_edge_in (Some set) to = has_rank set to
+abbrev pub ranks_in : Option (Vec ℕ) → List ℕ
+ranks_in None = []
+ranks_in (Some ranks) = ranks.items
+
+-- the ranks that a rank waits for
+abbrev pub awaited_by : List (Vec ℕ) → ℕ → List ℕ
+awaited_by edges rank = ranks_in (slice_get edges rank)
 
 -- the first rank waits for the second
-abbrev pub has_edge : List RankSet → ℕ → ℕ → Bool
-has_edge edges from to = has_edge_in (slice_get edges from) to
+abbrev pub HasEdge : List (Vec ℕ) → ℕ → ℕ → Type 0
+HasEdge edges from to = Contains (awaited_by edges from) to
 
 -- each of the ranks waits for the next one, and the last for rank `to`
-abbrev pub LeadTo : List RankSet → List ℕ → ℕ → Type 0
+abbrev pub LeadTo : List (Vec ℕ) → List ℕ → ℕ → Type 0
 LeadTo edges [] to = Unit {0}
-LeadTo edges (rank ∷ others) to = IsTrue (has_edge edges rank (slice_index_or others 0 to)) × LeadTo edges others to
+LeadTo edges (rank ∷ others) to = HasEdge edges rank (slice_index_or others 0 to) × LeadTo edges others to
 
 -- there is a rank, each waits for the next one, and the last for the first
-abbrev pub IsCycle : List RankSet → List ℕ → Type 0
+abbrev pub IsCycle : List (Vec ℕ) → List ℕ → Type 0
 IsCycle edges [] = ⊥
 IsCycle edges (rank ∷ others) = LeadTo edges (rank ∷ others) rank
-
--- each rank of the set waits for a rank of the set
-abbrev pub LeadsOn : List RankSet → RankSet → Type 0
-LeadsOn edges set = (rank : ℕ) → IsTrue (has_rank set rank) → (next : ℕ) × IsTrue (has_rank set next) × IsTrue (has_edge edges rank next)
-
--- each rank of each cycle is in the set
-abbrev pub HasAllCycles : List RankSet → RankSet → Type 0
-HasAllCycles edges set = (ranks : List ℕ) → IsCycle edges ranks → (k : ℕ) → k < length ranks → IsTrue (has_rank set (slice_index ranks k))

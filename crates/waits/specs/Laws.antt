@@ -1,6 +1,7 @@
 -- Laws of stuck configurations: each rank that is not finished waits, and what it needs is gone or has not begun.
 use Rattle.std.specs.Prelude.{◌≡◌, ◌≢◌, ℕ, ◌<◌, false, IsTrue, List, Some, None}
-use Rattle.callorder.specs.Programs.{MpiProgram, IsProgram, are_fit}
+use Rattle.calltext.specs.declared.limits.Limits.{Limits}
+use Rattle.callorder.specs.Programs.{MpiProgram, IsProgramWithin, are_fit}
 use Rattle.semantics.specs.Machine.{Configuration, IsConfigurationOf, IsRun, IsStuck, opening, after_all, is_issued, is_open, is_rank_finished, partner_of}
 use Rattle.semantics.specs.declared.state.Step.{Step}
 use Rattle.waits.specs.declared.fates.Fate.TheVariants.{Open}
@@ -36,7 +37,7 @@ FitCallsAreNotBothOpen =
 -- taken or not issued.
 abbrev pub NeededCallsAreNotOpen : Type 0
 NeededCallsAreNotOpen =
-    (p : MpiProgram) (m : Configuration) (rank call needed : ℕ) → IsProgram p → IsStuck p m → WaitsIn p m rank call
+    (l : Limits) (p : MpiProgram) (m : Configuration) (rank call needed : ℕ) → IsProgramWithin l p → IsStuck p m → WaitsIn p m rank call
     → partner_of m (operation_of_call p call) ≡ None → IsTrue (fits_with p (operation_of_call p call) needed) → fate_in p m needed ≢ Open
 
 -- what an operation needs, which has not come: a match or a message to see, or the receive on a matched probe's handle, which
@@ -53,5 +54,5 @@ pub record HasNeed (p : MpiProgram) (m : Configuration) (o : ℕ) : Type 0 where
 -- After each run the operation that a rank waits for needs something that has not come.
 abbrev pub WaitingRanksNeed : Type 0
 WaitingRanksNeed =
-    (p : MpiProgram) (steps : List Step) (rank call : ℕ) → IsProgram p → IsRun p (opening p) steps → WaitsIn p (after_all (opening p) steps) rank call
+    (l : Limits) (p : MpiProgram) (steps : List Step) (rank call : ℕ) → IsProgramWithin l p → IsRun p (opening p) steps → WaitsIn p (after_all (opening p) steps) rank call
     → HasNeed p (after_all (opening p) steps) (operation_of_call p call)

@@ -1,4 +1,4 @@
-pub mod RankSets
 pub mod Cycles
+pub mod Searches
 pub mod Waiting
 pub mod Laws

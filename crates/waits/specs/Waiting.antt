@@ -84,6 +84,10 @@ pub record IsMissing (p : MpiProgram) (m : Configuration) (o rank : ℕ) : Type 
   pub fit : IsTrue (fits_with p o call)
   pub not_issued : is_issued p m call ≡ false
 
+-- each call that fits with the call is of that rank
+abbrev pub IsOnlyPeer : MpiProgram → ℕ → ℕ → Type 0
+IsOnlyPeer p c peer = (e rank : ℕ) → IsTrue (fits_with p c e) → IsTrue (is_of_rank (call_at p e) rank) → rank ≡ peer
+
 -- what the operation needs can come from that rank
 abbrev pub CanCome : MpiProgram → Configuration → ℕ → ℕ → Need → Type 0
 CanCome p m o rank Match = IsMissing p m o rank

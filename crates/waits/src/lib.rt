@@ -8,7 +8,6 @@ mod cycles;
 mod fates;
 mod laws;
 mod needs;
-mod rank_set;
 mod standings;
 mod waiting;
 
@@ -19,6 +18,5 @@ pub use laws::{
     stuck_ranks_wait_in_one_call, waiting_ranks_need,
 };
 pub use needs::{Need, need_of, operation_of};
-pub use rank_set::RankSet;
 pub use standings::{Standing, standing_of};
-pub use waiting::awaited;
+pub use waiting::{awaited, edges};

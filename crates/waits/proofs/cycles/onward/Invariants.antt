@@ -1,0 +1,5 @@
+use Rattle.waits.specs.Searches.{AreOff}
+use Rattle.waits.proofs.cycles.onward.Given as goal
+
+abbrev pub invariant-loop-place : goal.invariant-loop-place
+invariant-loop-place l = AreOff l.edges l.marks l.rank l.from l.place
