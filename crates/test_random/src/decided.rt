@@ -10,6 +10,9 @@ use std::alloc::{AllocError, Global};
 use std::sync::Wait;
 use std::thread::Threads;
 
+/// The most positions that an exploration looks at.
+const MOST_POSITIONS: usize = 3_000;
+
 /// How many programs there were, by what one run decides of them.
 #[derive(Clone, Copy)]
 pub struct Counts {
@@ -70,11 +73,7 @@ fn is_shown(
 }
 
 /// What one run tells of the program of this text, where the checker takes the schedule of a deadlock.
-fn told(
-    rt: &(impl Threads + Wait + Sync),
-    alloc: Global,
-    text: &[u8],
-) -> Result<Told, AllocError> {
+fn told(rt: &(impl Threads + Wait + Sync), alloc: Global, text: &[u8]) -> Result<Told, AllocError> {
     match decide(alloc, text) {
         Ok(Decision::NoDeadlock) => Ok(Told::Fate(Fate::NeverStuck)),
         Ok(Decision::Race(_)) => Ok(Told::Race),
@@ -90,15 +89,13 @@ fn told(
 }
 
 /// Whether the prover tells the same where one run decides.
-fn agrees(
-    rt: &(impl Threads + Wait + Sync),
-    alloc: Global,
-    text: &[u8],
-    told: Told,
-) -> bool {
+fn agrees(rt: &(impl Threads + Wait + Sync), alloc: Global, text: &[u8], told: Told) -> bool {
     match told {
         Told::Fate(fate) => {
-            let answer = prove(rt, alloc, text, Options::default(), &Open);
+            let Some(options) = Options::make(1, 0, 10_000) else {
+                return false;
+            };
+            let answer = prove(rt, alloc, text, options, &Open);
             shown_by(rt, alloc, text, &answer) == Some(fate)
         }
         _ => true,
@@ -117,7 +114,7 @@ pub fn compare_decided(
         counts.wrong = counts.wrong.saturating_add(1);
         return Ok(false);
     };
-    let Some(fate) = explore(alloc, &program)? else {
+    let Some(fate) = explore(alloc, &program, MOST_POSITIONS)? else {
         counts.too_large = counts.too_large.saturating_add(1);
         return Ok(true);
     };

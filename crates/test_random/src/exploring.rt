@@ -6,9 +6,6 @@ use callorder::Program;
 use std::alloc::{AllocError, Global};
 use std::collections::HashSet;
 
-/// The most positions that an exploration looks at.
-const MOST_POSITIONS: usize = 300_000;
-
 /// Whether some run of a program gets stuck.
 #[derive(Clone, Copy, PartialEq, Eq)]
 pub enum Fate {
@@ -39,9 +36,9 @@ impl Reached {
     }
 }
 
-/// Whether some run of the program gets stuck, by a search through all positions that its runs reach, or none if the program or
-/// the number of its positions is too large.
-pub fn explore(alloc: Global, program: &Program) -> Result<Option<Fate>, AllocError> {
+/// Whether some run of the program gets stuck, by a search through all positions that its runs reach, or none if the program is too
+/// large or has more positions than so many.
+pub fn explore(alloc: Global, program: &Program, most: usize) -> Result<Option<Fate>, AllocError> {
     let rules = Rules::of(alloc, program)?;
     let Some(rules) = rules else {
         return Ok(None);
@@ -51,7 +48,7 @@ pub fn explore(alloc: Global, program: &Program) -> Result<Option<Fate>, AllocEr
         waiting: Vec::new(alloc),
     };
     reached.add(Position::opening())?;
-    for _ in 0..MOST_POSITIONS {
+    for _ in 0..most {
         let Some(position) = reached.waiting.pop() else {
             return Ok(Some(Fate::NeverStuck));
         };

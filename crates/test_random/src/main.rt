@@ -36,12 +36,15 @@ const PROBING_PROGRAMS: u64 = 100;
 /// How many programs with a hub are drawn.
 const HUB_PROGRAMS: u64 = 300;
 
+/// The most positions that an exploration looks at.
+const MOST_POSITIONS: usize = 300_000;
+
 /// How many programs of each family are drawn to be decided by one run.
-const DECIDED_PROGRAMS: u64 = 5_000;
+const DECIDED_PROGRAMS: u64 = 1_000;
 
-const DECIDED_PROBING_PROGRAMS: u64 = 2_500;
+const DECIDED_PROBING_PROGRAMS: u64 = 500;
 
-const DECIDED_HUB_PROGRAMS: u64 = 2_500;
+const DECIDED_HUB_PROGRAMS: u64 = 500;
 
 /// Lets the worker go on at once.
 struct Open;
@@ -150,7 +153,7 @@ fn compare(
     let Ok(program) = program_of(rt.alloc(), text.as_bytes()) else {
         return note_differing(rt, "no program", text, tally);
     };
-    let Some(fate) = explore(rt.alloc(), &program)? else {
+    let Some(fate) = explore(rt.alloc(), &program, MOST_POSITIONS)? else {
         tally.too_large = tally.too_large.saturating_add(1);
         return Ok(());
     };
