@@ -73,7 +73,11 @@ fn is_shown(
 }
 
 /// What one run tells of the program of this text, where the checker takes the schedule of a deadlock.
-fn told(rt: &(impl Threads + Wait + Sync), alloc: Global, text: &[u8]) -> Result<Told, AllocError> {
+fn told_of(
+    rt: &(impl Threads + Wait + Sync),
+    alloc: Global,
+    text: &[u8],
+) -> Result<Told, AllocError> {
     match decide(alloc, text) {
         Ok(Decision::NoDeadlock) => Ok(Told::Fate(Fate::NeverStuck)),
         Ok(Decision::Race(_)) => Ok(Told::Race),
@@ -118,7 +122,7 @@ pub fn compare_decided(
         counts.too_large = counts.too_large.saturating_add(1);
         return Ok(true);
     };
-    let told = told(rt, alloc, text)?;
+    let told = told_of(rt, alloc, text)?;
     let told = if agrees(rt, alloc, text, told) {
         told
     } else {
