@@ -10,3 +10,4 @@ pub mod StandIns
 pub mod StrayEvidences
 pub mod WholeTexts
 pub mod WholeAnswers
+pub mod RaceTexts

@@ -7,8 +7,8 @@ ghost use Rattle.session.specs.Lines.{IsLine};
 ghost use Rattle.session.specs.Pages.{ChangesAtMost, IsDecidedPage, IsDecideFile, IsDecisionPage, IsProgram, IsRacePage, IsScheduled, IsScheduleFile, IsWritten, StopsBy};
 
 use crate::commands::{Stop, decided_page, read};
-use crate::page::{Page, object_with, page_of};
-use crate::racing::{race_line, race_object};
+use crate::page::{Page, page_of};
+use crate::racing::race_text;
 use crate::status::UNKNOWN;
 use crate::told::Told;
 use calltext::read_long;
@@ -113,15 +113,8 @@ fn race_page(alloc: Global, text: &[u8], race: Race, json: bool) -> Result<Page,
         return Err(AllocError);
     };
     let lines = line_numbers(alloc, &source)?;
-    let text = if json {
-        let object = race_object(alloc, &lines, race)?;
-        object_with(alloc, "unknown race", UNKNOWN, "race", &object)?
-    } else {
-        let mut text = String::from_str(alloc, "unknown race\n")?;
-        text.push_str(&race_line(alloc, &lines, race)?)?;
-        text
-    };
-    let text = text.into_bytes();
+    let words = race_text(alloc, &lines, race, json)?;
+    let text = words.into_bytes();
     let status = UNKNOWN;
     Ok(Page { text, status })
 }

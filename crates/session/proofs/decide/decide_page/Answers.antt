@@ -39,7 +39,9 @@ returns-clause-page g c =
     page_decided g.F.FileSet.tells_written held (g.F.FileSet.held c.read_whole.new.files) (g.F.FileSet.held c.decision_page.new.files) c.args.program.now
     (option_map (λ path. path.now) c.args.out) c.args.json c.deref.result.now c.decide-decided.result c.decision_page.result
     c.in_ok-text.ensures.same (subst (AreAll (held c.args.program.now)) (sym c.deref.ensures.value) c.in_ok-text.ensures.bytes)
-    c.decide-decided.ensures c.decision_page.ensures.scheduled c.decision_page.ensures.page
+    c.decide-decided.ensures c.decision_page.ensures.scheduled
+    (subst (λ (bytes : List ℕ). IfOk c.decision_page.result (λ p. IsDecisionPage c.args.json bytes c.decide-decided.result p.text.items p.status))
+    (c.deref-2.ensures.value ∙ sym c.deref.ensures.value) c.decision_page.ensures.page)
 
 pub returns-clause-stop : goal.returns-clause-stop
 returns-clause-stop g c =
