@@ -1,6 +1,6 @@
 //! Which finders a send is looked at for: those from one place up to another.
 
-ghost use Rattle.std.specs.Prelude.{◌≡◌, ◌≤◌, ◌<◌, ℕ, IsTrue, IfSome};
+ghost use Rattle.std.specs.Prelude.{◌≡◌, ◌≤◌, ◌<◌, ℕ, IsTrue, IfSome, IfNone};
 ghost use Rattle.callorder.specs.Programs.{are_fit, are_of_one_rank};
 ghost use Rattle.clocks.specs.Clocks.{HasEarlier, IsTaken, IsOfRank, block_of};
 ghost use Rattle.clocks.specs.Spans.{AreSpans};
@@ -19,9 +19,10 @@ pub struct Classes {
     ends: Vec<usize>,
 }
 
-/// The rank that the send goes to.
+/// The rank that the send goes to, and `None` for another call, which fits no finder.
 fn destination(program: &LongProgram, send: usize) -> Option<u32>
-    ensures { IfSome result (λ rank. (finder : ℕ) → IsTrue (are_fit program.now send finder) → IsOfRank program.now finder rank) }
+    ensures some { IfSome result (λ rank. (finder : ℕ) → IsTrue (are_fit program.now send finder) → IsOfRank program.now finder rank) }
+    ensures none { IfNone result ((finder : ℕ) → IsTrue (are_fit program.now send finder) → ⊥) }
 {
     match program.call(send) {
         None => None,
@@ -211,10 +212,10 @@ impl Classes {
     pub fn rank_end(&self, program: &LongProgram, other: usize) -> usize
         ensures { (finder : ℕ) → result ≤ finder → IsTrue (are_fit program.now other finder) → ⊥ }
     {
-        let calls = program.calls().len();
         let Some(rank) = destination(program, other) else {
-            return calls;
+            return 0;
         };
+        let calls = program.calls().len();
         let end = self.ends.get(rank as usize).copied().unwrap_or(calls);
         if !is_none_from(program, end, rank) {
             return calls;
