@@ -44,13 +44,18 @@ static long digits(const char *text, long most) {
     return number;
 }
 
-static int number(int i) {
+static int number_up_to(int i, int most) {
     const char *text = word(i);
     if (!strcmp(text, "*")) return ANY;
     if (!strcmp(text, "-")) return NOBODY;
     if (!*text || !strcmp(text, "?") || !strcmp(text, "-1")) return WRONG;
-    return (int)digits(text, INT_MAX / 4);
+    return (int)digits(text, most);
 }
+
+static int number(int i) { return number_up_to(i, INT_MAX / 4); }
+
+/* Libraries take tags from the highest down. */
+static int tag(int i) { return number_up_to(i, INT_MAX); }
 
 static long bytes(int i) { return *word(i) ? digits(word(i), LONG_MAX / 16) : 0; }
 
@@ -74,7 +79,7 @@ static enum operation operation_of(const char *name) {
 static void read_envelope(struct call *call, int from) {
     call->comm = number(from);
     call->peer = number(from + 1);
-    call->tag = number(from + 2);
+    call->tag = tag(from + 2);
     call->bytes = bytes(from + 3);
 }
 
@@ -109,7 +114,7 @@ static void read_operands(struct call *call, int end) {
         break;
     case OP_SENDRECV:
         read_envelope(call, 3);
-        call->peer2 = number(7), call->tag2 = number(8), call->bytes2 = bytes(9);
+        call->peer2 = number(7), call->tag2 = tag(8), call->bytes2 = bytes(9);
         break;
     case OP_MRECV: call->of = end > 3 ? number(3) : 0; break;
     case OP_IMRECV: call->id = number(3), call->of = end > 4 ? number(4) : 0; break;
@@ -151,10 +156,12 @@ static void read_call(struct rank *rank, int *most) {
     call->comm = -1;
     call->function = copy(word(1));
     call->op = operation_of(word(2));
-    int end = word_count;
-    for (int i = 2; i < word_count; i++)
+    int all = word_count, end = all;
+    for (int i = 2; i < all; i++)
         if (!strcmp(words[i], "@")) end = i;
+    word_count = end;  /* no operand is looked for among the call sites */
     read_operands(call, end);
+    word_count = all;
     if (call->id > rank->most_request) rank->most_request = call->id;
     call->sites = room(NULL, sizeof(int) * (size_t)(word_count - end + 1));
     for (int i = end + 1; i < word_count; i++) {
@@ -232,7 +239,7 @@ static void read_line(struct rank *rank, char *text, int *most) {
     else if (!strcmp(what, "comm"))
         read_comm(rank);
     else if (!strcmp(what, "found") && last)
-        last->found = number(1), last->found_tag = number(2);
+        last->found = number(1), last->found_tag = tag(2);
     else if (!strcmp(what, "cut"))
         rank->cut = 1;
     else if (!strcmp(what, "threads"))
@@ -253,7 +260,8 @@ static void read_one(const char *path, int which) {
     if (!file) fail(5, "%s can't be read: the rank left no recording", path);
     reading = path;
     struct rank *rank = ranks + which;
-    char *text = NULL;
+    char *text = NULL, first[64];
+    snprintf(first, sizeof first, "recording 1 %d %d ", which, rank_count);
     size_t size = 0;
     int most = 0;
     ssize_t length, number = 0;
@@ -262,8 +270,8 @@ static void read_one(const char *path, int which) {
         text[length - 1] = 0;
         if (number)
             read_line(rank, text, &most);
-        else if (strncmp(text, "recording 1 ", 12))
-            fail_reading("it doesn't begin as a recording");
+        else if (strncmp(text, first, strlen(first)))
+            fail_reading("it doesn't begin as the recording of that rank in this run");
     }
     if (ferror(file)) fail(5, "%s can't be read", path);
     if (!number) fail_reading("it is empty");

@@ -181,7 +181,7 @@ static void put_rank(FILE *file, FILE *map, struct text *text, int rank, int pha
 }
 
 static void put_map_head(FILE *map, const char *name) {
-    fprintf(map, "map 1\ntext %s.mpi: %d ranks, recorded under %s, collectives with %s\n", name, rank_count, library,
+    fprintf(map, "text %s.mpi: %d ranks, recorded under %s, collectives with %s\n", name, rank_count, library,
             options.most ? "the most waiting that MPI allows: each is a barrier" : "the least waiting that MPI guarantees");
     for (int i = 0; i < note_count; i++) fprintf(map, "note: %s\n", notes[i]);
 }
@@ -225,6 +225,28 @@ static void write_file(const char *name, const char *end, const char *bytes, siz
     if (!file || fwrite(bytes, 1, size, file) != size || fclose(file)) fail(5, "%s can't be written", path);
 }
 
+/* The checksum of Fowler, Noll and Vo in its form 1a, of 64 bits. */
+static unsigned long long sum_of(const char *bytes, size_t size) {
+    unsigned long long sum = 0xcbf29ce484222325ULL;
+    for (size_t i = 0; i < size; i++) sum = (sum ^ (unsigned char)bytes[i]) * 0x100000001b3ULL;
+    return sum;
+}
+
+/* The first lines tell which text the map is of, and the last one that it is whole. */
+static void write_map(const char *name, const struct text *text) {
+    char *bytes = NULL;
+    size_t size = 0;
+    FILE *map = open_memstream(&bytes, &size);
+    if (!map) fail(70, "out of memory");
+    fprintf(map, "map 1\nof %zu bytes, sum %016llx\n", text->size, sum_of(text->bytes, text->size));
+    fwrite(text->map, 1, text->map_size, map);
+    fputs("end\n", map);
+    int failed = ferror(map);
+    if (fclose(map) || failed) fail(70, "out of memory");
+    write_file(name, "map", bytes, size);
+    free(bytes);
+}
+
 static const char *limits_of(const struct text *text) {
     if (text->calls > 1024) return "beyond the limit of 1,024 calls";
     if (text->size > 1048576) return "beyond the limit of 1,048,576 bytes";
@@ -242,7 +264,7 @@ void write_text(const char *name, int phase, const char *suffix) {
     struct text text = make_text(phase, 1, name);
     count_pairs(&text, phase);
     write_file(name, "mpi", text.bytes, text.size);
-    write_file(name, "map", text.map, text.map_size);
+    write_map(name, &text);
     tell_text(name, &text);
     printf("%s\n", suffix);
     free_text(&text);

@@ -1,0 +1,4 @@
+title='MPICH examples: cpi'
+packages='mpich mpich-doc'
+mpi=mpich
+prepare() { mpich_example cpi.c; }

@@ -1,0 +1,4 @@
+title='MPICH examples: srtest'
+packages='mpich mpich-doc'
+mpi=mpich
+prepare() { mpich_example srtest.c; }

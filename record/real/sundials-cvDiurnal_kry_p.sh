@@ -1,0 +1,4 @@
+title='SUNDIALS examples: cvDiurnal_kry_p'
+packages='libsundials-dev'
+options='--calls 2000'
+prepare() { sundials cvode/parallel/cvDiurnal_kry_p.c cvode; }
