@@ -1,5 +1,5 @@
 -- Which finders a send has to be looked at for.
-use Rattle.std.proofs.Common.{◌≡◌, ℕ, zero, suc, ◌+◌, ◌<◌, ◌≤◌, ◌⊎◌, inl, inr, Bool, true, false, ◌||◌, length, Option, Some, None, refl, sym, ap, ◌∙◌, subst, arith}
+use Rattle.std.proofs.Common.{◌≡◌, ℕ, zero, suc, ◌+◌, ◌<◌, ◌≤◌, ◌⊎◌, inl, inr, Bool, true, false, ◌||◌, length, slice_get, List, Option, Some, None, refl, sym, ap, ◌∙◌, subst, arith}
 use Rattle.std.proofs.lemmas.Bool.{cases_lt}
 use Rattle.std.proofs.lemmas.Option.{slice_get_within}
 use Rattle.calltext.proofs.Conjunctions.{and_both}
@@ -9,19 +9,17 @@ use Rattle.callorder.specs.Programs.{MpiProgram, IsProgramWithin, call_at, fit_c
 use Rattle.semantics.specs.Machine.{Configuration, partner_of}
 use Rattle.semantics.proofs.RankOrder.{one_rank_between}
 use Rattle.races.specs.Blocks.{Blocks, HasFellow}
-use Rattle.races.specs.Tells.{Table, tells_return_call}
+use Rattle.races.specs.Tells.{Table, IsJustified, tells_return_call}
 use Rattle.races.proofs.Steps.{one_rank, one_rank_made}
-use Rattle.clocks.specs.Clocks.{IsNoRace, ShowsAll, HasEarlier, IsTaken, IsChecked, level}
-use Rattle.clocks.proofs.Levels.{or_left, level_within}
+use Rattle.clocks.specs.Clocks.{IsNoRace, ShowsAll, HasEarlier, IsTaken, IsChecked, Numbering, rounds}
+use Rattle.clocks.specs.Finders.{IsListing, Listing, before_at}
+use Rattle.clocks.proofs.Levels.{or_left, rounds_within}
 
 -- what is known where a call is issued is known at each later call of its rank, some rounds later
-next_rank : (p : MpiProgram) (e : Configuration) (n b f : ℕ) → are_of_one_rank p b (suc b) ≡ true → level p e n b f ≡ true → level p e (suc n) (suc b) f ≡ true
-next_rank p e n b f one h =
-    and_both (are_of_one_rank p b (suc b)) (level p e n b f || tells_return_call p e (level p e n) b (call_at p b) f) one
-    (or_left (level p e n b f) (tells_return_call p e (level p e n) b (call_at p b) f) h)
-
-up : (n b : ℕ) → suc (n + b) ≡ n + suc b
-up n b = omega arith
+next_rank : (p : MpiProgram) (e : Configuration) (base : Table) (n b f : ℕ) → are_of_one_rank p b (suc b) ≡ true → rounds p e base n b f ≡ true → rounds p e base (suc n) (suc b) f ≡ true
+next_rank p e base n b f one h =
+    and_both (are_of_one_rank p b (suc b)) (rounds p e base n b f || tells_return_call p e (rounds p e base n) b (call_at p b) f) one
+    (or_left (rounds p e base n b f) (tells_return_call p e (rounds p e base n) b (call_at p b) f) h)
 
 same_call : (p : MpiProgram) (c : ℕ) (x y : Call) → call_at p c ≡ Some x → call_at p c ≡ Some y → x ≡ y
 same_call p c x y a b = cc (a, b)
@@ -32,31 +30,31 @@ from_ends p c b is below one =
     let second = one_rank p b (suc b) (one_rank_between long p is c b (suc b) below (omega arith) one) in
     one_rank_made p c b first.0 second.0 first.2 second.2 (first.4 ∙ ap (λ (z : Call). z.rank) (same_call p (suc b) first.1 second.1 first.3 second.3) ∙ sym second.4)
 
-pub known_later : (p : MpiProgram) (e : Configuration) (n c o f : ℕ) → IsProgramWithin long p → c ≤ o → are_of_one_rank p c o ≡ true → level p e (n + c) c f ≡ true → level p e (n + o) o f ≡ true
-known_later p e n c zero f is le one h = let same : c ≡ zero = omega (arith, le) in subst (λ (z : ℕ). level p e (n + z) z f ≡ true) same h
-known_later p e n c (suc b) f is le one h =
+pub known_later : (p : MpiProgram) (e : Configuration) (base : Table) (c o f : ℕ) → IsProgramWithin long p → c ≤ o → are_of_one_rank p c o ≡ true → rounds p e base c c f ≡ true → rounds p e base o o f ≡ true
+known_later p e base c zero f is le one h = let same : c ≡ zero = omega (arith, le) in subst (λ (z : ℕ). rounds p e base z z f ≡ true) same h
+known_later p e base c (suc b) f is le one h =
     elim (cases_lt c (suc b)) [
-      | inr ge ↦ let same : c ≡ suc b = omega (arith, le, ge) in subst (λ (z : ℕ). level p e (n + z) z f ≡ true) same h
+      | inr ge ↦ let same : c ≡ suc b = omega (arith, le, ge) in subst (λ (z : ℕ). rounds p e base z z f ≡ true) same h
       | inl lt ↦
           let below : c ≤ b = omega (arith, lt) in
           let to_b : are_of_one_rank p c b ≡ true = from_ends p c b is below one in
           let step : are_of_one_rank p b (suc b) ≡ true = one_rank_between long p is c b (suc b) below (omega arith) one in
-          subst (λ (z : ℕ). level p e z (suc b) f ≡ true) (up n b) (next_rank p e (n + b) b f step (known_later p e n c b f is below to_b h))
+          next_rank p e base b b f step (known_later p e base c b f is below to_b h)
     ]
 
-more_rounds : (p : MpiProgram) (e : Configuration) (n m c f : ℕ) → n ≤ m → level p e n c f ≡ true → level p e m c f ≡ true
-more_rounds p e n zero c f le h = let same : n ≡ zero = omega (arith, le) in subst (λ (z : ℕ). level p e z c f ≡ true) same h
-more_rounds p e n (suc m) c f le h =
+more_rounds : (p : MpiProgram) (e : Configuration) (base : Table) (n m c f : ℕ) → IsJustified p e base → n ≤ m → rounds p e base n c f ≡ true → rounds p e base m c f ≡ true
+more_rounds p e base n zero c f justified le h = let same : n ≡ zero = omega (arith, le) in subst (λ (z : ℕ). rounds p e base z c f ≡ true) same h
+more_rounds p e base n (suc m) c f justified le h =
     elim (cases_lt n (suc m)) [
-      | inr ge ↦ let same : n ≡ suc m = omega (arith, le, ge) in subst (λ (z : ℕ). level p e z c f ≡ true) same h
-      | inl lt ↦ level_within p e m c f (more_rounds p e n m c f (omega (arith, lt)) h)
+      | inr ge ↦ let same : n ≡ suc m = omega (arith, le, ge) in subst (λ (z : ℕ). rounds p e base z c f ≡ true) same h
+      | inl lt ↦ rounds_within p e base m justified c f (more_rounds p e base n m c f justified (omega (arith, lt)) h)
     ]
 
 -- what a send shows, some rounds later
-abbrev pub Later : MpiProgram → Blocks → Configuration → Configuration → ℕ → ℕ → Type 0
-Later p block e sure n other =
-    (finder own : ℕ) → partner_of e finder ≡ Some own → are_fit p other finder ≡ true → (are_of_one_rank p own other ≡ false) ⊎ HasFellow p block finder
-    → ((taker : ℕ) → partner_of e other ≡ Some taker → (taker ≤ finder) ⊎ (block taker ≡ block finder) → ⊥) → level p sure (n + other) other finder ≡ true
+abbrev pub Later : MpiProgram → Blocks → Configuration → Configuration → Table → ℕ → Type 0
+Later p block e sure base other =
+    (finder own : ℕ) → partner_of e finder ≡ Some own → are_fit p own finder ≡ true → are_fit p other finder ≡ true → (are_of_one_rank p own other ≡ false) ⊎ HasFellow p block finder
+    → ((taker : ℕ) → partner_of e other ≡ Some taker → (taker ≤ finder) ⊎ (block taker ≡ block finder) → ⊥) → rounds p sure base other other finder ≡ true
 
 apart_from : (p : MpiProgram) (own earlier other : ℕ) → are_of_one_rank p earlier other ≡ true → are_of_one_rank p own other ≡ false → are_of_one_rank p own earlier ≡ false
 apart_from p own earlier other one apart = by (are_of_one_rank p own earlier) refl
@@ -73,14 +71,14 @@ apart_or : (p : MpiProgram) (block : Blocks) (own earlier other finder : ℕ) �
 apart_or p block own earlier other finder one (inl apart) = inl (apart_from p own earlier other one apart)
 apart_or p block own earlier other finder one (inr w) = inr w
 
-all_later : (p : MpiProgram) (block : Blocks) (e sure : Configuration) (n bound other : ℕ) → IsProgramWithin long p → ((it : ℕ) → IsChecked p block e (level p sure n) it) → other < bound → Later p block e sure n other
-all_later p block e sure n zero other is checked lt finder own found fit apart later = absurd (omega (arith, lt))
-all_later p block e sure n (suc bound) other is checked lt finder own found fit apart later =
-    elim (checked other finder own found) [
-      | inl none ↦ more_rounds p sure n (n + other) other finder (omega arith) (none fit apart later)
+all_later : (p : MpiProgram) (block : Blocks) (e sure : Configuration) (base : Table) (bound other : ℕ) → IsProgramWithin long p → IsJustified p sure base → ((it : ℕ) → IsChecked p block e base it) → other < bound → Later p block e sure base other
+all_later p block e sure base zero other is justified checked lt finder own found mine fit apart later = absurd (omega (arith, lt))
+all_later p block e sure base (suc bound) other is justified checked lt finder own found mine fit apart later =
+    elim (checked other finder own found mine) [
+      | inl none ↦ more_rounds p sure base zero other other finder justified (omega arith) (none fit apart later)
       | inr w ↦
-          known_later p sure n w.earlier other finder is (omega (arith, w.before)) w.one
-          (all_later p block e sure n bound w.earlier is checked (omega (arith, w.before, lt)) finder own found w.fit (apart_or p block own w.earlier other finder w.one apart) w.later)
+          known_later p sure base w.earlier other finder is (omega (arith, w.before)) w.one
+          (all_later p block e sure base bound w.earlier is justified checked (omega (arith, w.before, lt)) finder own found mine w.fit (apart_or p block own w.earlier other finder w.one apart) w.later)
     ]
 
 send_there : (o u : Option Call) → fit_calls o u ≡ true → (x : Call) × (o ≡ Some x)
@@ -88,16 +86,16 @@ send_there None u fit = absurd (cc)
 send_there (Some x) u fit = (x, refl)
 
 -- each send that is checked shows it all, some rounds later
-pub checked_shows : (p : MpiProgram) (block : Blocks) (e sure : Configuration) (n : ℕ) → IsProgramWithin long p → ((it : ℕ) → IsChecked p block e (level p sure n) it) → ShowsAll p block e (level p sure (n + length p.calls))
-checked_shows p block e sure n is checked finder own other found mine fit apart later =
+pub checked_shows : (p : MpiProgram) (block : Blocks) (e sure : Configuration) (base : Table) → IsProgramWithin long p → IsJustified p sure base → ((it : ℕ) → IsChecked p block e base it) → ShowsAll p block e (rounds p sure base (length p.calls))
+checked_shows p block e sure base is justified checked finder own other found mine fit apart later =
     let w = send_there (call_at p other) (call_at p finder) fit in
     let within : other < length p.calls = slice_get_within p.calls other w.0 w.1 in
-    more_rounds p sure (n + other) (n + length p.calls) other finder (omega (arith, within))
-    (all_later p block e sure n (length p.calls) other is checked within finder own found fit apart later)
+    more_rounds p sure base other (length p.calls) other finder justified (omega (arith, within))
+    (all_later p block e sure base (length p.calls) other is justified checked within finder own found mine fit apart later)
 
 -- a send is checked where it is looked at for each finder that the four bounds leave
-pub checked_by : (p : MpiProgram) (block : Blocks) (e : Configuration) (knows : Table) (other first start end last low high : ℕ) → ((f : ℕ) → f < first → are_fit p other f ≡ true → HasEarlier p block e other f) → ((f : ℕ) → f < start → are_fit p other f ≡ true → ⊥) → ((f : ℕ) → end ≤ f → are_fit p other f ≡ true → IsTaken block e other f) → ((f : ℕ) → last ≤ f → are_fit p other f ≡ true → ⊥) → ((n : ℕ) → first ≤ n → start ≤ n → low ≤ n) → ((n : ℕ) → n < end → n < last → n < high) → ((f own : ℕ) → low ≤ f → f < high → partner_of e f ≡ Some own → IsNoRace p block e knows f own other) → IsChecked p block e knows other
-checked_by p block e knows other first start end last low high a b c d from to looked f own found = by (are_fit p other f) refl
+pub checked_by : (p : MpiProgram) (block : Blocks) (e : Configuration) (knows : Table) (other first start end last low high : ℕ) → ((f : ℕ) → f < first → are_fit p other f ≡ true → HasEarlier p block e other f) → ((f : ℕ) → f < start → are_fit p other f ≡ true → ⊥) → ((f : ℕ) → end ≤ f → are_fit p other f ≡ true → IsTaken block e other f) → ((f : ℕ) → last ≤ f → are_fit p other f ≡ true → ⊥) → ((n : ℕ) → first ≤ n → start ≤ n → low ≤ n) → ((n : ℕ) → n < end → n < last → n < high) → ((f own : ℕ) → low ≤ f → f < high → partner_of e f ≡ Some own → are_fit p own f ≡ true → IsNoRace p block e knows f own other) → IsChecked p block e knows other
+checked_by p block e knows other first start end last low high a b c d from to looked f own found mine = by (are_fit p other f) refl
   where
     by : (fit : Bool) → are_fit p other f ≡ fit → IsNoRace p block e knows f own other ⊎ HasEarlier p block e other f
     by false is = inl (λ fit apart later. absurd (cc (is, fit)))
@@ -113,7 +111,7 @@ checked_by p block e knows other first start end last low high a b c d from to l
                       | inl before ↦
                           elim (cases_lt f last) [
                             | inr past ↦ absurd (d f past is)
-                            | inl below ↦ inl (looked f own (from f ge above) (to f before below) found)
+                            | inl below ↦ inl (looked f own (from f ge above) (to f before below) found mine)
                           ]
                     ]
               ]
@@ -127,9 +125,9 @@ one_more_send p block e knows n h last other lt =
     ]
 
 pub all_checked : (p : MpiProgram) (block : Blocks) (e : Configuration) (knows : Table) (n : ℕ) → length p.calls ≤ n → ((other : ℕ) → other < n → IsChecked p block e knows other) → (other : ℕ) → IsChecked p block e knows other
-all_checked p block e knows n all h other f own found =
+all_checked p block e knows n all h other f own found mine =
     elim (cases_lt other n) [
-      | inl below ↦ h other below f own found
+      | inl below ↦ h other below f own found mine
       | inr ge ↦
           inl (λ fit apart later.
           let w = send_there (call_at p other) (call_at p f) fit in
@@ -137,9 +135,26 @@ all_checked p block e knows n all h other f own found =
           absurd (omega (arith, within, ge, all)))
     ]
 
-pub one_more_between : (p : MpiProgram) (block : Blocks) (e : Configuration) (knows : Table) (other first n : ℕ) → ((f own : ℕ) → first ≤ f → f < n → partner_of e f ≡ Some own → IsNoRace p block e knows f own other) → ((own : ℕ) → partner_of e n ≡ Some own → IsNoRace p block e knows n own other) → (f own : ℕ) → first ≤ f → f < n + 1 → partner_of e f ≡ Some own → IsNoRace p block e knows f own other
-one_more_between p block e knows other first n h last f own from lt =
-    elim (cases_lt f n) [
-      | inl below ↦ h f own from below
-      | inr ge ↦ let at : n ≡ f = omega (arith, ge, lt) in subst (λ (z : ℕ). partner_of e z ≡ Some own → IsNoRace p block e knows z own other) at (last own)
+-- the send doesn't race for the finders of the list from one place up to another
+abbrev pub AreLookedAt : MpiProgram → Blocks → Configuration → Table → List ℕ → ℕ → ℕ → ℕ → Type 0
+AreLookedAt p block e knows listed other low high =
+    (i f own : ℕ) → low ≤ i → i < high → slice_get listed i ≡ Some f → partner_of e f ≡ Some own → IsNoRace p block e knows f own other
+
+pub one_more_place : (p : MpiProgram) (block : Blocks) (e : Configuration) (knows : Table) (listed : List ℕ) (other low n : ℕ) → AreLookedAt p block e knows listed other low n → ((f own : ℕ) → slice_get listed n ≡ Some f → partner_of e f ≡ Some own → IsNoRace p block e knows f own other) → AreLookedAt p block e knows listed other low (n + 1)
+one_more_place p block e knows listed other low n h last i f own from lt there =
+    elim (cases_lt i n) [
+      | inl below ↦ h i f own from below there
+      | inr ge ↦ let at : i ≡ n = omega (arith, ge, lt) in last f own (subst (λ (z : ℕ). slice_get listed z ≡ Some f) at there)
+    ]
+
+-- A finder from one call up to another is looked at, or no send races for it, or it is known to have found.
+pub looked_between : (p : MpiProgram) (block : Blocks) (e : Configuration) (knows : Table) (ns : Numbering) (l : Listing) (other first end low high n : ℕ) → IsListing p block ns l → low ≡ before_at l.listed l.before first → high ≡ before_at l.listed l.before end → ((i f : ℕ) → low ≤ i → i < n → slice_get l.listed i ≡ Some f → knows other f ≡ true) → AreLookedAt p block e knows l.listed other n high → (f own : ℕ) → first ≤ f → f < end → partner_of e f ≡ Some own → are_fit p own f ≡ true → IsNoRace p block e knows f own other
+looked_between p block e knows ns l other first end low high n is low_is high_is known looked f own from below found mine fit apart later =
+    elim (is.each first end f from below) [
+      | inl never ↦ absurd (never own other mine fit apart)
+      | inr w ↦
+          elim (cases_lt w.place n) [
+            | inl lt ↦ known w.place f (let at = w.from in omega (arith, at, low_is)) lt w.there
+            | inr ge ↦ looked w.place f own ge (let at = w.below in omega (arith, at, high_is)) w.there found fit apart later
+          ]
     ]

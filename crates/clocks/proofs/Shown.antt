@@ -15,14 +15,16 @@ use Rattle.races.proofs.Telling.{programs_are_in_order}
 use Rattle.races.proofs.LikeRuns.{table_of_blocks_never_sticks}
 use Rattle.clocks.specs.declared.race.Race.{Race}
 use Rattle.clocks.specs.declared.rows.Count.{Count}
-use Rattle.clocks.specs.Clocks.{Numbering, AreTold, AreToldSoundly, IsNoRace, ShowsAll, HasNoRaceShown, HasEarlier, IsTaken, IsSingle, IsSurePartner, IsChecked, IsRival, IsRivalIfSingle, level}
+use Rattle.clocks.specs.Clocks.{Numbering, AreTold, AreToldSoundly, IsNoRace, ShowsAll, HasNoRaceShown, HasEarlier, IsTaken, IsSingle, IsSurePartner, IsChecked, IsRival, IsRivalIfSingle, level, rounds}
 use Rattle.clocks.specs.Spans.{AreSpans}
 use Rattle.clocks.proofs.Members.{chain, name_below, named_from, spans_are_blocks}
 use Rattle.std.specs.Option.{unwrap_or}
 use Rattle.clocks.specs.Clocks.{with_partners}
 use Rattle.clocks.proofs.Counts.{same_some}
 use Rattle.clocks.proofs.Looks.{checked_shows, checked_by}
-use Rattle.clocks.proofs.Levels.{level_justified}
+use Rattle.clocks.proofs.Levels.{level_justified, rounds_justified}
+use Rattle.clocks.specs.Exact.{ShowsFrom}
+use Rattle.clocks.proofs.Extending.{shows_as}
 use Rattle.std.specs.declared.alloc.AllocError.{AllocError}
 
 before : (p : MpiProgram) (block : Blocks) (f g : ℕ) → AreSpans p block → g < f → IsSingle block f → block g ≡ block f → ⊥
@@ -67,22 +69,25 @@ none_is_stuck p steps other is finished choice w stuck =
     table_of_blocks_never_sticks p steps other w.block w.sure w.knows order.0 order.1 finished choice (spans_are_blocks p w.block w.spans)
     w.is_sure w.justified (shows p w.block (after_all (opening p) steps) w.knows w.shows) stuck
 
-pub none_shown : (p : MpiProgram) (block : Blocks) (e sure : Configuration) (ns : Numbering) (told : List Count) (found : Option Race) → IsProgramWithin long p → AreSpans p block → ((c x : ℕ) → partner_of sure c ≡ Some x → IsSurePartner block e c x) → AreToldSoundly p sure ns told → IfNone found ((knows : Table) → AreTold ns knows told → (other : ℕ) → IsChecked p block e knows other) → IfNone found (HasNoRaceShown p e)
+pub none_shown : (p : MpiProgram) (block : Blocks) (e sure : Configuration) (ns : Numbering) (told : List Count) (found : Option Race) → IsProgramWithin long p → AreSpans p block → ((c x : ℕ) → partner_of sure c ≡ Some x → IsSurePartner block e c x) → AreToldSoundly p sure ns told → IfNone found (ShowsFrom p sure ns told (λ more. (other : ℕ) → IsChecked p block e more other)) → IfNone found (HasNoRaceShown p e)
 none_shown p block e sure ns told None is spans within sound shown =
+    let w = shown (level p sure sound.rounds) (level_justified p sure sound.rounds) sound.told in
     record {
       block = block;
       spans = spans;
       sure = sure;
-      knows = level p sure (sound.rounds + length p.calls);
+      knows = rounds p sure w.more (length p.calls);
       is_sure = is_sure p block e sure spans within;
-      justified = level_justified p sure (sound.rounds + length p.calls);
-      shows = checked_shows p block e sure sound.rounds is (shown (level p sure sound.rounds) sound.told);
+      justified = rounds_justified p sure w.more (length p.calls) w.justified;
+      shows = checked_shows p block e sure w.more is w.justified w.shows;
     }
 none_shown p block e sure ns told (Some race) is spans within sound shown = shown
 
-pub checked_if : (p : MpiProgram) (block : Blocks) (e : Configuration) (ns : Numbering) (told : List Count) (other first start end last low high : ℕ) (r : Option ℕ) → ((f : ℕ) → f < first → are_fit p other f ≡ true → HasEarlier p block e other f) → ((f : ℕ) → f < start → are_fit p other f ≡ true → ⊥) → ((f : ℕ) → end ≤ f → are_fit p other f ≡ true → IsTaken block e other f) → ((f : ℕ) → last ≤ f → are_fit p other f ≡ true → ⊥) → ((n : ℕ) → first ≤ n → start ≤ n → low ≤ n) → ((n : ℕ) → n < end → n < last → n < high) → IfNone r ((knows : Table) → AreTold ns knows told → (f own : ℕ) → low ≤ f → f < high → partner_of e f ≡ Some own → IsNoRace p block e knows f own other) → IfNone r ((knows : Table) → AreTold ns knows told → IsChecked p block e knows other)
-checked_if p block e ns told other first start end last low high None a b c d from to looked = λ knows are. checked_by p block e knows other first start end last low high a b c d from to (looked knows are)
-checked_if p block e ns told other first start end last low high (Some x) a b c d from to looked = looked
+pub checked_if : (p : MpiProgram) (block : Blocks) (e sure : Configuration) (ns : Numbering) (told : List Count) (other first start end last low high : ℕ) (r : Option ℕ) → ((f : ℕ) → f < first → are_fit p other f ≡ true → HasEarlier p block e other f) → ((f : ℕ) → f < start → are_fit p other f ≡ true → ⊥) → ((f : ℕ) → end ≤ f → are_fit p other f ≡ true → IsTaken block e other f) → ((f : ℕ) → last ≤ f → are_fit p other f ≡ true → ⊥) → ((n : ℕ) → first ≤ n → start ≤ n → low ≤ n) → ((n : ℕ) → n < end → n < last → n < high) → IfNone r (ShowsFrom p sure ns told (λ more. (f own : ℕ) → low ≤ f → f < high → partner_of e f ≡ Some own → are_fit p own f ≡ true → IsNoRace p block e more f own other)) → IfNone r (ShowsFrom p sure ns told (λ more. IsChecked p block e more other))
+checked_if p block e sure ns told other first start end last low high None a b c d from to looked =
+    shows_as p sure ns told (λ more. (f own : ℕ) → low ≤ f → f < high → partner_of e f ≡ Some own → are_fit p own f ≡ true → IsNoRace p block e more f own other) (λ more. IsChecked p block e more other)
+    (λ more are shows. checked_by p block e more other first start end last low high a b c d from to shows) looked
+checked_if p block e sure ns told other first start end last low high (Some x) a b c d from to looked = looked
 
 -- one of four reasons shows that the other send doesn't race
 pub no_race_by_rank : (p : MpiProgram) (block : Blocks) (e : Configuration) (knows : Table) (finder own other : ℕ) → AreSpans p block → are_of_one_rank p own other ≡ true → IsSingle block finder → IsNoRace p block e knows finder own other

@@ -93,6 +93,11 @@ impl Columns {
         self.starts.len()
     }
 
+    /// How many numbers there are, in all columns.
+    pub fn numbers(&self) -> usize {
+        self.listed.len()
+    }
+
     /// Where the finder is counted, if it is.
     pub fn mark(&self, finder: usize) -> Option<Mark> {
         self.marks.get(finder).copied().unwrap_or(None)

@@ -22,13 +22,21 @@
 //! and are used only where a look at each call shows that they are right.
 //!
 //! That takes the calls times the columns in time, and in memory the calls, and the columns for each
-//! call that is open at one time. Then the sends are looked at: of one envelope (the rank, the
-//! destination, the communicator and the tag) each finder is looked at for one send at most. Ranks,
-//! and calls by their place in the program's list, count from 0.
+//! call that is open at one time. Then the sends are looked at, each for finders of any source alone:
+//! where a finder names its source, all sends that fit it are of one rank. A send's count tells at
+//! once of all finders of its destination up to a place that they have found, so it is looked at from
+//! there on, and no further than its own taker. In a program that doesn't race these are few, and of
+//! one envelope (the rank, the destination, the communicator and the tag) each finder is looked at
+//! for one send at most. Where the count doesn't tell, all that is known of the finder is asked for,
+//! which takes the calls in time and is kept until another finder is asked for. So of a race that is
+//! told no rule tells that the send is issued only where the finder has found. Ranks, and calls by
+//! their place in the program's list, count from 0.
 #![tactic(auto)]
 
 mod classes;
 mod columns;
+mod exact;
+mod finders;
 mod laws;
 mod race;
 mod reads;

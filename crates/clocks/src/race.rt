@@ -1,19 +1,24 @@
 //! The first race of a run.
 
 ghost use Rattle.std.specs.Prelude.{◌≡◌, ◌≤◌, ◌<◌, ℕ, IfOk, IfNone, IfSome, Bool, IsTrue, Option, Some, slice_get, false};
-ghost use Rattle.semantics.specs.Machine.{opening, after_all, IsFinishedRun, partner_of};
+ghost use Rattle.semantics.specs.Machine.{opening, after_all, IsConfigurationOf, IsFinishedRun, partner_of};
 ghost use Rattle.races.specs.Races.{BuffersNoneByChoice, NamesSources};
 ghost use Rattle.races.specs.Tells.{Table};
 ghost use Rattle.semantics.specs.Headline.{NoStuckRun};
-ghost use Rattle.clocks.specs.Clocks.{AreTold, IsCount, IsNoRace, IsChecked, HasNoRaceShown, IsTaken, IsSingle, IsSurePartner, IsRival, IsRivalIfSingle, block_of, with_partners};
+ghost use Rattle.clocks.specs.Clocks.{AreTold, IsCount, IsNoRace, IsChecked, HasNoRaceShown, IsTaken, IsSingle, IsSurePartner, IsRival, IsRivalIfSingle, IsUnordered, block_of, with_partners};
+ghost use Rattle.clocks.specs.Exact.{IsAsked, IsUnorderedBy, ShowsFrom};
+ghost use Rattle.clocks.specs.Finders.{AreReaches, IsListing, IsLookedAt};
 ghost use Rattle.clocks.specs.Spans.{AreSpans};
-ghost use Rattle.callorder.specs.Programs.{are_of_one_rank};
+ghost use Rattle.callorder.specs.Programs.{are_fit, are_of_one_rank};
 
 use crate::classes::{Classes, end_open};
 use crate::columns::Columns;
+use crate::exact::Exact;
+use crate::finders::Finders;
 use crate::rows::{Count, told_of};
 use crate::spans::{is_single, name, names_of, no_names};
 use callorder::LongProgram;
+use knowledge::issue_order;
 use leastrun::names_sources;
 use semantics::{State, Step};
 use std::alloc::{AllocError, Global};
@@ -144,27 +149,93 @@ fn is_no_race_if_found(
     }
 }
 
-/// The first finder from one place up to another for which the send races.
-fn race_between(
+/// A place of the list of finders: all that stand before it, from this place on, are known to have
+/// found wherever the send is issued.
+fn first_unknown(
+    columns: &Columns,
+    told: &[Count],
+    finders: &Finders,
+    send: usize,
+    place: usize,
+) -> usize
+    requires { AreReaches columns.now finders.now.listed finders.now.reaches }
+    ensures { (knows : Table) → AreTold columns.now knows told.now → (i finder : ℕ) → place ≤ i → i < result → slice_get finders.now.listed i ≡ Some finder → IsTrue (knows send finder) }
+{
+    match count_at(told, send) {
+        None => place,
+        Some(count) => finders.first_unknown(columns, &count, place),
+    }
+}
+
+/// The finder at the place of the list, if the send races for it. The only error is want of memory.
+fn race_at(
+    alloc: Global,
     program: &LongProgram,
     state: &State,
     columns: &Columns,
     told: &[Count],
     names: &[usize],
+    finders: &Finders,
+    exact: &mut Exact,
+    other: usize,
+    place: usize,
+) -> Result<Option<usize>, AllocError>
+    requires spans { AreSpans program.now (block_of names.now) }
+    requires asked { IsAsked program.now exact.old }
+    ensures partners { exact.new.partners ≡ exact.old.partners }
+    ensures asked { IsAsked program.now exact.new }
+    ensures none { IfOk result (λ found. IfNone found (ShowsFrom program.now (with_partners exact.old.partners) columns.now told.now (IsLookedAt program.now (block_of names.now) state.now finders.now.listed place other))) }
+    ensures rival { IfOk result (λ found. IfSome found (IsRivalIfSingle program.now (block_of names.now) state.now other)) }
+    ensures unordered { IfOk result (λ found. IfSome found (λ finder. IsUnorderedBy program.now (with_partners exact.old.partners) other finder)) }
+{
+    let Some(finder) = finders.at(place) else {
+        return Ok(None);
+    };
+    if is_no_race_if_found(program, state, columns, told, names, finder, other) {
+        return Ok(None);
+    }
+    let is_ordered = exact.tells(alloc, program, finder, other)?;
+    if is_ordered {
+        return Ok(None);
+    }
+    Ok(Some(finder))
+}
+
+/// The first finder from one place up to another for which the send races. The only error is want of
+/// memory.
+fn race_between(
+    alloc: Global,
+    program: &LongProgram,
+    state: &State,
+    columns: &Columns,
+    told: &[Count],
+    names: &[usize],
+    finders: &Finders,
+    exact: &mut Exact,
     other: usize,
     first: usize,
     end: usize,
-) -> Option<usize>
-    requires { AreSpans program.now (block_of names.now) }
-    ensures none { IfNone result ((knows : Table) → AreTold columns.now knows told.now → (finder own : ℕ) → first ≤ finder → finder < end → partner_of state.now finder ≡ Some own → IsNoRace program.now (block_of names.now) state.now knows finder own other) }
-    ensures rival { IfSome result (IsRivalIfSingle program.now (block_of names.now) state.now other) }
+) -> Result<Option<usize>, AllocError>
+    requires spans { AreSpans program.now (block_of names.now) }
+    requires listing { IsListing program.now (block_of names.now) columns.now finders.now }
+    requires asked { IsAsked program.now exact.old }
+    ensures partners { exact.new.partners ≡ exact.old.partners }
+    ensures asked { IsAsked program.now exact.new }
+    ensures none { IfOk result (λ found. IfNone found (ShowsFrom program.now (with_partners exact.old.partners) columns.now told.now (λ more. (finder own : ℕ) → first ≤ finder → finder < end → partner_of state.now finder ≡ Some own → IsTrue (are_fit program.now own finder) → IsNoRace program.now (block_of names.now) state.now more finder own other))) }
+    ensures rival { IfOk result (λ found. IfSome found (IsRivalIfSingle program.now (block_of names.now) state.now other)) }
+    ensures unordered { IfOk result (λ found. IfSome found (λ finder. IsUnorderedBy program.now (with_partners exact.old.partners) other finder)) }
 {
-    for finder in first..end {
-        if !is_no_race_if_found(program, state, columns, told, names, finder, other) {
-            return Some(finder);
+    let low = first_unknown(columns, told, finders, other, finders.before(first));
+    let high = finders.before(end);
+    for place in low..high {
+        let found = race_at(
+            alloc, program, state, columns, told, names, finders, exact, other, place,
+        )?;
+        if let Some(finder) = found {
+            return Ok(Some(finder));
         }
     }
-    None
+    Ok(None)
 }
 
 /// The larger of two.
@@ -181,19 +252,28 @@ fn smaller(one: usize, other: usize) -> usize
     if one < other { one } else { other }
 }
 
-/// The first finder for which the send races, among those that it is to be looked at for.
+/// The first finder for which the send races, among those that it is to be looked at for. The only
+/// error is want of memory.
 fn race_of_send(
+    alloc: Global,
     program: &LongProgram,
     state: &State,
     columns: &Columns,
     told: &[Count],
     names: &[usize],
+    finders: &Finders,
     classes: &Classes,
+    exact: &mut Exact,
     other: usize,
-) -> Option<usize>
-    requires { AreSpans program.now (block_of names.now) }
-    ensures none { IfNone result ((knows : Table) → AreTold columns.now knows told.now → IsChecked program.now (block_of names.now) state.now knows other) }
-    ensures rival { IfSome result (IsRivalIfSingle program.now (block_of names.now) state.now other) }
+) -> Result<Option<usize>, AllocError>
+    requires spans { AreSpans program.now (block_of names.now) }
+    requires listing { IsListing program.now (block_of names.now) columns.now finders.now }
+    requires asked { IsAsked program.now exact.old }
+    ensures partners { exact.new.partners ≡ exact.old.partners }
+    ensures asked { IsAsked program.now exact.new }
+    ensures none { IfOk result (λ found. IfNone found (ShowsFrom program.now (with_partners exact.old.partners) columns.now told.now (λ more. IsChecked program.now (block_of names.now) state.now more other))) }
+    ensures rival { IfOk result (λ found. IfSome found (IsRivalIfSingle program.now (block_of names.now) state.now other)) }
+    ensures unordered { IfOk result (λ found. IfSome found (λ finder. IsUnorderedBy program.now (with_partners exact.old.partners) other finder)) }
 {
     let first = classes.first_open(program, state, names, other);
     let start = classes.rank_start(program, other);
@@ -201,34 +281,47 @@ fn race_of_send(
     let last = classes.rank_end(program, other);
     let low = larger(first, start);
     let high = smaller(end, last);
-    race_between(program, state, columns, told, names, other, low, high)
+    let found = race_between(
+        alloc, program, state, columns, told, names, finders, exact, other, low, high,
+    )?;
+    Ok(found)
 }
 
-/// The first send that races, with the finder.
+/// The first send that races, with the finder. The only error is want of memory.
 fn race_in(
+    alloc: Global,
     program: &LongProgram,
     state: &State,
     columns: &Columns,
     told: &[Count],
     names: &[usize],
+    finders: &Finders,
     classes: &Classes,
-) -> Option<Race>
-    requires { AreSpans program.now (block_of names.now) }
-    ensures none { IfNone result ((knows : Table) → AreTold columns.now knows told.now → (other : ℕ) → IsChecked program.now (block_of names.now) state.now knows other) }
-    ensures rival { IfSome result (λ race. IsRivalIfSingle program.now (block_of names.now) state.now race.send race.finder) }
+    exact: &mut Exact,
+) -> Result<Option<Race>, AllocError>
+    requires spans { AreSpans program.now (block_of names.now) }
+    requires listing { IsListing program.now (block_of names.now) columns.now finders.now }
+    requires asked { IsAsked program.now exact.old }
+    ensures none { IfOk result (λ found. IfNone found (ShowsFrom program.now (with_partners exact.old.partners) columns.now told.now (λ more. (other : ℕ) → IsChecked program.now (block_of names.now) state.now more other))) }
+    ensures rival { IfOk result (λ found. IfSome found (λ race. IsRivalIfSingle program.now (block_of names.now) state.now race.send race.finder)) }
+    ensures unordered { IfOk result (λ found. IfSome found (IsUnordered program.now (with_partners exact.old.partners))) }
 {
     for send in 0..program.calls().len() {
-        if let Some(finder) = race_of_send(program, state, columns, told, names, classes, send) {
-            return Some(Race { send, finder });
+        let found = race_of_send(
+            alloc, program, state, columns, told, names, finders, classes, exact, send,
+        )?;
+        if let Some(finder) = found {
+            return Ok(Some(Race { send, finder }));
         }
     }
-    None
+    Ok(None)
 }
 
 /// The state after the run. The only error is want of memory.
 fn last_state(alloc: Global, program: &LongProgram, run: &[Step]) -> Result<State, AllocError>
     requires { IsFinishedRun program.now run.now }
-    ensures { IfOk result (λ state. state ≡ after_all (opening program.now) run.now) }
+    ensures after { IfOk result (λ state. state ≡ after_all (opening program.now) run.now) }
+    ensures of { IfOk result (IsConfigurationOf program.now) }
 {
     let mut state = State::start(alloc, program)?;
     for step in run {
@@ -239,7 +332,8 @@ fn last_state(alloc: Global, program: &LongProgram, run: &[Step]) -> Result<Stat
 
 /// The partner of the call, where neither of the two is of a block with others.
 fn sure_partner(state: &State, names: &[usize], call: usize) -> Option<usize>
-    ensures { IfSome result (λ partner. IsSurePartner (block_of names.now) state.now call partner) }
+    ensures sure { IfSome result (λ partner. IsSurePartner (block_of names.now) state.now call partner) }
+    ensures all { ((c : ℕ) → IsSingle (block_of names.now) c) → result ≡ partner_of state.now call }
 {
     match state.partner(call) {
         None => None,
@@ -263,7 +357,9 @@ fn partners_of(
     state: &State,
     names: &[usize],
 ) -> Result<Vec<Option<usize>>, AllocError>
-    ensures { IfOk result (λ partners. (c x : ℕ) → partner_of (with_partners partners.items) c ≡ Some x → IsSurePartner (block_of names.now) state.now c x) }
+    requires { IsConfigurationOf program.now state.now }
+    ensures sure { IfOk result (λ partners. (c x : ℕ) → partner_of (with_partners partners.items) c ≡ Some x → IsSurePartner (block_of names.now) state.now c x) }
+    ensures all { IfOk result (λ partners. ((c : ℕ) → IsSingle (block_of names.now) c) → (c : ℕ) → partner_of (with_partners partners.items) c ≡ partner_of state.now c) }
 {
     let mut partners = Vec::new(alloc);
     for call in 0..program.calls().len() {
@@ -280,8 +376,10 @@ fn race_of(
     state: &State,
     run: &[Step],
 ) -> Result<Option<Race>, AllocError>
+    requires { IsConfigurationOf program.now state.now }
     ensures none { IfOk result (λ found. IfNone found (HasNoRaceShown program.now state.now)) }
     ensures rival { IfOk result (λ found. IfSome found (IsRival program.now state.now)) }
+    ensures unordered { IfOk result (λ found. IfSome found (IsUnordered program.now state.now)) }
 {
     let names = names_of(alloc, program, state)?;
     match race_by(alloc, program, state, names.as_slice(), run) {
@@ -298,8 +396,10 @@ fn race_alone(
     state: &State,
     run: &[Step],
 ) -> Result<Option<Race>, AllocError>
+    requires { IsConfigurationOf program.now state.now }
     ensures none { IfOk result (λ found. IfNone found (HasNoRaceShown program.now state.now)) }
     ensures rival { IfOk result (λ found. IfSome found (IsRival program.now state.now)) }
+    ensures unordered { IfOk result (λ found. IfSome found (IsUnordered program.now state.now)) }
 {
     let names = no_names(alloc, program);
     race_by(alloc, program, state, names.as_slice(), run)
@@ -313,16 +413,32 @@ fn race_by(
     names: &[usize],
     run: &[Step],
 ) -> Result<Option<Race>, AllocError>
-    requires { AreSpans program.now (block_of names.now) }
+    requires spans { AreSpans program.now (block_of names.now) }
+    requires of { IsConfigurationOf program.now state.now }
     ensures none { IfOk result (λ found. IfNone found (HasNoRaceShown program.now state.now)) }
     ensures rival { IfOk result (λ found. IfSome found (λ race. IsRivalIfSingle program.now (block_of names.now) state.now race.send race.finder)) }
+    ensures unordered { IfOk result (λ found. IfSome found (λ race. ((c : ℕ) → IsSingle (block_of names.now) c) → IsUnordered program.now state.now race)) }
 {
     let _calls = program.calls();
     let partners = partners_of(alloc, program, state, names)?;
     let columns = Columns::new(alloc, program)?;
     let told = told_of(alloc, program, &columns, partners.as_slice(), run)?;
+    let finders = Finders::new(alloc, program, names, &columns)?;
     let classes = Classes::new(alloc, program)?;
-    Ok(race_in(program, state, &columns, told.as_slice(), names, &classes))
+    let order = issue_order(alloc, program, run)?;
+    let mut exact = Exact::new(alloc, partners, order);
+    let found = race_in(
+        alloc,
+        program,
+        state,
+        &columns,
+        told.as_slice(),
+        names,
+        &finders,
+        &classes,
+        &mut exact,
+    )?;
+    Ok(found)
 }
 
 /// A send that may get to a receive, matched probe or probe before the send that it found in the
@@ -331,8 +447,8 @@ fn race_by(
 /// buffered, as in what `least_buffered_run` makes.
 ///
 /// Where there is none, no run of the program is stuck. There is none where each receive, matched
-/// probe and probe names its source. A race that is told proves nothing: it may be that no run is
-/// stuck even so. Calls, in the steps and in the race, count from 0. The only error is want of
+/// probe and probe names its source. Of a race that is told no rule tells that the send is issued only
+/// where the finder has found, but it proves nothing: it may be that no run is stuck even so. Calls, in the steps and in the race, count from 0. The only error is want of
 /// memory.
 pub fn first_race(
     alloc: Global,
@@ -344,6 +460,7 @@ pub fn first_race(
     ensures none { result ≡ Ok None → NoStuckRun program.now }
     ensures named { NamesSources program.now → result ≡ Ok None }
     ensures race { IfOk result (λ found. IfSome found (IsRival program.now (after_all (opening program.now) run.now))) }
+    ensures unordered { IfOk result (λ found. IfSome found (IsUnordered program.now (after_all (opening program.now) run.now))) }
 {
     let _calls = program.calls();
     if names_sources(program) {

@@ -10,7 +10,7 @@ use Rattle.semantics.specs.Headline.{NoStuckRun}
 use Rattle.semantics.specs.Machine.{IsStuckRun}
 use Rattle.races.specs.Races.{names_source, NamesSources}
 use Rattle.deciding.specs.Decisions.{takes_any_source_call, IsRace}
-use Rattle.deciding.specs.Laws.{LoneSendersAreDecided, NamedSourcesAreDecided, ShortTextsAreDecided}
+use Rattle.deciding.specs.Laws.{JustifiedRunsAreDecided, LoneSendersAreDecided, NamedSourcesAreDecided, ShortTextsAreDecided}
 use Rattle.deciding.specs.declared.decision.Race.{Race}
 
 not_both : (b : Bool) → b ≡ true → not b ≡ true → ⊥
@@ -35,6 +35,18 @@ lone_senders_are_decided program race p decided text lone =
     let is : IsRace p race = subst (λ (q : MpiProgram). IsRace q race) same decided.calls in
     let one = lone race.finder.place race.found.place race.other.place is.found_fits is.other_fits in
     cc (one, is.apart)
+
+pub justified_runs_are_decided : JustifiedRunsAreDecided
+justified_runs_are_decided program race p decided text tables =
+    let same : decided.p ≡ p = one_program_of_bytes_within long program decided.p p decided.text text in
+    let is : IsRace p race = subst (λ (q : MpiProgram). IsRace q race) same decided.calls in
+    let untold = is.untold in
+    let table = tables untold.run untold.finished untold.choice in
+    let known : table.knows race.other.place race.finder.place ≡ true =
+    table.shows race.finder.place race.found.place race.other.place untold.matched is.found_fits is.other_fits is.apart
+    (λ taker partner before. untold.later taker partner (omega (arith, before))) in
+    let unknown = untold.unordered table.knows table.justified in
+    cc (known, unknown)
 
 -- the program of a text within the short limits is that within the long ones
 same_long : (program : List ℕ) (p q : MpiProgram) → IsTextOf program p → IsTextOfWithin long program q → q ≡ p

@@ -1,5 +1,5 @@
 -- A call that two sends of different ranks fit takes any source.
-use Rattle.std.proofs.Common.{◌≡◌, ℕ, ◌⊎◌, inl, inr, Bool, true, false, not, IfNone, ◌==◌, Option, Some, None, IsTrue, is_some, refl, sym, ap, subst, ◌∙◌}
+use Rattle.std.proofs.Common.{◌≡◌, ◌≤◌, ℕ, List, ◌⊎◌, inl, inr, Bool, true, false, not, IfNone, ◌==◌, Option, Some, None, IsTrue, is_some, refl, sym, ap, subst, ◌∙◌}
 use Rattle.std.proofs.lemmas.Bool.{eqb-true, eq-eqb}
 use Rattle.calltext.proofs.Conjunctions.{and_true}
 use Rattle.callorder.specs.declared.calls.Call.{Call}
@@ -11,10 +11,13 @@ use Rattle.histories.proofs.Matched.{no_send_is_taker}
 use Rattle.races.proofs.Kept.{takes_fit}
 use Rattle.races.proofs.Steps.{same_some}
 use Rattle.races.specs.Races.{names_source}
-use Rattle.semantics.specs.Machine.{Configuration, partner_of}
-use Rattle.clocks.specs.Clocks.{IsRival}
+use Rattle.races.specs.Races.{BuffersNoneByChoice}
+use Rattle.races.specs.Tells.{Table, IsJustified}
+use Rattle.semantics.specs.Machine.{Configuration, after_all, opening, partner_of, IsFinishedRun}
+use Rattle.semantics.specs.declared.state.Step.{Step}
+use Rattle.clocks.specs.Clocks.{IsRival, IsUnordered}
 use Rattle.clocks.specs.declared.race.Race as rivals
-use Rattle.deciding.specs.Decisions.{IsCaller, IsRace, takes_any_source, takes_any_source_call}
+use Rattle.deciding.specs.Decisions.{EndsLeast, IsCaller, IsOpen, IsRace, takes_any_source, takes_any_source_call}
 use Rattle.deciding.specs.declared.decision.Caller.{Caller}
 
 -- where two sends fit a pattern that names its source, they are of one rank
@@ -72,11 +75,26 @@ pub own_fits_rival : (p : MpiProgram) (e : Configuration) (rival : rivals.Race) 
     → ((c x : ℕ) → partner_of e c ≡ Some x → (takes p c x ≡ true) ⊎ (are_fit p x c ≡ true)) → partner_of e rival.finder ≡ Some send → are_fit p send rival.finder ≡ true
 own_fits_rival p e rival send is fit found = own_fits p rival.finder send rival.send is.fits (fit rival.finder send found)
 
-pub race_of : (p : MpiProgram) (e : Configuration) (rival : rivals.Race) (send : ℕ) (finder found other : Caller) → IsRival p e rival
+open_of : (p : MpiProgram) (e : Configuration) (rival : rivals.Race) (send : ℕ) (finder found other : Caller) → IsRival p e rival → IsUnordered p e rival → EndsLeast p e
+    → partner_of e rival.finder ≡ Some send → finder.place ≡ rival.finder → found.place ≡ send → other.place ≡ rival.send
+    → IsOpen p (record { finder = finder; found = found; other = other })
+open_of p e rival send finder found other is unordered (run, finished, choice, ends) partner f_at s_at o_at = record {
+  run = run;
+  finished = finished;
+  choice = choice;
+  matched = subst (λ (m : Configuration). partner_of m finder.place ≡ Some found.place) ends
+      (ap (partner_of e) f_at ∙ partner ∙ ap Some (sym s_at));
+  later = subst (λ (m : Configuration). (taker : ℕ) → partner_of m other.place ≡ Some taker → taker ≤ finder.place → ⊥) ends
+      (λ taker found_at before. is.later taker (sym (ap (partner_of e) o_at) ∙ found_at) (subst (λ (z : ℕ). taker ≤ z) f_at before));
+  unordered = subst (λ (m : Configuration). (knows : Table) → IsJustified p m knows → knows other.place finder.place ≡ false) ends
+      (λ knows justified. ap (λ (z : ℕ). knows z finder.place) o_at ∙ ap (knows rival.send) f_at ∙ unordered knows justified);
+}
+
+pub race_of : (p : MpiProgram) (e : Configuration) (rival : rivals.Race) (send : ℕ) (finder found other : Caller) → IsRival p e rival → IsUnordered p e rival → EndsLeast p e
     → ((c x : ℕ) → partner_of e c ≡ Some x → (takes p c x ≡ true) ⊎ (are_fit p x c ≡ true)) → partner_of e rival.finder ≡ Some send
     → IsCaller p finder × (finder.place ≡ rival.finder) → IsCaller p found × (found.place ≡ send) → IsCaller p other × (other.place ≡ rival.send)
     → IsRace p (record { finder = finder; found = found; other = other })
-race_of p e rival send finder found other is fit partner (f, f_at) (s, s_at) (o, o_at) =
+race_of p e rival send finder found other is unordered ends fit partner (f, f_at) (s, s_at) (o, o_at) =
     let own : are_fit p send rival.finder ≡ true = own_fits_rival p e rival send is fit partner in
     let same : is.own ≡ send = same_some is.own send (sym is.found ∙ partner) in
     let apart : are_of_one_rank p send rival.send ≡ false = subst (λ (z : ℕ). are_of_one_rank p z rival.send ≡ false) same is.apart in
@@ -88,6 +106,7 @@ race_of p e rival send finder found other is fit partner (f, f_at) (s, s_at) (o,
       found_fits = ap (λ (z : ℕ). are_fit p z finder.place) s_at ∙ ap (are_fit p send) f_at ∙ own;
       other_fits = ap (λ (z : ℕ). are_fit p z finder.place) o_at ∙ ap (are_fit p rival.send) f_at ∙ is.fits;
       apart = ap (λ (z : ℕ). are_of_one_rank p z other.place) s_at ∙ ap (are_of_one_rank p send) o_at ∙ apart;
+      untold = open_of p e rival send finder found other is unordered ends partner f_at s_at o_at;
     }
 
 -- what is known where there is none

@@ -1,5 +1,5 @@
 -- What one run tells of all runs of a program, and of the program of a text.
-use Rattle.std.specs.Prelude.{◌≡◌, ℕ, Bool, false, not, List, Option, Some, None, IsTrue, Result, Ok, Err}
+use Rattle.std.specs.Prelude.{◌≡◌, ◌≤◌, ℕ, Bool, false, not, List, Option, Some, None, IsTrue, Result, Ok, Err}
 use Rattle.calltext.specs.declared.fault.ReadFault.{ReadFault}
 use Rattle.calltext.specs.declared.fault.ReadFault.TheVariants as reading
 use Rattle.calltext.specs.Fault.{HasFaultWithin}
@@ -12,8 +12,10 @@ use Rattle.callorder.specs.declared.calls.Call.{Call}
 use Rattle.callorder.specs.declared.fault.ResolveFault.{ResolveFault}
 use Rattle.callorder.specs.declared.fault.ResolveFault.TheVariants as resolving
 use Rattle.semantics.specs.Headline.{NoStuckRun, IsNeverStuckWithin, IsStuckRunWithin}
-use Rattle.semantics.specs.Machine.{IsStuckRun}
-use Rattle.races.specs.Races.{names_source}
+use Rattle.semantics.specs.Machine.{Configuration, after_all, opening, partner_of, IsFinishedRun, IsStuckRun}
+use Rattle.semantics.specs.declared.state.Step.{Step}
+use Rattle.races.specs.Races.{names_source, BuffersNoneByChoice}
+use Rattle.races.specs.Tells.{Table, IsJustified}
 use Rattle.deciding.specs.declared.decision.Caller.{Caller}
 use Rattle.deciding.specs.declared.decision.Decision.{Decision}
 use Rattle.deciding.specs.declared.decision.Race.{Race}
@@ -33,7 +35,21 @@ takes_any_source p c = takes_any_source_call (call_at p c)
 abbrev pub IsCaller : MpiProgram → Caller → Type 0
 IsCaller p caller = IsTrue (is_of_rank (call_at p caller.place) caller.rank)
 
--- A call that takes any source, the send that it found, and a send of another rank that fits it too.
+-- the configuration is that at the end of a run that finishes, and buffers a send only where the policy has each one buffered
+abbrev pub EndsLeast : MpiProgram → Configuration → Type 0
+EndsLeast p e = (run : List Step) × IsFinishedRun p run × BuffersNoneByChoice p run × (e ≡ after_all (opening p) run)
+
+-- In some run that finishes, and buffers a send only where the policy has each one buffered, the call found the one send, no call up to it
+-- has taken the other one, and no table whose entries are all justified tells that the other one is issued only where the call has found.
+pub record IsOpen (p : MpiProgram) (race : Race) : Type 0 where
+  pub run : List Step
+  pub finished : IsFinishedRun p run
+  pub choice : BuffersNoneByChoice p run
+  pub matched : partner_of (after_all (opening p) run) race.finder.place ≡ Some race.found.place
+  pub later : (taker : ℕ) → partner_of (after_all (opening p) run) race.other.place ≡ Some taker → taker ≤ race.finder.place → ⊥
+  pub unordered : (knows : Table) → IsJustified p (after_all (opening p) run) knows → knows race.other.place race.finder.place ≡ false
+
+-- A call that takes any source, the send that it found, and a send of another rank that fits it too, and may come first.
 pub record IsRace (p : MpiProgram) (race : Race) : Type 0 where
   pub free : IsTrue (takes_any_source p race.finder.place)
   pub finder : IsCaller p race.finder
@@ -42,6 +58,7 @@ pub record IsRace (p : MpiProgram) (race : Race) : Type 0 where
   pub found_fits : IsTrue (are_fit p race.found.place race.finder.place)
   pub other_fits : IsTrue (are_fit p race.other.place race.finder.place)
   pub apart : are_of_one_rank p race.found.place race.other.place ≡ false
+  pub untold : IsOpen p race
 
 -- What is decided of a program: no run of it gets stuck; the steps are a run of it that does; or neither, and two messages may
 -- race for a call.

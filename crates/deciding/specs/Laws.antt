@@ -5,8 +5,9 @@ use Rattle.callorder.specs.Programs.{MpiProgram, are_fit, are_of_one_rank}
 use Rattle.callorder.specs.Resolving.{IsTextOf, IsTextOfWithin}
 use Rattle.semantics.specs.declared.state.Step.{Step}
 use Rattle.semantics.specs.Headline.{IsNeverStuckWithin, IsStuckRunWithin}
-use Rattle.semantics.specs.Machine.{IsStuckRun}
-use Rattle.races.specs.Races.{NamesSources}
+use Rattle.semantics.specs.Machine.{Configuration, after_all, opening, IsFinishedRun, IsStuckRun}
+use Rattle.races.specs.Races.{BuffersNoneByChoice, NamesSources}
+use Rattle.races.specs.Tells.{Table, IsJustified, ShowsNoRace}
 use Rattle.deciding.specs.Decisions.{Decides}
 use Rattle.deciding.specs.declared.decision.Decision.TheVariants as decisions
 use Rattle.deciding.specs.declared.decision.Race.{Race}
@@ -24,6 +25,19 @@ HasLoneSenders p = (finder one other : ℕ) → IsTrue (are_fit p one finder) �
 abbrev pub LoneSendersAreDecided : Type 0
 LoneSendersAreDecided =
     (program : List ℕ) (race : Race) (p : MpiProgram) → Decides program (decisions.Race race) → IsTextOfWithin long program p → HasLoneSenders p → ⊥
+
+-- a table whose entries are all justified shows that no send races for a finder of this configuration
+pub record HasTable (p : MpiProgram) (e : Configuration) : Type 0 where
+  pub knows : Table
+  pub justified : IsJustified p e knows
+  pub shows : ShowsNoRace p e knows
+
+-- where there is such a table for the end of each run that finishes, and buffers a send only where the policy has each one buffered, it is
+-- never a race that is decided
+abbrev pub JustifiedRunsAreDecided : Type 0
+JustifiedRunsAreDecided =
+    (program : List ℕ) (race : Race) (p : MpiProgram) → Decides program (decisions.Race race) → IsTextOfWithin long program p
+    → ((run : List Step) → IsFinishedRun p run → BuffersNoneByChoice p run → HasTable p (after_all (opening p) run)) → ⊥
 
 -- what is decided of a text within the short limits is true of the program that it is within these
 pub record ShortTextsAreDecided : Type 0 where

@@ -2,9 +2,9 @@
 
 ghost use Rattle.std.specs.Prelude.{◌≡◌, ◌⊎◌, ℕ, IfNone, IfOk, IfSome, IsTrue, Some};
 ghost use Rattle.callorder.specs.Programs.{are_fit, call_at, takes};
-ghost use Rattle.clocks.specs.Clocks.{IsRival};
+ghost use Rattle.clocks.specs.Clocks.{IsRival, IsUnordered};
 ghost use Rattle.semantics.specs.Machine.{partner_of};
-ghost use Rattle.deciding.specs.Decisions.{IsCaller, IsDecision, IsRace};
+ghost use Rattle.deciding.specs.Decisions.{EndsLeast, IsCaller, IsDecision, IsRace};
 
 use callorder::LongProgram;
 use clocks::first_race;
@@ -58,6 +58,8 @@ fn caller_at(program: &LongProgram, place: usize) -> Option<Caller>
 /// The race, with the ranks of its calls and what its finder found in the run that ended so.
 fn named_race(program: &LongProgram, state: &State, race: clocks::Race) -> Race
     requires rival { IsRival program.now state.now race }
+    requires unordered { IsUnordered program.now state.now race }
+    requires ended { EndsLeast program.now state.now }
     requires fit { (c x : ℕ) → partner_of state.now c ≡ Some x → IsTrue (takes program.now c x) ⊎ IsTrue (are_fit program.now x c) }
     ensures { IsRace program.now result }
 {

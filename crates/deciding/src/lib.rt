@@ -11,6 +11,9 @@ mod schedule;
 mod texts;
 
 pub use decision::{Caller, Decision, Race, decide_program};
-pub use laws::{lone_senders_are_decided, named_sources_are_decided, short_texts_are_decided};
+pub use laws::{
+    justified_runs_are_decided, lone_senders_are_decided, named_sources_are_decided,
+    short_texts_are_decided,
+};
 pub use schedule::schedule_text;
 pub use texts::{Undecided, decide};

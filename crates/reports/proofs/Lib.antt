@@ -1,2 +1,3 @@
 pub mod Counted
 pub mod Shorter
+pub mod Drawn

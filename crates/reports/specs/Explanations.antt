@@ -1,11 +1,14 @@
 -- What the explanation of an answer says.
-use Rattle.std.specs.Prelude.{◌≡◌, ℕ, List, [], ◌++◌, codes, decimal, length, Bool, true, false}
+use Rattle.std.specs.Prelude.{◌≡◌, ℕ, List, [], ◌++◌, codes, decimal, length, nat_lt, Bool, true, false, if◌then◌else◌}
 use Rattle.std.specs.List.{filter}
 use Rattle.settings.specs.declared.form.Form.{Form}
 use Rattle.settings.specs.declared.form.Form.TheVariants as forms
-use Rattle.calltext.specs.Grammar.{IsText, ProgramText}
+use Rattle.calltext.specs.Grammar.{IsTextWithin, ProgramText}
+use Rattle.calltext.specs.Limits.{long, short}
+use Rattle.calltext.specs.declared.limits.Limits.{Limits}
 use Rattle.callorder.specs.Programs.{MpiProgram}
-use Rattle.callorder.specs.Resolving.{IsTextOf}
+use Rattle.callorder.specs.Resolving.{IsTextOf, IsTextOfWithin}
+use Rattle.semantics.specs.Machine.{IsStuckRun}
 use Rattle.semantics.specs.declared.state.Step.{Step}
 use Rattle.charts.specs.Chart.{chart_of}
 use Rattle.charts.specs.Picture.{picture_of}
@@ -15,7 +18,7 @@ use Rattle.prooflog.specs.Grammar.{IsEvidenceText}
 use Rattle.prooflog.specs.Refutations.{ClaimedRefutation}
 use Rattle.prooflog.specs.declared.evidence.Evidence.TheVariants.{Refutation}
 use Rattle.checker.specs.Verdicts.{IsReason, Refutes, Shows}
-use Rattle.reports.specs.Sizes.{choices, messages, open_sends}
+use Rattle.reports.specs.Sizes.{choices, messages, open_sends, wildcards}
 use Rattle.reports.specs.declared.explained.Explained.{Explained}
 use Rattle.reports.specs.declared.explained.Explained.TheVariants as told
 
@@ -85,10 +88,11 @@ size_lines m p =
     count_line m (codes "ranks") p.ranks ++
     (count_line m (codes "calls") (length p.calls) ++ count_line m (codes "messages") (messages p.calls))
 
+abbrev pub open_line : Marks → MpiProgram → List ℕ
+open_line m p = count_line m (codes "sends that may be buffered or not") (open_sends p.policy p.calls)
+
 abbrev pub choice_lines : Marks → MpiProgram → List ℕ
-choice_lines m p =
-    count_line m (codes "wildcards with a choice") (choices p.calls) ++
-    count_line m (codes "sends that may be buffered or not") (open_sends p.policy p.calls)
+choice_lines m p = count_line m (codes "wildcards with a choice") (choices p.calls) ++ open_line m p
 
 -- the lines on a refutation tell its numbers of variables, clauses, lines and leaves
 abbrev pub claim_lines : Marks → ClaimedRefutation → List ℕ
@@ -106,13 +110,37 @@ abbrev pub counts_text : Form → MpiProgram → ClaimedRefutation → List ℕ
 counts_text form = numbers_text (marks_of form)
 
 -- the text draws the run of these steps, as a chart or as a picture, where the form is one of these
+abbrev pub IsDrawnFrom : Form → List ℕ → ProgramText → MpiProgram → List Step → List ℕ → Type 0
+IsDrawnFrom forms.Chart program source p steps text = text ≡ chart_of program source p steps
+IsDrawnFrom forms.Picture program source p steps text = text ≡ picture_of program source p steps
+IsDrawnFrom forms.Brief program source p steps text = Unit {0}
+IsDrawnFrom forms.Whole program source p steps text = Unit {0}
+IsDrawnFrom forms.Graph program source p steps text = Unit {0}
+IsDrawnFrom forms.Object program source p steps text = Unit {0}
+
+-- so, of what the program's text says within limits
+abbrev pub IsDrawnWithin : Limits → Form → List ℕ → MpiProgram → List Step → List ℕ → Type 0
+IsDrawnWithin l form program p steps text = (source : ProgramText) × IsTextWithin l program source × IsDrawnFrom form program source p steps text
+
 abbrev pub IsDrawn : Form → List ℕ → MpiProgram → List Step → List ℕ → Type 0
-IsDrawn forms.Chart program p steps text = (source : ProgramText) × IsText program source × (text ≡ chart_of program source p steps)
-IsDrawn forms.Picture program p steps text = (source : ProgramText) × IsText program source × (text ≡ picture_of program source p steps)
-IsDrawn forms.Brief program p steps text = Unit {0}
-IsDrawn forms.Whole program p steps text = Unit {0}
-IsDrawn forms.Graph program p steps text = Unit {0}
-IsDrawn forms.Object program p steps text = Unit {0}
+IsDrawn = IsDrawnWithin short
+
+-- the steps are a run, that ends stuck, of the program of a text of any length, and the text draws it
+abbrev pub IsRunDrawn : Form → List ℕ → List Step → List ℕ → Type 0
+IsRunDrawn form program steps text = (p : MpiProgram) × IsTextOfWithin long program p × IsStuckRun p steps × IsDrawnWithin long form program p steps text
+
+-- The line on wildcards: of a program of at most 1,024 calls it tells how many have a choice, and of a larger one how many there are.
+abbrev pub wildcard_line : Marks → MpiProgram → List ℕ
+wildcard_line m p =
+    if nat_lt 1024 (length p.calls) then count_line m (codes "wildcards") (wildcards p.calls) else count_line m (codes "wildcards with a choice") (choices p.calls)
+
+-- the text on a program without a refutation tells its numbers
+abbrev pub sizes_text : Marks → MpiProgram → List ℕ
+sizes_text m p = m.begin ++ (size_lines m p ++ (wildcard_line m p ++ (open_line m p ++ m.foot)))
+
+-- the text tells the numbers of the program of a text of any length
+abbrev pub TellsSizes : Form → List ℕ → List ℕ → Type 0
+TellsSizes form program text = (p : MpiProgram) × IsTextOfWithin long program p × (text ≡ sizes_text (marks_of form) p)
 
 -- A text that tells sizes comes where the evidence refutes the program, and tells those of the program that the one text is of and of the
 -- refutation that the other is of; a text on a deadlock where the evidence shows one, whose run a chart and a picture draw; and a refusal has a

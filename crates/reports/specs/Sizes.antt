@@ -22,6 +22,10 @@ abbrev pub has_star : Option Pattern → Bool
 has_star None = false
 has_star (Some pattern) = is_none pattern.source || is_none pattern.tag
 
+-- how many of the calls have a star as their source or their tag
+abbrev pub wildcards : List Call → ℕ
+wildcards calls = length (filter (λ call. has_star (pattern_of call.kind)) calls)
+
 -- how many of the calls are sends that fit this one
 abbrev pub senders : List Call → Call → ℕ
 senders calls finder = length (filter (λ send. fits send finder) calls)

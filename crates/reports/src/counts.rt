@@ -1,15 +1,18 @@
 //! What is told of a program and its refutation.
 
 ghost use Rattle.std.specs.Prelude.{◌≡◌, ◌++◌, IfOk, OnOk};
-ghost use Rattle.reports.specs.Explanations.{choice_lines, claim_lines, count_line, counts_text, leaves, marks_of, numbers_text, size_lines};
+ghost use Rattle.reports.specs.Explanations.{choice_lines, claim_lines, count_line, counts_text, leaves, marks_of, numbers_text, open_line, size_lines, sizes_text, wildcard_line};
 ghost use Rattle.reports.specs.Numbers.{texts_of};
 
-use crate::sizes::{choices, messages, open_sends};
-use callorder::Program;
+use crate::sizes::{choices, messages, open_sends, wildcards};
+use callorder::{LongProgram, Program};
 use prooflog::Refutation;
 use refutations::Node;
 use settings::Form;
 use std::alloc::{AllocError, Global};
+
+/// The most calls of a program of which it is told how many wildcards have a choice.
+const FEW_CALLS: usize = 1_024;
 
 /// How many of the nodes are leaves.
 fn leaves(nodes: &[Node]) -> usize
@@ -90,7 +93,7 @@ fn put_sizes(
     alloc: Global,
     out: &mut Vec<u8>,
     marks: Marks,
-    program: &Program,
+    program: &LongProgram,
 ) -> Result<(), AllocError>
     ensures { OnOk result (out.new.items ≡ out.old.items ++ size_lines (texts_of marks) program.now) }
 {
@@ -112,6 +115,35 @@ fn put_choices(
 {
     let choices = choices(program.calls());
     put_count(alloc, out, marks, "wildcards with a choice", choices)?;
+    put_open(alloc, out, marks, program)
+}
+
+/// Adds the line on wildcards.
+fn put_wildcards(
+    alloc: Global,
+    out: &mut Vec<u8>,
+    marks: Marks,
+    program: &LongProgram,
+) -> Result<(), AllocError>
+    ensures { OnOk result (out.new.items ≡ out.old.items ++ wildcard_line (texts_of marks) program.now) }
+{
+    let calls = program.calls();
+    if calls.len() > FEW_CALLS {
+        put_count(alloc, out, marks, "wildcards", wildcards(calls))
+    } else {
+        put_count(alloc, out, marks, "wildcards with a choice", choices(calls))
+    }
+}
+
+/// Adds the line on the sends that the policy leaves open.
+fn put_open(
+    alloc: Global,
+    out: &mut Vec<u8>,
+    marks: Marks,
+    program: &LongProgram,
+) -> Result<(), AllocError>
+    ensures { OnOk result (out.new.items ≡ out.old.items ++ open_line (texts_of marks) program.now) }
+{
     let sends = open_sends(program.policy(), program.calls());
     put_count(
         alloc,
@@ -169,4 +201,25 @@ pub fn counts_text(
     ensures { IfOk result (λ text. text.items ≡ counts_text form program.now refutation.now) }
 {
     numbers_text(alloc, program, refutation, marks_of(form))
+}
+
+/// The text, with these marks, that tells the numbers of a program.
+fn marked_sizes(alloc: Global, program: &LongProgram, marks: Marks) -> Result<Vec<u8>, AllocError>
+    ensures { IfOk result (λ text. text.items ≡ sizes_text (texts_of marks) program.now) }
+{
+    let mut out = Vec::new(alloc);
+    out.extend_from_slice(marks.begin.as_bytes())?;
+    put_sizes(alloc, &mut out, marks, program)?;
+    put_wildcards(alloc, &mut out, marks, program)?;
+    put_open(alloc, &mut out, marks, program)?;
+    out.extend_from_slice(marks.foot.as_bytes())?;
+    Ok(out)
+}
+
+/// The text that tells the numbers of a program without a refutation, as `counts_text` tells those of one with it. How many wildcards
+/// have a choice is told of at most 1,024 calls; of more calls it is told how many wildcards there are.
+pub fn sizes_text(alloc: Global, program: &LongProgram, form: Form) -> Result<Vec<u8>, AllocError>
+    ensures { IfOk result (λ text. text.items ≡ sizes_text (marks_of form) program.now) }
+{
+    marked_sizes(alloc, program, marks_of(form))
 }

@@ -1,22 +1,17 @@
 //! The explanation of an answer.
 
 ghost use Rattle.std.specs.Prelude.{◌<◌, ◌≡◌, ◌≤◌, IfOk};
-ghost use Rattle.charts.specs.Chart.{chart_of};
-ghost use Rattle.charts.specs.Picture.{picture_of};
 ghost use Rattle.semantics.specs.Machine.{IsStuckRun};
 ghost use Rattle.checker.specs.Verdicts.{AreRefuted, Shows};
 ghost use Rattle.reports.specs.Explanations.{Explains, IsDrawn};
 
 use crate::counts::counts_text;
+use crate::telling::{decided_text, run_text};
 use callorder::Program;
-use calltext::{Source, read};
-use charts::{chart, picture};
+use calltext::read;
 use checker::{PieceGate, Reason, Refuted, Verdict, program_of, refuted_in, stuck_run_of};
-use choices::{Limits, decide, told};
-use explain::{explanation, wait_graph};
-use objects::object_text;
 use semantics::Step;
-use settings::{Form, Options};
+use settings::Form;
 use std::alloc::{AllocError, Global};
 use std::sync::Wait;
 use std::thread::Threads;
@@ -30,80 +25,6 @@ pub enum Explained {
     Deadlock(Vec<u8>),
     /// Neither is shown, for the reason that a verdict has.
     Refused(Reason),
-}
-
-/// How much is asked about what decided a run.
-fn limits() -> Limits {
-    Limits {
-        walks: 4_000,
-        ways: 64,
-        search: Options::make(1, 0, 2_000).unwrap_or(Options::default()),
-    }
-}
-
-/// The text on what decided the run that an evidence shows.
-fn decided_text<R: Threads + Wait + Sync>(
-    rt: &R,
-    alloc: Global,
-    program: &[u8],
-    evidence: &[u8],
-) -> Result<String, AllocError> {
-    // The evidence shows a run, so want of memory alone can be met.
-    let Ok(decided) = decide(rt, alloc, program, evidence, limits()) else {
-        return Err(AllocError);
-    };
-    told(alloc, program, &decided)
-}
-
-/// The text, in a form that isn't drawn, on a run of the program of this text that ends stuck.
-fn told_text(
-    alloc: Global,
-    text: &[u8],
-    source: &Source,
-    program: &Program,
-    steps: &[Step],
-    decided: &str,
-    form: Form,
-) -> Result<Vec<u8>, AllocError>
-    requires { IsStuckRun program.now steps.now }
-{
-    match form {
-        Form::Object => object_text(alloc, text, source, program, steps, decided),
-        _ => {
-            let whole = form == Form::Whole;
-            explanation(alloc, text, source, program, steps, decided, whole)
-        }
-    }
-}
-
-/// The chart of a run.
-fn chart_text(
-    alloc: Global,
-    text: &[u8],
-    source: &Source,
-    program: &Program,
-    steps: &[Step],
-) -> Result<Vec<u8>, AllocError>
-    requires { IsStuckRun program.now steps.now }
-    ensures { IfOk result (λ told. told.items ≡ chart_of text.now source.now program.now steps.now) }
-{
-    let told = chart(alloc, text, source, program, steps)?;
-    Ok(told)
-}
-
-/// The picture of a run.
-fn picture_text(
-    alloc: Global,
-    text: &[u8],
-    source: &Source,
-    program: &Program,
-    steps: &[Step],
-) -> Result<Vec<u8>, AllocError>
-    requires { IsStuckRun program.now steps.now }
-    ensures { IfOk result (λ told. told.items ≡ picture_of text.now source.now program.now steps.now) }
-{
-    let told = picture(alloc, text, source, program, steps)?;
-    Ok(told)
 }
 
 /// The text, in this form, on the run of the program of this text that the evidence shows.
@@ -123,15 +44,8 @@ fn deadlock_text<R: Threads + Wait + Sync>(
     let Ok(source) = read(alloc, text) else {
         return Err(AllocError);
     };
-    match form {
-        Form::Graph => wait_graph(alloc, text, &source, program, steps),
-        Form::Chart => chart_text(alloc, text, &source, program, steps),
-        Form::Picture => picture_text(alloc, text, &source, program, steps),
-        Form::Brief | Form::Whole | Form::Object => {
-            let decided = decided_text(rt, alloc, text, evidence)?;
-            told_text(alloc, text, &source, program, steps, &decided, form)
-        }
-    }
+    let decided = decided_text(rt, alloc, text, evidence, form)?;
+    run_text(alloc, text, &source, program, steps, &decided, form)
 }
 
 /// The text on the schedule of an evidence that shows a stuck run of a program.

@@ -1,14 +1,17 @@
 //! From the texts of a program and an evidence to the text that people read, and to the proof that other checkers read; and from an
-//! evidence's text to that of the evidence without lines that aren't needed.
+//! evidence's text to that of the evidence without lines that aren't needed. What one run decides of a text of any length is told likewise.
 #![tactic(auto)]
 
 mod counts;
+mod decided;
 mod explained;
 mod exported;
 mod laws;
 mod sizes;
+mod telling;
 mod trimmed;
 
+pub use decided::{explain_run, explain_sizes};
 pub use explained::{Explained, explain_evidence};
 pub use exported::export_evidence;
 pub use laws::shortened_refute;

@@ -2,7 +2,7 @@
 
 ghost use Rattle.std.specs.Prelude.{◌≡◌};
 ghost use Rattle.callorder.specs.Calls.{pattern_of};
-ghost use Rattle.reports.specs.Sizes.{choices, has_choice, has_star, is_message, is_standard, messages, open_sends, senders, standard_sends};
+ghost use Rattle.reports.specs.Sizes.{choices, has_choice, has_star, is_message, is_standard, messages, open_sends, senders, standard_sends, wildcards};
 
 use callorder::{Call, Kind, Mode, Pattern, Policy, is_fit};
 
@@ -28,6 +28,16 @@ fn has_star(pattern: Option<Pattern>) -> bool
         None => false,
         Some(pattern) => pattern.source.is_none() || pattern.tag.is_none(),
     }
+}
+
+/// How many of the calls have a star as their source or their tag.
+pub fn wildcards(calls: &[Call]) -> usize
+    ensures { result ≡ wildcards calls.now }
+{
+    calls
+        .iter()
+        .filter(|call| has_star(call.kind.pattern()))
+        .count()
 }
 
 /// How many of the calls are sends that fit this receive, matched probe or probe.

@@ -40,11 +40,11 @@ const HUB_PROGRAMS: u64 = 300;
 const MOST_POSITIONS: usize = 300_000;
 
 /// How many programs of each family are drawn to be decided by one run.
-const DECIDED_PROGRAMS: u64 = 1_000;
+const DECIDED_PROGRAMS: u64 = 5_000;
 
-const DECIDED_PROBING_PROGRAMS: u64 = 500;
+const DECIDED_PROBING_PROGRAMS: u64 = 2_500;
 
-const DECIDED_HUB_PROGRAMS: u64 = 500;
+const DECIDED_HUB_PROGRAMS: u64 = 2_500;
 
 /// Lets the worker go on at once.
 struct Open;

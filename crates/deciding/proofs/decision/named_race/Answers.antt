@@ -14,4 +14,4 @@ unreachable-requires-in_default-caller_at c =
 pub returns : goal.returns
 returns c =
     race_of c.args.program.now c.args.state.now c.args.race c.in-Some-partner.send c.in-Some.finder c.in-Some-caller_at.found c.in-Some-caller_at-2.other
-    c.requires.rival c.requires.fit (sym c.in-Some-partner.ensures) c.in-Some.ensures.some c.in-Some-caller_at.ensures.some c.in-Some-caller_at-2.ensures.some
+    c.requires.rival c.requires.unordered c.requires.ended c.requires.fit (sym c.in-Some-partner.ensures) c.in-Some.ensures.some c.in-Some-caller_at.ensures.some c.in-Some-caller_at-2.ensures.some

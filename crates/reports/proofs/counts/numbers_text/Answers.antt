@@ -1,4 +1,5 @@
 use Rattle.std.proofs.Common.{◌∙◌, ap, ℕ, List, ◌++◌}
+use Rattle.callorder.specs.Programs.{MpiProgram}
 use Rattle.reports.specs.Explanations.{choice_lines, claim_lines, size_lines}
 use Rattle.reports.specs.Numbers.{texts_of}
 use Rattle.reports.proofs.Counted.{counted}
@@ -16,5 +17,5 @@ returns c =
     o0 o1 c.put_sizes.new.out.items c.put_choices.new.out.items o4 c.extend_from_slice-2.new.self.items
     c.new-out.ensures.items
     (c.in_ok-extend_from_slice.ensures.items ∙ ap (λ (l : List ℕ). o0 ++ l) c.as_bytes.ensures.value)
-    c.in_ok-put_sizes.ensures c.in_ok-put_choices.ensures c.in_ok-put_claim.ensures
+    (c.in_ok-put_sizes.ensures ∙ ap (λ (q : MpiProgram). o1 ++ size_lines m q) c.deref.ensures) c.in_ok-put_choices.ensures c.in_ok-put_claim.ensures
     (c.in_ok-extend_from_slice-2.ensures.items ∙ ap (λ (l : List ℕ). o4 ++ l) c.as_bytes-2.ensures.value)

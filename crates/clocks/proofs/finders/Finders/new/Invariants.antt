@@ -1,0 +1,6 @@
+use Rattle.clocks.specs.Clocks.{block_of}
+use Rattle.clocks.specs.Finders.{AreListedUpTo}
+use Rattle.clocks.proofs.finders.Finders.new.Given as goal
+
+abbrev pub invariant-loop-call : goal.invariant-loop-call
+invariant-loop-call l = AreListedUpTo l.program (block_of l.names) l.call l.listed.items l.before.items

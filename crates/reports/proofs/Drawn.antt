@@ -1,0 +1,29 @@
+-- What is drawn of what was read is drawn of what the text says.
+use Rattle.std.proofs.Common.{◌≡◌, IfOk, List, ℕ, Result, Ok, Err}
+use Rattle.std.specs.Global.{Vec}
+use Rattle.std.specs.declared.alloc.AllocError.{AllocError}
+use Rattle.calltext.specs.Grammar.{IsTextWithin, ProgramText}
+use Rattle.calltext.specs.Limits.{long}
+use Rattle.calltext.specs.declared.limits.Limits.{Limits}
+use Rattle.callorder.specs.Programs.{MpiProgram}
+use Rattle.callorder.specs.Resolving.{IsTextOfWithin}
+use Rattle.semantics.specs.Machine.{IsStuckRun}
+use Rattle.semantics.specs.declared.state.Step.{Step}
+use Rattle.settings.specs.declared.form.Form.{Form}
+use Rattle.reports.specs.Explanations.{IsDrawnFrom, IsDrawnWithin, IsRunDrawn, TellsSizes, marks_of, sizes_text}
+
+pub drawn : (r : Result (Vec ℕ) AllocError) (l : Limits) (form : Form) (text : List ℕ) (source : ProgramText) (p : MpiProgram) (steps : List Step) → IsTextWithin l text source
+    → IfOk r (λ told. IsDrawnFrom form text source p steps told.items) → IfOk r (λ told. IsDrawnWithin l form text p steps told.items)
+drawn (Ok told) l form text source p steps is told_is = (source, is, told_is)
+drawn (Err e) l form text source p steps is told_is = told_is
+
+pub run_drawn : (r : Result (Vec ℕ) AllocError) (form : Form) (text : List ℕ) (source : ProgramText) (p : MpiProgram) (steps : List Step) → IsTextOfWithin long text p
+    → IsStuckRun p steps → IsTextWithin long text source → IfOk r (λ told. IsDrawnFrom form text source p steps told.items)
+    → IfOk r (λ told. IsRunDrawn form text steps told.items)
+run_drawn (Ok told) form text source p steps of stuck is told_is = (p, of, stuck, (source, is, told_is))
+run_drawn (Err e) form text source p steps of stuck is told_is = told_is
+
+pub sizes_told : (r : Result (Vec ℕ) AllocError) (form : Form) (text : List ℕ) (p : MpiProgram) → IsTextOfWithin long text p
+    → IfOk r (λ told. told.items ≡ sizes_text (marks_of form) p) → IfOk r (λ told. TellsSizes form text told.items)
+sizes_told (Ok told) form text p of is = (p, of, is)
+sizes_told (Err e) form text p of is = is
