@@ -40,6 +40,7 @@ struct call {
 
 struct site {
     char *object, *function, *place;  /* the place in a source, or NULL */
+    const char *shown;                /* the part of it that maps tell: without its folder where one file alone has that name */
     unsigned long offset;
 };
 
@@ -143,6 +144,8 @@ void read_recordings(const char *directory);
 void find_places(void);
 const char *place_of(const struct rank *rank, const struct call *call);
 void put_place(FILE *file, const struct rank *rank, const struct call *call);
+void put_callers(FILE *file, const struct rank *rank, const struct call *call);
+void put_files(FILE *file);
 
 /* refusals.c, starts.c */
 void look_for_refusals(void);

@@ -84,6 +84,7 @@ static void put_map_line(FILE *map, const struct text *text, int rank, const str
     if (!call->instance && !line->comm && line->word != W_WAIT && line->word != W_MRECV && line->word != W_IMRECV)
         fprintf(map, "; tag %d of %s in the program", line->word == W_RECV && call->op == OP_SENDRECV ? call->tag2 : call->tag, ranks[rank].comms[call->comm].name);
     if (line->remark) fprintf(map, "; %s", line->remark);
+    put_callers(map, ranks + rank, call);
     fprintf(map, "\n");
 }
 
@@ -184,6 +185,7 @@ static void put_map_head(FILE *map, const char *name) {
     fprintf(map, "text %s.mpi: %d ranks, recorded under %s, collectives with %s\n", name, rank_count, library,
             options.most ? "the most waiting that MPI allows: each is a barrier" : "the least waiting that MPI guarantees");
     for (int i = 0; i < note_count; i++) fprintf(map, "note: %s\n", notes[i]);
+    put_files(map);
 }
 
 /* The tags of collectives are counted anew in each text. */

@@ -183,10 +183,10 @@ explain_last_walk p workers depth budget fp fw fd fb =
 
 explain_last_read : (p workers depth budget : Text) → begins_with_hyphen workers ≡ false → begins_with_hyphen depth ≡ false → begins_with_hyphen budget ≡ false
     → read (codes "explain") (finished explain_rules (explain_last p workers depth budget).held)
-    ≡ to_explain p None (number_of workers) (number_of depth) (number_of budget) Graph
+    ≡ to_explain p None (number_of workers) (number_of depth) (number_of budget) Graph None
 unfolding clap_on_literals
 explain_last_read p workers depth budget fw fd fb =
-    λ i. to_explain p None (number_of (bare workers fw i)) (number_of (bare depth fd i)) (number_of (bare budget fb i)) Graph
+    λ i. to_explain p None (number_of (bare workers fw i)) (number_of (bare depth fd i)) (number_of (bare budget fb i)) Graph None
 
 pub option_words_are_read : OptionWordsAreRead
 option_words_are_read = record {
@@ -209,6 +209,6 @@ option_words_are_read = record {
       (made_prove name (p ∷ option_words file workers depth budget []) task asks.named) (last_read p file workers depth budget fw fd fb);
   explain_options_last = λ name p workers depth budget task fp fw fd fb asks.
       read_by (codes "explain") explain_rules (explain_words p workers depth budget) (explain_last p workers depth budget) task
-      (to_explain p None (number_of workers) (number_of depth) (number_of budget) Graph) (explain_last_walk p workers depth budget fp fw fd fb)
+      (to_explain p None (number_of workers) (number_of depth) (number_of budget) Graph None) (explain_last_walk p workers depth budget fp fw fd fb)
       (made_explain name (explain_words p workers depth budget) task asks.named) (explain_last_read p workers depth budget fw fd fb);
 }

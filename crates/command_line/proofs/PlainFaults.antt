@@ -16,7 +16,7 @@ use Rattle.command_line.specs.CommandLine.{command_line}
 use Rattle.command_line.specs.UsualWords.{PlainWordsAreFaultless, SpellsPieces, begins_with_hyphen, form_words}
 use Rattle.command_line.proofs.OptionWords.{pieces_last, pieces_walk}
 use Rattle.command_line.proofs.PieceWords.{pieces_are_free, pieces_pass}
-use Rattle.command_line.proofs.PlainWords.{after_free, check_rules, check_walk, decide_out, decide_out_walk, decide_rules, decide_walk, decide_word, encode_rules, encode_walk, encode_word, explain_alone_walk, explain_rules, explain_walk, explain_word, export_out, export_out_walk, export_rules, export_walk, free_met, no_dashes, no_long, no_short, out_walk, prove_out, prove_rules, prove_walk, prove_word, replay_rules, replay_walk, shrink_out, shrink_out_walk, shrink_rules, shrink_walk, shrink_word, start, trim_out, trim_out_walk, trim_rules, trim_walk, trim_word, two_words, walked_free}
+use Rattle.command_line.proofs.PlainWords.{after_free, check_rules, check_walk, decide_out, decide_out_walk, decide_rules, decide_walk, decide_word, encode_rules, encode_walk, encode_word, explain_alone_walk, explain_mapped, explain_mapped_walk, explain_rules, explain_walk, explain_word, export_out, export_out_walk, export_rules, export_walk, free_met, no_dashes, no_long, no_short, out_walk, prove_out, prove_rules, prove_walk, prove_word, replay_rules, replay_walk, shrink_out, shrink_out_walk, shrink_rules, shrink_walk, shrink_word, start, trim_out, trim_out_walk, trim_rules, trim_walk, trim_word, two_words, walked_free}
 
 -- ---- one free word
 
@@ -296,6 +296,20 @@ explain_alone_leaf p Chart fp = explain_alone_flag_leaf p (codes "--chart") fp r
 explain_alone_leaf p Picture fp = explain_alone_flag_leaf p (codes "--svg") fp refl refl
 explain_alone_leaf p Object fp = explain_alone_flag_leaf p (codes "--json") fp refl refl
 
+explain_mapped_leaf : (p file : Text) → begins_with_hyphen p ≡ false → begins_with_hyphen file ≡ false
+    → leaf_fault explain_shape (p ∷ codes "--map" ∷ file ∷ []) ≡ []
+unfolding clap_on_literals
+explain_mapped_leaf p file fp ff =
+    let second : turn_fault explain_shape [] (walked explain_rules [] start p) (codes "--map") ≡ [] =
+    ap (λ (w : Walk). turn_fault explain_shape [] w (codes "--map")) (explain_alone_walk p fp) in
+    let third : turn_fault explain_shape [] (walked explain_rules [] (walked explain_rules [] start p) (codes "--map")) file ≡ [] =
+    ap (λ (w : Walk). turn_fault explain_shape [] (walked explain_rules [] w (codes "--map")) file) (explain_alone_walk p fp)
+    ∙ turn_at_rest explain_shape (walked explain_rules [] (explain_word p) (codes "--map")) file ff in
+    let turns : walk_fault explain_shape [] start (p ∷ codes "--map" ∷ file ∷ []) ≡ [] =
+    ap₂ (λ (a b : Kinds). or_else a b) (explain_first p fp)
+    (ap₂ (λ (a b : Kinds). or_else a (or_else b [])) second third) in
+    leaf_by_walk explain_shape (p ∷ codes "--map" ∷ file ∷ []) (explain_mapped p file) turns (explain_mapped_walk p file fp ff)
+
 replay_lines_leaf : (p e : Text) → begins_with_hyphen p ≡ false → begins_with_hyphen e ≡ false
     → leaf_fault replay_shape (p ∷ e ∷ codes "--lines" ∷ []) ≡ []
 unfolding clap_on_literals
@@ -485,6 +499,11 @@ explain_alone_faultless name p Chart fp = ap (whole_fault (codes "explain" ∷ p
 explain_alone_faultless name p Picture fp = ap (whole_fault (codes "explain" ∷ p ∷ codes "--svg" ∷ [])) (explain_alone_leaf p Picture fp)
 explain_alone_faultless name p Object fp = ap (whole_fault (codes "explain" ∷ p ∷ codes "--json" ∷ [])) (explain_alone_leaf p Object fp)
 
+pub explain_mapped_faultless : (name p file : Text) → begins_with_hyphen p ≡ false → begins_with_hyphen file ≡ false
+    → fault_of command_line (name ∷ codes "explain" ∷ p ∷ codes "--map" ∷ file ∷ []) ≡ []
+unfolding clap_on_literals
+explain_mapped_faultless name p file fp ff = ap (whole_fault (codes "explain" ∷ p ∷ codes "--map" ∷ file ∷ [])) (explain_mapped_leaf p file fp ff)
+
 pub replay_lines_faultless : (name p e : Text) → begins_with_hyphen p ≡ false → begins_with_hyphen e ≡ false
     → fault_of command_line (name ∷ codes "replay" ∷ p ∷ e ∷ codes "--lines" ∷ []) ≡ []
 unfolding clap_on_literals
@@ -554,6 +573,7 @@ plain_words_are_faultless = record {
   trim_as_json = trim_json_faultless;
   explain = explain_faultless;
   explain_alone = explain_alone_faultless;
+  explain_mapped = explain_mapped_faultless;
   replay_lines = replay_lines_faultless;
   shrink = shrink_faultless;
   shrink_out = shrink_out_faultless;

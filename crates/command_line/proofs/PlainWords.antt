@@ -214,6 +214,17 @@ decide_out_walk program file p f =
     ∙ walked_free decide_rules (walked decide_rules [] (decide_word program) (codes "--out")) file
     refl refl f
 
+-- the walk after `--map` and a file's name
+abbrev pub explain_mapped : Text → Text → Walk
+explain_mapped program file = after_free explain_rules (walked explain_rules [] (explain_word program) (codes "--map")) file
+
+pub explain_mapped_walk : (program file : Text) → begins_with_hyphen program ≡ false → begins_with_hyphen file ≡ false
+    → fold (walked explain_rules []) start (program ∷ codes "--map" ∷ file ∷ []) ≡ explain_mapped program file
+unfolding clap_on_literals
+explain_mapped_walk program file p f =
+    ap (λ (w : Walk). walked explain_rules [] (walked explain_rules [] w (codes "--map")) file) (explain_alone_walk program p)
+    ∙ walked_free explain_rules (walked explain_rules [] (explain_word program) (codes "--map")) file refl refl f
+
 -- the walk after the words of a form
 abbrev pub in_form : Walk → Form → Walk
 in_form w form = fold (walked explain_rules []) w (form_words form)
@@ -261,7 +272,7 @@ of_encode_dimacs : (p : Text) → read (codes "encode") (finished encode_rules (
 unfolding clap_on_literals
 of_encode_dimacs p = refl
 
-of_explain : (p e : Text) (form : Form) → read (codes "explain") (finished explain_rules (in_form (two_words explain_rules p e) form).held) ≡ to_explain p (Some e) 4 4 1000000 form
+of_explain : (p e : Text) (form : Form) → read (codes "explain") (finished explain_rules (in_form (two_words explain_rules p e) form).held) ≡ to_explain p (Some e) 4 4 1000000 form None
 unfolding clap_on_literals
 of_explain p e Brief = refl
 of_explain p e Whole = refl
@@ -270,7 +281,7 @@ of_explain p e Chart = refl
 of_explain p e Picture = refl
 of_explain p e Object = refl
 
-of_explain_alone : (p : Text) (form : Form) → read (codes "explain") (finished explain_rules (in_form (explain_word p) form).held) ≡ to_explain p None 4 4 1000000 form
+of_explain_alone : (p : Text) (form : Form) → read (codes "explain") (finished explain_rules (in_form (explain_word p) form).held) ≡ to_explain p None 4 4 1000000 form None
 unfolding clap_on_literals
 of_explain_alone p Brief = refl
 of_explain_alone p Whole = refl
@@ -288,22 +299,26 @@ unfolding clap_on_literals
 of_shrink_out p file = refl
 
 of_decide : (p : Text)
-    → read (codes "decide") (finished decide_rules (decide_word p).held) ≡ to_decide p None false
+    → read (codes "decide") (finished decide_rules (decide_word p).held) ≡ to_decide p None false false
 unfolding clap_on_literals
 of_decide p = refl
 
 of_decide_json : (p : Text)
     → read (codes "decide")
     (finished decide_rules (walked decide_rules [] (decide_word p) (codes "--json")).held)
-    ≡ to_decide p None true
+    ≡ to_decide p None false true
 unfolding clap_on_literals
 of_decide_json p = refl
 
 of_decide_out : (p file : Text)
     → read (codes "decide") (finished decide_rules (decide_out p file).held)
-    ≡ to_decide p (Some file) false
+    ≡ to_decide p (Some file) false false
 unfolding clap_on_literals
 of_decide_out p file = refl
+
+of_explain_mapped : (p file : Text) → read (codes "explain") (finished explain_rules (explain_mapped p file).held) ≡ to_explain p None 4 4 1000000 Brief (Some file)
+unfolding clap_on_literals
+of_explain_mapped p file = refl
 
 of_export : (p e file : Text) → read (codes "export") (finished export_rules (export_out p e file).held) ≡ to_export p e file
 unfolding clap_on_literals
@@ -401,10 +416,13 @@ plain_words_are_read = record {
       read_by (codes "encode") encode_rules (p ∷ codes "--dimacs" ∷ []) (walked encode_rules [] (encode_word p) (codes "--dimacs")) task (to_encode p true) (ap (λ (w : Walk). walked encode_rules [] w (codes "--dimacs")) (encode_walk p fp))
       (made_encode name (p ∷ codes "--dimacs" ∷ []) task asks.named) (of_encode_dimacs p);
   explain = λ name p e form task fp fe asks.
-      read_by (codes "explain") explain_rules (p ∷ e ∷ form_words form) (in_form (two_words explain_rules p e) form) task (to_explain p (Some e) 4 4 1000000 form) (ap (λ (w : Walk). in_form w form) (explain_walk p e fp fe))
+      read_by (codes "explain") explain_rules (p ∷ e ∷ form_words form) (in_form (two_words explain_rules p e) form) task (to_explain p (Some e) 4 4 1000000 form None) (ap (λ (w : Walk). in_form w form) (explain_walk p e fp fe))
       (made_explain name (p ∷ e ∷ form_words form) task asks.named) (of_explain p e form);
+  explain_mapped = λ name p file task fp ff asks.
+      read_by (codes "explain") explain_rules (p ∷ codes "--map" ∷ file ∷ []) (explain_mapped p file) task (to_explain p None 4 4 1000000 Brief (Some file))
+      (explain_mapped_walk p file fp ff) (made_explain name (p ∷ codes "--map" ∷ file ∷ []) task asks.named) (of_explain_mapped p file);
   explain_alone = λ name p form task fp asks.
-      read_by (codes "explain") explain_rules (p ∷ form_words form) (in_form (explain_word p) form) task (to_explain p None 4 4 1000000 form) (ap (λ (w : Walk). in_form w form) (explain_alone_walk p fp))
+      read_by (codes "explain") explain_rules (p ∷ form_words form) (in_form (explain_word p) form) task (to_explain p None 4 4 1000000 form None) (ap (λ (w : Walk). in_form w form) (explain_alone_walk p fp))
       (made_explain name (p ∷ form_words form) task asks.named) (of_explain_alone p form);
   shrink = λ name p task fp asks.
       read_by (codes "shrink") shrink_rules (p ∷ []) (shrink_word p) task (to_shrink p None) (shrink_walk p fp)
@@ -413,18 +431,18 @@ plain_words_are_read = record {
       read_by (codes "shrink") shrink_rules (p ∷ codes "--out" ∷ file ∷ []) (shrink_out p file) task (to_shrink p (Some file)) (shrink_out_walk p file fp ff)
       (made_shrink name (p ∷ codes "--out" ∷ file ∷ []) task asks.named) (of_shrink_out p file);
   decide = λ name p task fp asks.
-      read_by (codes "decide") decide_rules (p ∷ []) (decide_word p) task (to_decide p None false)
+      read_by (codes "decide") decide_rules (p ∷ []) (decide_word p) task (to_decide p None false false)
       (decide_walk p fp)
       (made_decide name (p ∷ []) task asks.named) (of_decide p);
   decide_as_json = λ name p task fp asks.
       read_by (codes "decide") decide_rules (p ∷ codes "--json" ∷ [])
       (walked decide_rules [] (decide_word p) (codes "--json")) task
-      (to_decide p None true)
+      (to_decide p None false true)
       (ap (λ (w : Walk). walked decide_rules [] w (codes "--json")) (decide_walk p fp))
       (made_decide name (p ∷ codes "--json" ∷ []) task asks.named) (of_decide_json p);
   decide_out = λ name p file task fp ff asks.
       read_by (codes "decide") decide_rules (p ∷ codes "--out" ∷ file ∷ []) (decide_out p file) task
-      (to_decide p (Some file) false)
+      (to_decide p (Some file) false false)
       (decide_out_walk p file fp ff)
       (made_decide name (p ∷ codes "--out" ∷ file ∷ []) task asks.named) (of_decide_out p file);
   export = λ name p e file task fp fe ffile asks.

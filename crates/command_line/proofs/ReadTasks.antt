@@ -29,14 +29,14 @@ read name rows =
     then to_encode (text_in (first_of (codes "PROGRAM") rows)) (is_true (one_of (codes "dimacs") rows))
     else (if bytes_eq name (codes "explain")
     then to_explain (text_in (first_of (codes "PROGRAM") rows)) (first_of (codes "EVIDENCE") rows) (number_in (one_of (codes "workers") rows))
-    (number_in (one_of (codes "depth") rows)) (number_in (one_of (codes "budget") rows)) (form_in rows)
+    (number_in (one_of (codes "depth") rows)) (number_in (one_of (codes "budget") rows)) (form_in rows) (first_of (codes "map") rows)
     else (if bytes_eq name (codes "export")
     then to_export (text_in (first_of (codes "PROGRAM") rows)) (text_in (first_of (codes "EVIDENCE") rows)) (text_in (first_of (codes "out") rows))
     else (if bytes_eq name (codes "trim")
     then to_trim (text_in (first_of (codes "EVIDENCE") rows)) (text_in (first_of (codes "out") rows)) (is_true (one_of (codes "json") rows))
     else (if bytes_eq name (codes "shrink")
     then to_shrink (text_in (first_of (codes "PROGRAM") rows)) (first_of (codes "out") rows)
-    else to_decide (text_in (first_of (codes "PROGRAM") rows)) (first_of (codes "out") rows)
+    else to_decide (text_in (first_of (codes "PROGRAM") rows)) (first_of (codes "out") rows) (is_true (one_of (codes "progress") rows))
     (is_true (one_of (codes "json") rows)))))))))
 
 given : (o : Option Text) (text : Text) → o ≡ Some text → text ≡ text_in o
@@ -62,10 +62,10 @@ is_read name rows (to_replay p e lines) makes =
 is_read name rows (to_encode p dimacs) makes =
     let v = makes.values in
     (λ i. to_encode (given _ p v.0 i) (v.1 i)) ∙ ap (λ (n : Text). read n rows) (sym makes.command)
-is_read name rows (to_explain p e w d b form) makes =
+is_read name rows (to_explain p e w d b form map) makes =
     let v = makes.values in
     (λ i. to_explain (given _ p v.0 i) (sym v.1 i) (spelled rows (codes "workers") w v.2 i) (spelled rows (codes "depth") d v.3 i)
-    (spelled rows (codes "budget") b v.4 i) (v.5 i)) ∙ ap (λ (n : Text). read n rows) (sym makes.command)
+    (spelled rows (codes "budget") b v.4 i) (v.5 i) (sym v.6 i)) ∙ ap (λ (n : Text). read n rows) (sym makes.command)
 is_read name rows (to_export p e out) makes =
     let v = makes.values in
     (λ i. to_export (given _ p v.0 i) (given _ e v.1 i) (given _ out v.2 i)) ∙ ap (λ (n : Text). read n rows) (sym makes.command)
@@ -75,9 +75,9 @@ is_read name rows (to_trim e out json) makes =
 is_read name rows (to_shrink p out) makes =
     let v = makes.values in
     (λ i. to_shrink (given _ p v.0 i) (sym v.1 i)) ∙ ap (λ (n : Text). read n rows) (sym makes.command)
-is_read name rows (to_decide p out json) makes =
+is_read name rows (to_decide p out progress json) makes =
     let v = makes.values in
-    (λ i. to_decide (given _ p v.0 i) (sym v.1 i) (v.2 i))
+    (λ i. to_decide (given _ p v.0 i) (sym v.1 i) (v.2 i) (v.3 i))
     ∙ ap (λ (n : Text). read n rows) (sym makes.command)
 
 same : (found : Option (Text × List Row)) (one other : Task) → MakesSome found one → MakesSome found other → one ≡ other

@@ -58,10 +58,15 @@ check_app =
 abbrev pub optional_evidence_rule : Rule
 optional_evidence_rule = record evidence_rule { required = false }
 
+-- `--map FILE`
+abbrev pub map_rule : Rule
+map_rule = record (option_rule (codes "map")) { value_names = 1 }
+
 -- the command `explain`
 abbrev pub explain_app : App
 explain_app =
     with_rule
+    (with_rule
     (with_rule
     (with_rule
     (with_rule
@@ -79,7 +84,8 @@ explain_app =
     (flag_rule (codes "dot")))
     (flag_rule (codes "chart")))
     (flag_rule (codes "svg")))
-    json_rule
+    json_rule)
+    map_rule
 
 -- the command `encode`
 abbrev pub encode_app : App
@@ -104,7 +110,13 @@ shrink_app = with_rule (with_rule (new_app (codes "shrink")) program_rule) out_r
 -- the command `decide`
 abbrev pub decide_app : App
 decide_app =
-    with_rule (with_rule (with_rule (new_app (codes "decide")) program_rule) out_rule) json_rule
+    with_rule
+    (with_rule
+    (with_rule
+    (with_rule (new_app (codes "decide")) program_rule)
+    out_rule)
+    (flag_rule (codes "progress")))
+    json_rule
 
 -- the command `prove`
 abbrev pub prove_app : App

@@ -12,20 +12,21 @@ use Rattle.command_line.specs.declared.request.Request.TheVariants as ask
 -- What may be asked for: to prove a program, with the file for the evidence, where one is named, the numbers of workers, the depth and the
 -- budget, whether the progress is told, and whether the answer is a JSON object; to check a program by an evidence, in so many pieces, with
 -- the answer as a JSON object or not; to replay an evidence on a program, with lines of the text or not; to encode a program, in the DIMACS format or not; to explain what an
--- evidence, or where none is named the answer to a search with these numbers, shows of a program, in a form; to export the proof that an
+-- evidence, or where none is named one run, or the answer to a search with these numbers, shows of a program, in a form, with the places that the file
+-- of a map, where one is named, has for lines; to export the proof that an
 -- evidence makes of a program, to a file; to trim an evidence, to a file, with the answer as a JSON object
 -- or not; to make a program smaller, to a file, where one is named; and to decide a program of any length by one
--- run, with the file for the schedule of a deadlock, where one is named, and with the answer as a JSON object or not.
+-- run, with the file for the schedule of a deadlock, where one is named, whether the progress is told, and whether the answer is a JSON object.
 pub data Task : Type 0 where
   to_prove : Text → Option Text → ℕ → ℕ → ℕ → Bool → Bool → Task
   to_check : Text → Text → ℕ → Bool → Task
   to_replay : Text → Text → Bool → Task
   to_encode : Text → Bool → Task
-  to_explain : Text → Option Text → ℕ → ℕ → ℕ → Form → Task
+  to_explain : Text → Option Text → ℕ → ℕ → ℕ → Form → Option Text → Task
   to_export : Text → Text → Text → Task
   to_trim : Text → Text → Bool → Task
   to_shrink : Text → Option Text → Task
-  to_decide : Text → Option Text → Bool → Task
+  to_decide : Text → Option Text → Bool → Bool → Task
 
 -- what a request asks for
 abbrev pub task_of : Request → Task
@@ -34,13 +35,13 @@ task_of (ask.Prove program out options progress json) =
 task_of (ask.Check program evidence pieces json) = to_check program.now evidence.now pieces.number json
 task_of (ask.Replay program evidence lines) = to_replay program.now evidence.now lines
 task_of (ask.Encode program dimacs) = to_encode program.now dimacs
-task_of (ask.Explain program evidence options form) =
-    to_explain program.now (option_map (λ path. path.now) evidence) options.workers options.depth options.budget form
+task_of (ask.Explain program evidence options form map) =
+    to_explain program.now (option_map (λ path. path.now) evidence) options.workers options.depth options.budget form (option_map (λ path. path.now) map)
 task_of (ask.Export program evidence out) = to_export program.now evidence.now out.now
 task_of (ask.Trim evidence out json) = to_trim evidence.now out.now json
 task_of (ask.Shrink program out) = to_shrink program.now (option_map (λ path. path.now) out)
-task_of (ask.Decide program out json) =
-    to_decide program.now (option_map (λ path. path.now) out) json
+task_of (ask.Decide program out progress json) =
+    to_decide program.now (option_map (λ path. path.now) out) progress json
 
 -- the word of a task's command
 abbrev pub command_of : Task → Text
@@ -48,11 +49,11 @@ command_of (to_prove program out workers depth budget progress json) = codes "pr
 command_of (to_check program evidence pieces json) = codes "check"
 command_of (to_replay program evidence lines) = codes "replay"
 command_of (to_encode program dimacs) = codes "encode"
-command_of (to_explain program evidence workers depth budget form) = codes "explain"
+command_of (to_explain program evidence workers depth budget form map) = codes "explain"
 command_of (to_export program evidence out) = codes "export"
 command_of (to_trim evidence out json) = codes "trim"
 command_of (to_shrink program out) = codes "shrink"
-command_of (to_decide program out json) = codes "decide"
+command_of (to_decide program out progress json) = codes "decide"
 
 -- ---- what the words after a command give
 
@@ -98,17 +99,17 @@ HasValues rows (to_check program evidence pieces json) =
 HasValues rows (to_replay program evidence lines) =
     Gives rows (codes "PROGRAM") program × Gives rows (codes "EVIDENCE") evidence × Flags rows (codes "lines") lines
 HasValues rows (to_encode program dimacs) = Gives rows (codes "PROGRAM") program × Flags rows (codes "dimacs") dimacs
-HasValues rows (to_explain program evidence workers depth budget form) =
+HasValues rows (to_explain program evidence workers depth budget form map) =
     Gives rows (codes "PROGRAM") program × (first_of (codes "EVIDENCE") rows ≡ evidence) × Reads rows (codes "workers") workers
-    × Reads rows (codes "depth") depth × Reads rows (codes "budget") budget × (form ≡ form_in rows)
+    × Reads rows (codes "depth") depth × Reads rows (codes "budget") budget × (form ≡ form_in rows) × (first_of (codes "map") rows ≡ map)
 HasValues rows (to_export program evidence out) =
     Gives rows (codes "PROGRAM") program × Gives rows (codes "EVIDENCE") evidence × Gives rows (codes "out") out
 HasValues rows (to_trim evidence out json) =
     Gives rows (codes "EVIDENCE") evidence × Gives rows (codes "out") out × Flags rows (codes "json") json
 HasValues rows (to_shrink program out) = Gives rows (codes "PROGRAM") program × (first_of (codes "out") rows ≡ out)
-HasValues rows (to_decide program out json) =
+HasValues rows (to_decide program out progress json) =
     Gives rows (codes "PROGRAM") program × (first_of (codes "out") rows ≡ out)
-    × Flags rows (codes "json") json
+    × Flags rows (codes "progress") progress × Flags rows (codes "json") json
 
 -- a command's name and its matches make this task
 pub record Makes (name : Text) (rows : List Row) (task : Task) : Type 0 where

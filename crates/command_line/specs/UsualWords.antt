@@ -42,9 +42,11 @@ pub record PlainWordsAreRead : Type 0 where
   pub encode_dimacs : (name p : Text) (task : Task) → begins_with_hyphen p ≡ false
       → AskFor (name ∷ codes "encode" ∷ p ∷ codes "--dimacs" ∷ []) task → task ≡ to_encode p true
   pub explain : (name p e : Text) (form : Form) (task : Task) → begins_with_hyphen p ≡ false → begins_with_hyphen e ≡ false
-      → AskFor (name ∷ codes "explain" ∷ p ∷ e ∷ form_words form) task → task ≡ to_explain p (Some e) 4 4 1000000 form
+      → AskFor (name ∷ codes "explain" ∷ p ∷ e ∷ form_words form) task → task ≡ to_explain p (Some e) 4 4 1000000 form None
+  pub explain_mapped : (name p file : Text) (task : Task) → begins_with_hyphen p ≡ false → begins_with_hyphen file ≡ false
+      → AskFor (name ∷ codes "explain" ∷ p ∷ codes "--map" ∷ file ∷ []) task → task ≡ to_explain p None 4 4 1000000 Brief (Some file)
   pub explain_alone : (name p : Text) (form : Form) (task : Task) → begins_with_hyphen p ≡ false
-      → AskFor (name ∷ codes "explain" ∷ p ∷ form_words form) task → task ≡ to_explain p None 4 4 1000000 form
+      → AskFor (name ∷ codes "explain" ∷ p ∷ form_words form) task → task ≡ to_explain p None 4 4 1000000 form None
   pub export : (name p e file : Text) (task : Task) → begins_with_hyphen p ≡ false → begins_with_hyphen e ≡ false → begins_with_hyphen file ≡ false
       → AskFor (name ∷ codes "export" ∷ p ∷ e ∷ codes "--out" ∷ file ∷ []) task → task ≡ to_export p e file
   pub trim : (name e file : Text) (task : Task) → begins_with_hyphen e ≡ false → begins_with_hyphen file ≡ false
@@ -56,13 +58,13 @@ pub record PlainWordsAreRead : Type 0 where
   pub shrink_out : (name p file : Text) (task : Task) → begins_with_hyphen p ≡ false → begins_with_hyphen file ≡ false
       → AskFor (name ∷ codes "shrink" ∷ p ∷ codes "--out" ∷ file ∷ []) task → task ≡ to_shrink p (Some file)
   pub decide : (name p : Text) (task : Task) → begins_with_hyphen p ≡ false
-      → AskFor (name ∷ codes "decide" ∷ p ∷ []) task → task ≡ to_decide p None false
+      → AskFor (name ∷ codes "decide" ∷ p ∷ []) task → task ≡ to_decide p None false false
   pub decide_as_json : (name p : Text) (task : Task) → begins_with_hyphen p ≡ false
-      → AskFor (name ∷ codes "decide" ∷ p ∷ codes "--json" ∷ []) task → task ≡ to_decide p None true
+      → AskFor (name ∷ codes "decide" ∷ p ∷ codes "--json" ∷ []) task → task ≡ to_decide p None false true
   pub decide_out : (name p file : Text) (task : Task) → begins_with_hyphen p ≡ false
       → begins_with_hyphen file ≡ false
       → AskFor (name ∷ codes "decide" ∷ p ∷ codes "--out" ∷ file ∷ []) task
-      → task ≡ to_decide p (Some file) false
+      → task ≡ to_decide p (Some file) false false
   pub prove : (name p : Text) (task : Task) → begins_with_hyphen p ≡ false
       → AskFor (name ∷ codes "prove" ∷ p ∷ []) task → task ≡ to_prove p None 4 4 1000000 false false
   pub prove_as_json : (name p : Text) (task : Task) → begins_with_hyphen p ≡ false
@@ -94,7 +96,7 @@ pub record OptionWordsAreRead : Type 0 where
   pub explain_options_last : (name p workers depth budget : Text) (task : Task) → begins_with_hyphen p ≡ false
       → begins_with_hyphen workers ≡ false → begins_with_hyphen depth ≡ false → begins_with_hyphen budget ≡ false
       → AskFor (name ∷ codes "explain" ∷ p ∷ codes "--workers" ∷ workers ∷ codes "--depth" ∷ depth ∷ codes "--budget" ∷ budget ∷ codes "--dot" ∷ []) task
-      → task ≡ to_explain p None (number_of workers) (number_of depth) (number_of budget) Graph
+      → task ≡ to_explain p None (number_of workers) (number_of depth) (number_of budget) Graph None
 
 -- words in their usual order, where no file's name begins with a hyphen, have no fault
 pub record PlainWordsAreFaultless : Type 0 where
@@ -118,6 +120,8 @@ pub record PlainWordsAreFaultless : Type 0 where
       → fault_of command_line (name ∷ codes "trim" ∷ e ∷ codes "--out" ∷ file ∷ codes "--json" ∷ []) ≡ []
   pub explain : (name p e : Text) (form : Form) → begins_with_hyphen p ≡ false → begins_with_hyphen e ≡ false
       → fault_of command_line (name ∷ codes "explain" ∷ p ∷ e ∷ form_words form) ≡ []
+  pub explain_mapped : (name p file : Text) → begins_with_hyphen p ≡ false → begins_with_hyphen file ≡ false
+      → fault_of command_line (name ∷ codes "explain" ∷ p ∷ codes "--map" ∷ file ∷ []) ≡ []
   pub explain_alone : (name p : Text) (form : Form) → begins_with_hyphen p ≡ false
       → fault_of command_line (name ∷ codes "explain" ∷ p ∷ form_words form) ≡ []
   pub shrink : (name p : Text) → begins_with_hyphen p ≡ false → fault_of command_line (name ∷ codes "shrink" ∷ p ∷ []) ≡ []

@@ -1,7 +1,7 @@
 //! The arguments of the commands.
 
 ghost use Rattle.std.specs.Prelude.{codes};
-ghost use Rattle.command_line.specs.CommandLine.{IsRuled, evidence_rule, flag_rule, number_rule, number_with, option_rule, optional_evidence_rule, out_rule, program_rule, proof_rule};
+ghost use Rattle.command_line.specs.CommandLine.{IsRuled, evidence_rule, flag_rule, map_rule, number_rule, number_with, option_rule, optional_evidence_rule, out_rule, program_rule, proof_rule};
 
 use clap::builder::ValueParser;
 use clap::{Arg, ArgAction, value_parser};
@@ -37,6 +37,8 @@ pub const SVG: &str = "svg";
 
 pub const LINES: &str = "lines";
 
+pub const MAP: &str = "map";
+
 pub fn program<'a>(alloc: Global) -> Arg<'a>
     ensures { IsRuled result program_rule }
 {
@@ -59,7 +61,7 @@ pub fn optional_evidence<'a>(alloc: Global) -> Arg<'a>
     ensures { IsRuled result optional_evidence_rule }
 {
     Arg::new(alloc, EVIDENCE).action(ArgAction::Set).help(
-        "The file with the evidence text; without it the program is proved first, and with it --workers, --depth and --budget have no effect",
+        "The file with the evidence text; without it one run decides, or where messages may race a search, and with it --workers, --depth and --budget have no effect",
     )
 }
 
@@ -76,6 +78,16 @@ pub fn progress<'a>(alloc: Global) -> Arg<'a>
         alloc,
         PROGRESS,
         "Tell on standard error, once a second, how far the search is",
+    )
+}
+
+pub fn stages<'a>(alloc: Global) -> Arg<'a>
+    ensures { IsRuled result (flag_rule (codes "progress")) }
+{
+    flag(
+        alloc,
+        PROGRESS,
+        "Tell on standard error when the text is read, and when the run is made",
     )
 }
 
@@ -111,6 +123,14 @@ pub fn svg<'a>(alloc: Global) -> Arg<'a>
     ensures { IsRuled result (flag_rule (codes "svg")) }
 {
     flag(alloc, SVG, "Print that chart as a picture, in SVG")
+}
+
+pub fn map<'a>(alloc: Global) -> Arg<'a>
+    ensures { IsRuled result map_rule }
+{
+    option(alloc, MAP).value_name("FILE").help(
+        "Tell beside each line its place in the source, from this file, which the recorder writes",
+    )
 }
 
 pub fn lines<'a>(alloc: Global) -> Arg<'a>

@@ -5,8 +5,8 @@ ghost use Rattle.clap.specs.Words.{App, Rule, new_app, with_rule, with_subcomman
 ghost use Rattle.command_line.specs.CommandLine.{IsRuled, IsShaped, check_app, command_line, decide_app, encode_app, explain_app, export_app, prove_app, replay_app, shrink_app, trim_app, version_line};
 
 use crate::arguments::{
-    all, budget, chart, depth, dimacs, dot, evidence, json, lines, object, optional_evidence, out,
-    pieces, program, progress, proof, schedule, smaller, svg, trimmed, workers,
+    all, budget, chart, depth, dimacs, dot, evidence, json, lines, map, object, optional_evidence,
+    out, pieces, program, progress, proof, schedule, smaller, stages, svg, trimmed, workers,
 };
 use crate::help_ends::{
     CHECK_END, DECIDE_END, ENCODE_END, EXPLAIN_END, EXPORT_END, HELP_END, PROVE_END, REPLAY_END,
@@ -129,7 +129,7 @@ fn explain_command<'a>(alloc: Global) -> Result<Command<'a>, AllocError>
     let command = named(
         alloc,
         "explain",
-        "Explains what an evidence, or a search, shows of a program",
+        "Explains what an evidence, one run or a search shows of a program",
         EXPLAIN_END,
     );
     let command = with(Ok(command), program(alloc));
@@ -141,7 +141,8 @@ fn explain_command<'a>(alloc: Global) -> Result<Command<'a>, AllocError>
     let command = with(command, dot(alloc));
     let command = with(command, chart(alloc));
     let command = with(command, svg(alloc));
-    with(command, object(alloc))
+    let command = with(command, object(alloc));
+    with(command, map(alloc))
 }
 
 fn export_command<'a>(alloc: Global) -> Result<Command<'a>, AllocError>
@@ -196,5 +197,6 @@ fn decide_command<'a>(alloc: Global) -> Result<Command<'a>, AllocError>
     );
     let command = with(Ok(command), program(alloc));
     let command = with(command, schedule(alloc));
+    let command = with(command, stages(alloc));
     with(command, json(alloc))
 }

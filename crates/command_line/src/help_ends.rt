@@ -64,12 +64,13 @@ pub const ENCODE_END: &str = ending!(
 /// Of `explain`.
 pub const EXPLAIN_END: &str = ending!(
     "explain program.mpi
+  mpiprove explain program.mpi --map program.map
   mpiprove explain program.mpi program.evidence",
     "
-  0  no deadlock: the size of the refutation is printed
+  0  no deadlock: the size of the program, and of a refutation, is printed
   1  deadlock: what each rank waits for is printed
   2  unknown: no evidence is named and none was found, with the reason
-  3  refused: the program or the evidence, with the reason"
+  3  refused: the program, the evidence or the map, with the reason"
 );
 
 /// Of `export`.

@@ -6,8 +6,8 @@ ghost use Rattle.command_line.specs.CommandLine.{command_line};
 ghost use Rattle.command_line.specs.Requests.{AskFor, Flags, Makes, MakesSome, Reads, form_in, task_of};
 
 use crate::arguments::{
-    ALL, BUDGET, CHART, DEPTH, DIMACS, DOT, EVIDENCE, JSON, LINES, OUT, PIECES, PROGRAM, PROGRESS,
-    SVG, WORKERS,
+    ALL, BUDGET, CHART, DEPTH, DIMACS, DOT, EVIDENCE, JSON, LINES, MAP, OUT, PIECES, PROGRAM,
+    PROGRESS, SVG, WORKERS,
 };
 use crate::commands::command;
 use clap::error::ErrorKind;
@@ -44,12 +44,14 @@ pub enum Request<'a> {
         program: &'a str,
         dimacs: bool,
     },
-    /// Explain what an evidence shows of a program, in this form. Where none is named, one is searched for first.
+    /// Explain what an evidence shows of a program, in this form. Where none is named, one run decides first, and where messages may race
+    /// an evidence is searched for. The file `map` has the places in the sources that lines of the program come from.
     Explain {
         program: &'a str,
         evidence: Option<&'a str>,
         options: Options,
         form: Form,
+        map: Option<&'a str>,
     },
     /// Write the proof that an evidence makes of a program's formula to the file `out`.
     Export {
@@ -73,6 +75,7 @@ pub enum Request<'a> {
     Decide {
         program: &'a str,
         out: Option<&'a str>,
+        progress: bool,
         json: bool,
     },
 }
@@ -184,6 +187,7 @@ fn explain_request<'a>(matches: &ArgMatches<'a>) -> Option<Request<'a>>
         evidence: matches.get_str(EVIDENCE),
         options: options_of(matches)?,
         form: form_of(matches),
+        map: matches.get_str(MAP),
     })
 }
 
@@ -225,10 +229,12 @@ fn decide_request<'a>(matches: &ArgMatches<'a>) -> Option<Request<'a>>
     ensures { IfSome result (λ request.
         Makes (codes "decide") (rows_of (found_of matches.now)) (task_of request)) }
 {
+    let progress = is_set(matches, PROGRESS);
     let json = is_set(matches, JSON);
     Some(Request::Decide {
         program: matches.get_str(PROGRAM)?,
         out: matches.get_str(OUT),
+        progress,
         json,
     })
 }

@@ -1,3 +1,4 @@
 pub mod Decisions
 pub mod Schedules
 pub mod Laws
+pub mod Stages

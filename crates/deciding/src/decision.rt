@@ -3,7 +3,8 @@
 ghost use Rattle.std.specs.Prelude.{◌≡◌, ◌⊎◌, ℕ, IfNone, IfOk, IfSome, IsTrue, Some};
 ghost use Rattle.callorder.specs.Programs.{are_fit, call_at, takes};
 ghost use Rattle.clocks.specs.Clocks.{IsRival, IsUnordered};
-ghost use Rattle.semantics.specs.Machine.{partner_of};
+ghost use Rattle.semantics.specs.Machine.{after_all, opening, partner_of};
+ghost use Rattle.leastrun.specs.LeastBuffered.{IsLeastBufferedRun};
 ghost use Rattle.deciding.specs.Decisions.{EndsLeast, IsCaller, IsDecision, IsRace};
 
 use callorder::LongProgram;
@@ -82,6 +83,29 @@ fn named_race(program: &LongProgram, state: &State, race: clocks::Race) -> Race
     }
 }
 
+/// Decides by a run that buffers as little as the policy allows, and the state at its end, whether some run of the program gets stuck.
+/// The only error is want of memory.
+pub fn judge_run(
+    alloc: Global,
+    program: &LongProgram,
+    steps: Vec<Step>,
+    state: &State,
+) -> Result<Decision, AllocError>
+    requires run { IsLeastBufferedRun program.now steps.items }
+    requires end { state.now ≡ after_all (opening program.now) steps.items }
+    ensures { IfOk result (IsDecision program.now) }
+{
+    if state.unfinished(program).is_some() {
+        return Ok(Decision::Deadlock(steps));
+    }
+    let _calls = program.calls();
+    match first_race(alloc, program, &steps) {
+        Ok(None) => Ok(Decision::NoDeadlock),
+        Ok(Some(race)) => Ok(Decision::Race(named_race(program, state, race))),
+        Err(AllocError) => Err(AllocError),
+    }
+}
+
 /// Decides by one run whether some run of the program gets stuck. The only error is want of memory.
 ///
 /// The run takes time near linear in the calls. Where calls take any source, what is known of these of each rank is counted for each
@@ -90,13 +114,5 @@ pub fn decide_program(alloc: Global, program: &LongProgram) -> Result<Decision, 
     ensures { IfOk result (IsDecision program.now) }
 {
     let (steps, state) = least_buffered_run(alloc, program)?;
-    if state.unfinished(program).is_some() {
-        return Ok(Decision::Deadlock(steps));
-    }
-    let _calls = program.calls();
-    match first_race(alloc, program, &steps) {
-        Ok(None) => Ok(Decision::NoDeadlock),
-        Ok(Some(race)) => Ok(Decision::Race(named_race(program, &state, race))),
-        Err(AllocError) => Err(AllocError),
-    }
+    judge_run(alloc, program, steps, &state)
 }

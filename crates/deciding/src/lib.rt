@@ -8,12 +8,14 @@
 mod decision;
 mod laws;
 mod schedule;
+mod stages;
 mod texts;
 
-pub use decision::{Caller, Decision, Race, decide_program};
+pub use decision::{Caller, Decision, Race, decide_program, judge_run};
 pub use laws::{
     justified_runs_are_decided, lone_senders_are_decided, named_sources_are_decided,
     short_texts_are_decided,
 };
 pub use schedule::schedule_text;
-pub use texts::{Undecided, decide};
+pub use stages::{Stage, decide_telling};
+pub use texts::{Undecided, decide, program_of};

@@ -12,7 +12,7 @@ use semantics::Step;
 use std::alloc::{AllocError, Global};
 
 /// Writes the number's numeral.
-fn put_number(out: &mut Vec<u8>, number: u128) -> Result<(), AllocError>
+pub(crate) fn put_number(out: &mut Vec<u8>, number: u128) -> Result<(), AllocError>
     ensures { OnOk result (out.new.items ≡ out.old.items ++ numeral number) }
 {
     let mut buffer = Buffer::new();

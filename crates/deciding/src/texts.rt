@@ -43,8 +43,9 @@ impl From<ResolveFault> for Undecided {
     }
 }
 
-/// The program of a text, of any length. The faults of its lines come before those of its calls.
-fn program_of(alloc: Global, text: &[u8]) -> Result<LongProgram, Undecided>
+/// The program of a text, of any length, or the first reason why there is none. The faults of its
+/// lines come before those of its calls.
+pub fn program_of(alloc: Global, text: &[u8]) -> Result<LongProgram, Undecided>
     ensures program { IfOk result (IsTextOfWithin long text.now) }
     ensures why { IfErr result (IsUndecided text.now) }
 {

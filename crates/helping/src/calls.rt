@@ -1,6 +1,6 @@
 //! What is wrong with a call line whose first word is a call.
 
-use crate::shapes::{number_fault, shape_of, slot_of, word_fault};
+use crate::shapes::{WordFault, number_fault, shape_of, slot_of, word_fault};
 use crate::told::Help;
 use calltext::Verb;
 use plaintext::is_word;
@@ -13,12 +13,53 @@ fn put_word(help: &mut Help, label: &str, word: &[u8], fault: &str) -> Result<()
     write!(help.notes, "{label} {shown}: {fault}\n")
 }
 
+/// Tells that a number is out of its bounds.
+fn put_bounds(
+    help: &mut Help,
+    label: &str,
+    word: &[u8],
+    least: u32,
+    most: u32,
+) -> Result<(), AllocError> {
+    help.name(word)?;
+    let shown = &help.word;
+    write!(help.notes, "{label} {shown}: ")?;
+    if least == 0 {
+        write!(help.notes, "at most {most}\n")
+    } else {
+        write!(
+            help.notes,
+            "{least} to {most}; where none is written 0 is meant\n"
+        )
+    }
+}
+
+/// Tells this fault of a word that is called so.
+fn put_word_fault(
+    help: &mut Help,
+    label: &str,
+    word: &[u8],
+    fault: WordFault,
+) -> Result<(), AllocError> {
+    match fault {
+        WordFault::Bounds { least, most } => put_bounds(help, label, word, least, most),
+        WordFault::NoNumber => {
+            let fault = "a number is expected, without sign and leading zeros";
+            put_word(help, label, word, fault)
+        }
+        WordFault::NoName => {
+            let fault = "a name is a letter a to z, then at most 15 letters a to z and digits";
+            put_word(help, label, word, fault)
+        }
+    }
+}
+
 /// Tells what is wrong with the first word that breaks the shape. False where none does.
 fn put_broken(help: &mut Help, shape: &str, words: &[&[u8]]) -> Result<bool, AllocError> {
     for (place, word) in shape.split(' ').zip(words.iter()) {
-        if let Some(fault) = word_fault(place, word) {
+        if let Some(fault) = word_fault(place, word, help.limits) {
             let (_slot, label) = slot_of(place);
-            put_word(help, label, word, fault)?;
+            put_word_fault(help, label, word, fault)?;
             return Ok(true);
         }
     }
@@ -31,8 +72,8 @@ fn put_more(help: &mut Help, shape: &str, rest: &[&[u8]]) -> Result<(), AllocErr
     match rest {
         [] => Ok(()),
         [word, number] if has_communicator && is_word(word, "comm") => {
-            match number_fault(number, 1, 255, "1 to 255; where none is written 0 is meant") {
-                Some(fault) => put_word(help, "comm", number, fault),
+            match number_fault(number, 1, help.limits.communicator) {
+                Some(fault) => put_word_fault(help, "comm", number, fault),
                 None => Ok(()),
             }
         }

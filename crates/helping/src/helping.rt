@@ -7,7 +7,7 @@ use crate::requests::put_resolve;
 use crate::syntax::put_syntax;
 use crate::told::{File, Help};
 use callorder::ResolveFault;
-use calltext::ReadFault;
+use calltext::{Limits, ReadFault};
 use checker::Reason;
 use semantics::End;
 use std::alloc::{AllocError, Global};
@@ -83,15 +83,16 @@ fn put_help(
     }
 }
 
-/// What helps where a program, or an evidence that is named, is refused for this reason: lines, each with its LF. The only error is want of
-/// memory.
+/// What helps where a program that was read within these limits, or an evidence that is named, is refused for this reason: lines, each with
+/// its LF. The only error is want of memory.
 pub fn help(
     alloc: Global,
+    limits: Limits,
     program: &[u8],
     evidence: Option<&[u8]>,
     reason: Reason,
 ) -> Result<Vec<u8>, AllocError> {
-    let mut help = Help::new(alloc);
+    let mut help = Help::new(alloc, limits);
     put_help(&mut help, alloc, program, evidence.unwrap_or(b""), reason)?;
     let text = plain_text(alloc, &help)?;
     Ok(text.into_bytes())
@@ -101,11 +102,12 @@ pub fn help(
 /// there, which `word` of it is meant, `notes` on what is wrong, and what is `expected` there. Each is null where there is nothing to tell.
 pub fn help_object(
     alloc: Global,
+    limits: Limits,
     program: &[u8],
     evidence: Option<&[u8]>,
     reason: Reason,
 ) -> Result<String, AllocError> {
-    let mut help = Help::new(alloc);
+    let mut help = Help::new(alloc, limits);
     put_help(&mut help, alloc, program, evidence.unwrap_or(b""), reason)?;
     object_text(alloc, &help)
 }

@@ -1,6 +1,6 @@
 //! The shapes of call lines, and the words that break them.
 
-use calltext::{Mode, Verb};
+use calltext::{Limits, Mode, Verb};
 use plaintext::{is_word, number_of};
 
 /// The shape of a send's line.
@@ -67,36 +67,37 @@ fn is_name(word: &[u8]) -> bool {
             .all(|byte| byte.is_ascii_lowercase() || byte.is_ascii_digit())
 }
 
+/// What is wrong with a word.
+#[derive(Clone, Copy)]
+pub enum WordFault {
+    /// It is no number.
+    NoNumber,
+    /// Its number is below the least or above the most.
+    Bounds { least: u32, most: u32 },
+    /// It is no name.
+    NoName,
+}
+
 /// What is wrong with a number that may be from the one to the other.
-pub fn number_fault(
-    word: &[u8],
-    least: u32,
-    most: u32,
-    bound: &'static str,
-) -> Option<&'static str> {
+pub fn number_fault(word: &[u8], least: u32, most: u32) -> Option<WordFault> {
     match number_of(word) {
-        None => Some("a number is expected, without sign and leading zeros"),
-        Some(number) if number < least || number > most => Some(bound),
+        None => Some(WordFault::NoNumber),
+        Some(number) if number < least || number > most => Some(WordFault::Bounds { least, most }),
         Some(_number) => None,
     }
 }
 
 /// What is wrong with a word in the place of this word of a shape, where something is.
-pub fn word_fault(shape: &str, word: &[u8]) -> Option<&'static str> {
+pub fn word_fault(shape: &str, word: &[u8], limits: Limits) -> Option<WordFault> {
     if shape.ends_with("*") && is_word(word, "*") {
         return None;
     }
     let (slot, _label) = slot_of(shape);
     match slot {
-        Slot::Rank => number_fault(word, 0, 63, "at most 63"),
-        Slot::Tag => number_fault(word, 0, 32_767, "at most 32767"),
-        Slot::Request | Slot::Handle => {
-            if is_name(word) {
-                None
-            } else {
-                Some("a name is a letter a to z, then at most 15 letters a to z and digits")
-            }
-        }
+        Slot::Rank => number_fault(word, 0, limits.peer),
+        Slot::Tag => number_fault(word, 0, limits.tag),
+        Slot::Request | Slot::Handle if is_name(word) => None,
+        Slot::Request | Slot::Handle => Some(WordFault::NoName),
         Slot::Word => None,
     }
 }

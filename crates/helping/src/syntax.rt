@@ -43,9 +43,10 @@ fn put_expected(help: &mut Help, lines: &[&[u8]], number: usize) -> Result<(), A
             "this looks like an evidence: the order is PROGRAM, then EVIDENCE\n",
         );
     }
+    let ranks = help.limits.ranks;
     let out = &mut help.expected;
     match number {
-        1 => out.push_str("ranks NUMBER, from 1 to 64"),
+        1 => write!(out, "ranks NUMBER, from 1 to {ranks}"),
         2 => out.push_str("policy any, policy none or policy all"),
         3 => out.push_str("rank 0"),
         _ => {

@@ -1,6 +1,7 @@
 //! What helps, before it is written as a text or as an object.
 
 use crate::lines::{Found, find, put_shown};
+use calltext::Limits;
 use std::alloc::{AllocError, Global};
 
 /// Which text a line stands in.
@@ -28,6 +29,8 @@ pub struct Place {
 /// What helps.
 #[derive(Drop)]
 pub struct Help {
+    /// The limits that the program's text was read within.
+    pub limits: Limits,
     /// The line that is meant, if one is.
     pub place: Option<Place>,
     /// The word that is meant; empty where none is.
@@ -39,9 +42,10 @@ pub struct Help {
 }
 
 impl Help {
-    /// Nothing is told yet.
-    pub fn new(alloc: Global) -> Help {
+    /// Nothing is told yet of a program's text that was read within these limits.
+    pub fn new(alloc: Global, limits: Limits) -> Help {
         Help {
+            limits,
             place: None,
             word: String::new(alloc),
             notes: String::new(alloc),

@@ -18,8 +18,6 @@ mod column;
 mod laws;
 mod order;
 mod rules;
-#[cfg(test)]
-mod tests;
 
 pub use column::column_of;
 pub use laws::{

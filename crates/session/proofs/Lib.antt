@@ -2,7 +2,10 @@ pub mod DeadlockLines
 pub mod HeldFiles
 pub mod Deadlocks
 pub mod TaskEnds
+pub mod SmallerPrograms
 pub mod DecidedPages
+pub mod ExplainedPages
+pub mod MappedPages
 pub mod RunLaws
 pub mod DecidedRuns
 pub mod PlainAnswers

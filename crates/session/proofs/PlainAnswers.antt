@@ -4,6 +4,7 @@ use Rattle.clap.specs.Words.{Text, fault_of}
 use Rattle.command_line.specs.CommandLine.{command_line}
 use Rattle.command_line.specs.Requests.{AskFor, Task, number_of, to_check, to_decide, to_encode, to_explain, to_export, to_prove, to_replay, to_shrink, to_trim}
 use Rattle.command_line.specs.UsualWords.{form_words}
+use Rattle.settings.specs.declared.form.Form.TheVariants.{Brief}
 use Rattle.command_line.proofs.OptionWords.{option_words_are_read}
 use Rattle.command_line.proofs.PieceWords.{pieces_are_free}
 use Rattle.command_line.proofs.PlainFaults.{plain_words_are_faultless}
@@ -43,11 +44,14 @@ plain_words_are_answered = record {
       answered (name ∷ codes "encode" ∷ p ∷ codes "--dimacs" ∷ []) (to_encode p true) (plain_words_are_faultless.encode_dimacs name p fp)
       (λ task. plain_words_are_read.encode_dimacs name p task fp);
   explain = λ name p e form fp fe.
-      answered (name ∷ codes "explain" ∷ p ∷ e ∷ form_words form) (to_explain p (Some e) 4 4 1000000 form) (plain_words_are_faultless.explain name p e form fp fe)
+      answered (name ∷ codes "explain" ∷ p ∷ e ∷ form_words form) (to_explain p (Some e) 4 4 1000000 form None) (plain_words_are_faultless.explain name p e form fp fe)
       (λ task. plain_words_are_read.explain name p e form task fp fe);
   explain_alone = λ name p form fp.
-      answered (name ∷ codes "explain" ∷ p ∷ form_words form) (to_explain p None 4 4 1000000 form) (plain_words_are_faultless.explain_alone name p form fp)
+      answered (name ∷ codes "explain" ∷ p ∷ form_words form) (to_explain p None 4 4 1000000 form None) (plain_words_are_faultless.explain_alone name p form fp)
       (λ task. plain_words_are_read.explain_alone name p form task fp);
+  explain_mapped = λ name p file fp ff.
+      answered (name ∷ codes "explain" ∷ p ∷ codes "--map" ∷ file ∷ []) (to_explain p None 4 4 1000000 Brief (Some file)) (plain_words_are_faultless.explain_mapped name p file fp ff)
+      (λ task. plain_words_are_read.explain_mapped name p file task fp ff);
   export = λ name p e file fp fe ffile.
       answered (name ∷ codes "export" ∷ p ∷ e ∷ codes "--out" ∷ file ∷ []) (to_export p e file) (plain_words_are_faultless.export name p e file fp fe ffile)
       (λ task. plain_words_are_read.export name p e file task fp fe ffile);
@@ -64,13 +68,13 @@ plain_words_are_answered = record {
       answered (name ∷ codes "shrink" ∷ p ∷ codes "--out" ∷ file ∷ []) (to_shrink p (Some file)) (plain_words_are_faultless.shrink_out name p file fp ff)
       (λ task. plain_words_are_read.shrink_out name p file task fp ff);
   decide = λ name p fp.
-      answered (name ∷ codes "decide" ∷ p ∷ []) (to_decide p None false) (plain_words_are_faultless.decide name p fp)
+      answered (name ∷ codes "decide" ∷ p ∷ []) (to_decide p None false false) (plain_words_are_faultless.decide name p fp)
       (λ task. plain_words_are_read.decide name p task fp);
   decide_as_json = λ name p fp.
-      answered (name ∷ codes "decide" ∷ p ∷ codes "--json" ∷ []) (to_decide p None true) (plain_words_are_faultless.decide_as_json name p fp)
+      answered (name ∷ codes "decide" ∷ p ∷ codes "--json" ∷ []) (to_decide p None false true) (plain_words_are_faultless.decide_as_json name p fp)
       (λ task. plain_words_are_read.decide_as_json name p task fp);
   decide_out = λ name p file fp ff.
-      answered (name ∷ codes "decide" ∷ p ∷ codes "--out" ∷ file ∷ []) (to_decide p (Some file) false) (plain_words_are_faultless.decide_out name p file fp ff)
+      answered (name ∷ codes "decide" ∷ p ∷ codes "--out" ∷ file ∷ []) (to_decide p (Some file) false false) (plain_words_are_faultless.decide_out name p file fp ff)
       (λ task. plain_words_are_read.decide_out name p file task fp ff);
   prove = λ name p fp.
       answered (name ∷ codes "prove" ∷ p ∷ []) (to_prove p None 4 4 1000000 false false) (plain_words_are_faultless.prove name p fp)

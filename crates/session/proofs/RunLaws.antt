@@ -18,9 +18,9 @@ use Rattle.command_line.specs.Requests.{AskFor, Task, to_check, to_decide, to_en
 use Rattle.session.specs.Deadlocks.{ReadFilesAreNotBlamed, AskToCheck, AskToExplain, AskToProve, AskToReplay, CheckedDeadlockIsPrinted, CheckedDeadlockIsShown, CheckedSafetyIsPrinted, CheckedSafetyIsTrue, EncodedFormulaIsPrinted, ExplainedDeadlockIsShown, ExplainedSafetyIsTrue, ExplainedUnknownFinishes, ExportedAnswerIsPrinted, ExportedProofIsWritten, ExportedSafetyIsTrue, IsRightlyTold, ProvedDeadlockIsPrinted, ProvedDeadlockIsShown, ProvedSafetyIsPrinted, ProvedSafetyIsTrue, ProvedUnknownFinishes, RefutedIsChecked, ReplayedDeadlockIsShown, ReplayedRunIsPrinted, ShownDeadlockIsChecked, ShownDeadlockIsReplayed, IsHandedOver, ShrunkProgramHangs, TellsDeadlock, TellsSafety, ToldDeadlockIsShown, TrimmedRefutationIsWritten, WrittenDeadlockIsShown, WrittenSafetyIsRefuted}
 use Rattle.session.specs.Endings.{Complains, Ends, EndsFollowed, EndsUnasked, Explains, FailsEarly, IsFollowed, Prints, PrintsAlone, SessionEnds, TaskEnds}
 use Rattle.session.specs.Lines.{IsLine, deadlock_line, early_line, line_text, lines_words, memory_line, no_deadlock_line, told_of_answer, told_of_untrimmed, told_of_verdict, told_status}
-use Rattle.session.specs.Pages.{FilesTold, HasTextOfFormula, IsProgram, IsChecked, IsDecidedPage, IsDecideFile, IsEither, IsEncoded, IsExplained, IsExplainFile, IsExplainPage, is_object, IsExported, IsExportedTo, IsExportFile, IsProveFile, IsProved, IsReplayPage, IsReplayed, IsSearched, IsMadeSmaller, IsShrinkFile, IsSmallerPage, IsTrimFile, IsTrimmed, IsWritten, explain_want}
+use Rattle.session.specs.Pages.{FilesTold, HasTextOfFormula, IsProgram, IsChecked, IsDecidedPage, IsDecideFile, IsEither, IsEncoded, IsExplained, IsExplainFile, IsExplainPage, is_object, IsExported, IsExportedTo, IsExportFile, IsProveFile, IsProved, IsReplayPage, IsReplayed, IsDecidedFirst, IsTrimFile, IsTrimmed, IsWritten, explain_want}
 use Rattle.files.specs.Contents.{AreAll}
-use Rattle.shrinking.specs.Shrinking.{IsShrunk}
+use Rattle.session.specs.Shrinking.{Hangs, IsMadeSmaller, IsShrinkFile, IsSmaller, IsSmallerPage, IsUnhung}
 use Rattle.reports.specs.Trimming.{Shortens}
 use Rattle.reports.specs.declared.trimmed.Shortened.{Shortened}
 use Rattle.reports.specs.declared.trimmed.Untrimmed.{Untrimmed}
@@ -30,8 +30,12 @@ use Rattle.session.specs.declared.page.Want.{Want}
 use Rattle.session.specs.declared.page.Want.TheVariants as want
 use Rattle.session.specs.declared.told.Told.TheVariants as told
 use Rattle.session.proofs.DeadlockLines.{PageTells, PageTellsSafety, deadlock_page, deadlock_printed, deadlock_untold, dimacs_untold, formula_untold, help_untold, line_tells, lines_untold, one_told, safe_line, safety_page, safety_untold, unshrunk_untold, stuck_line, unknown_page, unknown_untold, version_untold, zero_told}
-use Rattle.session.proofs.Deadlocks.{all_are, check_never, check_shows, explained_finishes, explained_never, explained_shows, exported_checked, exported_proof, file_refutes, file_shows, held_as_read, prove_finishes, prove_never, prove_shows, helped_untold, read_as_held, read_shows, refused_above, refused_differs, replayed_shows, safe_differs, searched_shows}
+use Rattle.session.proofs.Deadlocks.{all_are, check_never, check_shows, explained_shows, exported_checked, exported_proof, file_refutes, file_shows, held_as_read, prove_finishes, prove_never, prove_shows, undecided_above, undecided_untold, read_as_held, read_shows, refused_above, refused_differs, replayed_shows, safe_differs}
+use Rattle.session.specs.Mapping.{IsMapped, IsMappedFile}
+use Rattle.session.proofs.MappedPages.{unmapped_page, unmapped_told}
+use Rattle.session.proofs.ExplainedPages.{explained_finishes, first_never, first_shows, given_never}
 use Rattle.session.proofs.DecidedPages.{decided_hangs}
+use Rattle.session.proofs.SmallerPrograms.{smaller_hangs}
 use Rattle.session.proofs.TaskEnds.{task_ends}
 
 -- a run that complains with another status tells no deadlock
@@ -390,36 +394,55 @@ unknown_finishes words p out budget progress as_json tells before after program 
 -- ---- explain
 
 module _ (words : List Text) (p : Text) (e : Option Text) (budget : ℕ) (form : Form) (tells : FilesTold) (before after : List ℕ → Option (List ℕ)) (old new told_old told_new : Option (List ℕ)) (status : ℕ) where
-  abbrev ExplainEnds : Type 0
-  ExplainEnds =
-      Ends (IsExplainPage before p e budget form) (IsExplainFile tells.reads p e) (explain_want e) (is_object form) before after old new told_old told_new status
-      ⊎ FailsEarly old new told_old told_new status
+  abbrev ExplainPage : Option Text → List ℕ → ℕ → Type 0
+  ExplainPage map = IsMapped before form map (IsExplainPage before p e budget form)
 
-  explain_ends : AskToExplain words p e budget form → SessionEnds words tells before after old new told_old told_new status → ExplainEnds
-  explain_ends asks ends = ended (task_ends words tells before after old new told_old told_new status (to_explain p e asks.0 asks.1 budget form) asks.2 ends)
+  abbrev ExplainFile : Option Text → List ℕ → Type 0
+  ExplainFile map = IsMappedFile tells.reads p map (IsExplainFile tells.reads p e)
+
+  explain_ends : (asks : AskToExplain words p e budget form) → SessionEnds words tells before after old new told_old told_new status
+      → Ends (ExplainPage asks.2) (ExplainFile asks.2) (explain_want e) (is_object form) before after old new told_old told_new status
+      ⊎ FailsEarly old new told_old told_new status
+  explain_ends asks ends = ended (task_ends words tells before after old new told_old told_new status (to_explain p e asks.0 asks.1 budget form asks.2) asks.3 ends)
+
+  -- the plain page of an explanation that told a deadlock, and of one with a status below 3
+  explain_told : AskToExplain words p e budget form → SessionEnds words tells before after old new told_old told_new status → TellsDeadlock old new status
+      → (text : List ℕ) × (page_status : ℕ) × IsExplainPage before p e budget form text page_status × PageTells text page_status
+  explain_told asks ends says =
+      let page = page_that_told (ExplainPage asks.2) (ExplainFile asks.2) (explain_want e) (is_object form) before after old new told_old told_new status (explain_ends asks ends) says in
+      let plain = unmapped_told before form asks.2 (IsExplainPage before p e budget form) page.0 page.1 page.2 page.3 in
+      (plain.0, page.1, plain.1, plain.2)
+
+  explain_plain : (own : ℕ) → own < 3 → AskToExplain words p e budget form → SessionEnds words tells before after old new told_old told_new status → status ≡ own
+      → (text : List ℕ) × IsExplainPage before p e budget form text own
+  explain_plain own low asks ends is =
+      let page = page_printed own (omega (arith, low)) (ExplainPage asks.2) (ExplainFile asks.2) (explain_want e) (is_object form) before after old new told_old told_new status
+      (explain_ends asks ends) is in
+      unmapped_page before form asks.2 (IsExplainPage before p e budget form) page.0 own page.1 low
 
 pub explained : ExplainedDeadlockIsShown
 explained = record {
   given = λ form words p e tells before after program evidence old new told_old told_new status asks held_p held_e ends says.
-      let page = page_that_told (IsExplained (before p) (before e) form) (IsEither tells.reads p e) want.Refused (is_object form) before after old new told_old told_new status
-      (explain_ends words p (Some e) asks.0 form tells before after old new told_old told_new status asks.1 ends) says in
+      let page = explain_told words p (Some e) asks.0 form tells before after old new told_old told_new status asks.1 ends says in
       explained_shows (before p) (before e) form page.0 page.1 program evidence page.2 page.3 held_p held_e;
   found = λ words p budget form tells before after program old new told_old told_new status asks held ends says.
-      let page = page_that_told (IsSearched (before p) budget form) (IsProgram tells.reads p) want.Unknown (is_object form) before after old new told_old told_new status
-      (explain_ends words p None budget form tells before after old new told_old told_new status asks ends) says in
-      searched_shows (before p) budget form page.0 page.1 program page.2 page.3 held;
+      let page = explain_told words p None budget form tells before after old new told_old told_new status asks ends says in
+      first_shows (before p) budget form page.0 page.1 program page.2 page.3 held;
 }
 
 pub explained_safe : ExplainedSafetyIsTrue
-explained_safe words p e budget form tells before after program old new told_old told_new status asks held ends zero =
-    let page = page_printed 0 (omega arith) (IsExplainPage before p e budget form) (IsExplainFile tells.reads p e) (explain_want e) (is_object form) before after old new told_old told_new status
-    (explain_ends words p e budget form tells before after old new told_old told_new status asks ends) zero in
-    explained_never before p e budget form page.0 program page.1 held
+explained_safe = record {
+  given = λ words p e budget form tells before after program old new told_old told_new status asks held ends zero.
+      let page = explain_plain words p (Some e) budget form tells before after old new told_old told_new status 0 (omega arith) asks ends zero in
+      given_never before p e budget form page.0 program page.1 held;
+  found = λ words p budget form tells before after program old new told_old told_new status asks held ends zero.
+      let page = explain_plain words p None budget form tells before after old new told_old told_new status 0 (omega arith) asks ends zero in
+      first_never (before p) budget form page.0 program page.1 held;
+}
 
 pub explained_unknown : ExplainedUnknownFinishes
 explained_unknown words p e budget form tells before after program old new told_old told_new status asks some held ends two =
-    let page = page_printed 2 (omega arith) (IsExplainPage before p e budget form) (IsExplainFile tells.reads p e) (explain_want e) (is_object form) before after old new told_old told_new status
-    (explain_ends words p e budget form tells before after old new told_old told_new status asks ends) two in
+    let page = explain_plain words p e budget form tells before after old new told_old told_new status 2 (omega arith) asks ends two in
     explained_finishes before p e budget form page.0 program page.1 some held
 
 -- ---- export
@@ -522,33 +545,33 @@ module _ (words : List Text) (p : Text) (out : Option Text) (tells : FilesTold) 
 
 -- a page with the status 1 is that of a smaller program
 shrunk_page : (tells : Bool) (before after : List ℕ → Option (List ℕ)) (p : List ℕ) (out : Option (List ℕ)) (text : List ℕ) → IsMadeSmaller tells before after p out text 1
-    → (program : List ℕ) × AreAll (before p) program × ((smaller : List ℕ) × CanHang program × IsShrunk program smaller × IsWritten tells before after out smaller × IsSmallerPage out smaller text)
-shrunk_page tells before after p out text (program, all, inl s) = (program, all, (s.0, s.1, s.2, s.3, s.4))
+    → (program : List ℕ) × AreAll (before p) program × ((smaller : List ℕ) × IsSmaller program smaller × IsWritten tells before after out smaller × IsSmallerPage out smaller text)
+shrunk_page tells before after p out text (program, all, inl s) = (program, all, (s.0, s.1, s.2, s.3))
 shrunk_page tells before after p out text (program, all, inr (inl finishes)) = absurd (omega (arith, finishes.3))
-shrunk_page tells before after p out text (program, all, inr (inr refused)) = absurd (omega (arith, refused.3.3, refused_above refused.0))
+shrunk_page tells before after p out text (program, all, inr (inr refused)) = absurd (omega (arith, undecided_above false refused.0 text 1 refused.3))
 
 -- one with the status 2 is of a program that can finish
 unshrunk_page : (tells : Bool) (before after : List ℕ → Option (List ℕ)) (p : List ℕ) (out : Option (List ℕ)) (text : List ℕ) → IsMadeSmaller tells before after p out text 2
-    → (program : List ℕ) × AreAll (before p) program × CanFinish program
-unshrunk_page tells before after p out text (program, all, inl s) = absurd (omega (arith, s.5))
+    → (program : List ℕ) × AreAll (before p) program × IsUnhung program
+unshrunk_page tells before after p out text (program, all, inl s) = absurd (omega (arith, s.4))
 unshrunk_page tells before after p out text (program, all, inr (inl finishes)) = (program, all, finishes.0)
-unshrunk_page tells before after p out text (program, all, inr (inr refused)) = absurd (omega (arith, refused.3.3, refused_above refused.0))
+unshrunk_page tells before after p out text (program, all, inr (inr refused)) = absurd (omega (arith, undecided_above false refused.0 text 2 refused.3))
 
 -- and none has the status 0
 never_shrunk : (tells : Bool) (before after : List ℕ → Option (List ℕ)) (p : List ℕ) (out : Option (List ℕ)) (text : List ℕ) → IsMadeSmaller tells before after p out text 0 → ⊥
-never_shrunk tells before after p out text (program, all, inl s) = omega (arith, s.5)
+never_shrunk tells before after p out text (program, all, inl s) = omega (arith, s.4)
 never_shrunk tells before after p out text (program, all, inr (inl finishes)) = omega (arith, finishes.3)
-never_shrunk tells before after p out text (program, all, inr (inr refused)) = omega (arith, refused.3.3, refused_above refused.0)
+never_shrunk tells before after p out text (program, all, inr (inr refused)) = omega (arith, undecided_above false refused.0 text 0 refused.3)
 
 -- a page that tells a deadlock is of a program that can hang
 shrunk_hangs : (tells : Bool) (before after : List ℕ → Option (List ℕ)) (p : List ℕ) (out : Option (List ℕ)) (text : List ℕ) (status : ℕ) (program : List ℕ)
-    → IsMadeSmaller tells before after p out text status → PageTells text status → before p ≡ Some program → CanHang program
+    → IsMadeSmaller tells before after p out text status → PageTells text status → before p ≡ Some program → Hangs program
 shrunk_hangs tells before after p out text status program (given, all, inl s) says held =
-    subst CanHang (all_are (before p) given program all held) s.1
+    subst Hangs (all_are (before p) given program all held) (smaller_hangs given s.0 s.1)
 shrunk_hangs tells before after p out text status program (given, all, inr (inl finishes)) says held =
     absurd (unshrunk_untold text status finishes.2 finishes.3 says)
 shrunk_hangs tells before after p out text status program (given, all, inr (inr refused)) says held =
-    absurd (helped_untold refused.0 text status refused.3 says)
+    absurd (undecided_untold false refused.0 text status refused.3 says)
 
 handed_over : (tells : Bool) (before after : List ℕ → Option (List ℕ)) (out : Option (List ℕ)) (smaller text : List ℕ) (old new told_old told_new : Option (List ℕ)) (status : ℕ)
     → IsWritten tells before after out smaller → IsSmallerPage out smaller text → PrintsAlone old new told_old told_new text 1 status
@@ -565,15 +588,14 @@ shrunk = record {
       let is = shrunk_page tells.writes before after p out page.0 page.1 in
       let s = is.2 in (
         s.0,
-        subst CanHang (all_are (before p) is.0 program is.1 held) s.1,
-        subst (λ (given : List ℕ). IsShrunk given s.0) (all_are (before p) is.0 program is.1 held) s.2,
-        handed_over tells.writes before after out s.0 page.0 old new told_old told_new status s.3 s.4 page.2,
+        subst (λ (given : List ℕ). IsSmaller given s.0) (all_are (before p) is.0 program is.1 held) s.1,
+        handed_over tells.writes before after out s.0 page.0 old new told_old told_new status s.2 s.3 page.2,
       );
   finishes = λ words p out tells before after program old new told_old told_new status asks held ends two.
       let page = page_printed 2 (omega arith) (IsMadeSmaller tells.writes before after p out) (IsShrinkFile tells.reads p out before after) want.Refused false before after old new told_old told_new status
       (shrink_ends words p out tells before after old new told_old told_new status asks ends) two in
       let is = unshrunk_page tells.writes before after p out page.0 page.1 in
-      subst CanFinish (all_are (before p) is.0 program is.1 held) is.2;
+      subst IsUnhung (all_are (before p) is.0 program is.1 held) is.2;
   never_safe = λ words p out tells before after old new told_old told_new status asks ends zero.
       let page = page_printed 0 (omega arith) (IsMadeSmaller tells.writes before after p out) (IsShrinkFile tells.reads p out before after) want.Refused false before after old new told_old told_new status
       (shrink_ends words p out tells before after old new told_old told_new status asks ends) zero in
@@ -595,7 +617,7 @@ asked_told : (words : List Text) (tells : FilesTold) (before after : List ℕ �
 asked_told words tells before after old new told_old told_new status (to_prove p out workers depth budget progress json) asks ends says =
     inl (
       p,
-      inl (out, budget, progress, json, (workers, depth, asks)),
+      (out, budget, progress, json, (workers, depth, asks)),
       λ program held.
           let page = search_that_told p out budget progress json tells before after old new told_old told_new status (inl ends.1) says in
           prove_shows tells.writes before after p out budget json page.0 page.1 program page.2 page.3 held,
@@ -618,22 +640,26 @@ asked_told words tells before after old new told_old told_new status (to_replay 
           let page = deadlock_page (IsReplayed lines (before p) (before e)) (IsEither tells.reads p e) want.Refused false before after old new told_old told_new status ends.1 says in
           replayed_shows lines (before p) (before e) page.0 page.1 program evidence page.2 page.3 held_p held_e,
     ))
-asked_told words tells before after old new told_old told_new status (to_explain p None workers depth budget form) asks ends says =
-    inl (
+asked_told words tells before after old new told_old told_new status (to_explain p None workers depth budget form map) asks ends says =
+    inr (inr (inr (
       p,
-      inr (budget, form, (workers, depth, asks)),
+      inr (budget, form, (workers, depth, map, asks)),
       λ program held.
-          let page = deadlock_page (IsSearched (before p) budget form) (IsProgram tells.reads p) want.Unknown (is_object form) before after old new told_old told_new status ends.1 says in
-          searched_shows (before p) budget form page.0 page.1 program page.2 page.3 held,
-    )
-asked_told words tells before after old new told_old told_new status (to_explain p (Some e) workers depth budget form) asks ends says =
+          let IsPage = IsDecidedFirst (before p) budget form in
+          let page = deadlock_page (IsMapped before form map IsPage) (IsMappedFile tells.reads p map (IsProgram tells.reads p)) want.Unknown (is_object form) before after old new told_old told_new status ends.1 says in
+          let plain = unmapped_told before form map IsPage page.0 page.1 page.2 page.3 in
+          first_shows (before p) budget form plain.0 page.1 program plain.1 plain.2 held,
+    )))
+asked_told words tells before after old new told_old told_new status (to_explain p (Some e) workers depth budget form map) asks ends says =
     inr (inl (
       p,
       e,
-      inr (inr (inl (form, (budget, (workers, depth, asks))))),
+      inr (inr (inl (form, (budget, (workers, depth, map, asks))))),
       λ program evidence held_p held_e.
-          let page = deadlock_page (IsExplained (before p) (before e) form) (IsEither tells.reads p e) want.Refused (is_object form) before after old new told_old told_new status ends.1 says in
-          explained_shows (before p) (before e) form page.0 page.1 program evidence page.2 page.3 held_p held_e,
+          let IsPage = IsExplained (before p) (before e) form in
+          let page = deadlock_page (IsMapped before form map IsPage) (IsMappedFile tells.reads p map (IsEither tells.reads p e)) want.Refused (is_object form) before after old new told_old told_new status ends.1 says in
+          let plain = unmapped_told before form map IsPage page.0 page.1 page.2 page.3 in
+          explained_shows (before p) (before e) form plain.0 page.1 program evidence plain.1 plain.2 held_p held_e,
     ))
 asked_told words tells before after old new told_old told_new status (to_export p e out) asks ends says =
     inr (inl (
@@ -660,14 +686,12 @@ asked_told words tells before after old new told_old told_new status (to_shrink 
           let page = deadlock_page (IsMadeSmaller tells.writes before after p out) (IsShrinkFile tells.reads p out before after) want.Refused false before after old new told_old told_new status ends.1 says in
           shrunk_hangs tells.writes before after p out page.0 page.1 program page.2 page.3 held,
     )))
-asked_told words tells before after old new told_old told_new status (to_decide p out as_json) asks ends says =
+asked_told words tells before after old new told_old told_new status (to_decide p out progress as_json) asks ends says =
     inr (inr (inr (
       p,
-      out,
-      as_json,
-      asks,
+      inl (out, progress, as_json, asks),
       λ program held.
-          let page = deadlock_page (IsDecidedPage tells.writes before after p out as_json) (IsDecideFile tells.reads p out before after) want.Unknown as_json before after old new told_old told_new status ends.1 says in
+          let page = deadlock_page (IsDecidedPage tells.writes before after p out as_json) (IsDecideFile tells.reads p out before after) want.Unknown as_json before after old new ends.1.0 told_new status ends.1.2 says in
           decided_hangs tells.writes before after p out as_json page.0 page.1 program page.2 page.3 held,
     )))
 

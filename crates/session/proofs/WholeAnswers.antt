@@ -2,7 +2,7 @@
 use Rattle.std.proofs.Common.{ℕ, Bool, true, false, List, inl, inr}
 use Rattle.settings.specs.declared.form.Form.{Form}
 use Rattle.checker.specs.declared.reason.Reason.{Reason}
-use Rattle.prover.specs.Answers.{Answers, CanFinish, CanHang, FinishesIfUnknown, HasNoFormulaText, Replays}
+use Rattle.prover.specs.Answers.{Answers, CanFinish, FinishesIfUnknown, HasNoFormulaText, Replays}
 use Rattle.prover.specs.declared.answer.Answer.{Answer}
 use Rattle.prover.specs.declared.answer.Answer.TheVariants as answers
 use Rattle.prover.specs.declared.steps.Replayed.{Replayed}
@@ -16,18 +16,12 @@ use Rattle.reports.specs.declared.explained.Explained.TheVariants as explanation
 use Rattle.reports.specs.declared.trimmed.Shortened.{Shortened}
 use Rattle.reports.specs.declared.trimmed.Untrimmed.{Untrimmed}
 use Rattle.reports.specs.declared.trimmed.Untrimmed.TheVariants as untrimmed
-use Rattle.shrinking.specs.Shrinking.{IsNotShrunk, IsShrunk}
-use Rattle.shrinking.specs.declared.driving.NotShrunk.{NotShrunk}
-use Rattle.shrinking.specs.declared.driving.NotShrunk.TheVariants as unshrunk
-use Rattle.session.specs.Pages.{HasTextOfFormula, IsAnswerPage, IsFound}
+use Rattle.session.specs.Pages.{HasTextOfFormula}
 use Rattle.session.specs.Texts.{AreAlikeEvidences, AreAlikePrograms, IsStray, IsTooLarge}
 use Rattle.session.proofs.StrayEvidences.{fault_of_stray, no_evidence}
 use Rattle.session.proofs.WholeTexts.{large_program_reason, large_reason, no_program, none_refuted, none_refutes, none_shown, none_shows, of_both, of_evidence, of_program, stray_reason}
 
 -- ---- answers
-
-none_hangs : (program : List ℕ) → IsTooLarge program → CanHang program → ⊥
-none_hangs program large hangs = no_program program hangs.p large hangs.text
 
 none_finishes : (program : List ℕ) → IsTooLarge program → CanFinish program → ⊥
 none_finishes program large finishes = no_program program finishes.p large finishes.text
@@ -107,22 +101,6 @@ whole_explanation form program whole_program evidence whole_evidence x =
     of_both (λ (p e : List ℕ). Explains form p e x) program whole_program evidence whole_evidence
     (large_explanation form program whole_program evidence x) (stray_explanation form whole_program evidence whole_evidence x)
 
-none_found : (form : Form) (program evidence text : List ℕ) (status : ℕ) → IsTooLarge program → IsFound form program evidence text status → ⊥
-none_found form program evidence text status large (inl safe) = none_refuted program evidence large safe.1.0
-none_found form program evidence text status large (inr hangs) = none_shown program evidence large hangs.1.0
-
-large_page : (form : Form) (read whole : List ℕ) (a : Answer) (text : List ℕ) (status : ℕ) → IsTooLarge read → IsTooLarge whole → IsAnswerPage form read a text status
-    → IsAnswerPage form whole a text status
-large_page form read whole (answers.NoDeadlock evidence) text status large all is = absurd (none_found form read evidence text status large is)
-large_page form read whole (answers.Deadlock evidence) text status large all is = absurd (none_found form read evidence text status large is)
-large_page form read whole (answers.Unknown why) text status large all is = is
-large_page form read whole (answers.Refused reason) text status large all is = is
-
-pub whole_page : (form : Form) (read whole : List ℕ) (a : Answer) (text : List ℕ) (status : ℕ) → AreAlikePrograms read whole → IsAnswerPage form read a text status
-    → IsAnswerPage form whole a text status
-whole_page form read whole a text status =
-    of_program (λ (program : List ℕ). IsAnswerPage form program a text status) read whole (large_page form read whole a text status)
-
 -- ---- proofs
 
 large_proof : (read whole evidence text : List ℕ) → IsTooLarge read → IsTooLarge whole → Exports read evidence text → Exports whole evidence text
@@ -151,28 +129,3 @@ stray_untrimmed read whole untrimmed.NotRefutation stray all is = absurd (no_evi
 
 pub whole_untrimmed : (read whole : List ℕ) (why : Untrimmed) → AreAlikeEvidences read whole → IsWhyUntrimmed read why → IsWhyUntrimmed whole why
 whole_untrimmed read whole why = of_evidence (λ (text : List ℕ). IsWhyUntrimmed text why) read whole (stray_untrimmed read whole why)
-
--- ---- smaller programs
-
-large_hangs : (read whole : List ℕ) → IsTooLarge read → IsTooLarge whole → CanHang read → CanHang whole
-large_hangs read whole large all hangs = absurd (none_hangs read large hangs)
-
-pub whole_hangs : (read whole : List ℕ) → AreAlikePrograms read whole → CanHang read → CanHang whole
-whole_hangs read whole = of_program CanHang read whole (large_hangs read whole)
-
--- a program that hangs is made smaller
-abbrev IsMade : List ℕ → List ℕ → Type 0
-IsMade smaller text = CanHang text × IsShrunk text smaller
-
-large_made : (read whole smaller : List ℕ) → IsTooLarge read → IsTooLarge whole → IsMade smaller read → IsMade smaller whole
-large_made read whole smaller large all made = absurd (none_hangs read large made.0)
-
-pub whole_shrunk : (read whole smaller : List ℕ) → AreAlikePrograms read whole → CanHang read → IsShrunk read smaller → IsShrunk whole smaller
-whole_shrunk read whole smaller alike hangs shrunk = (of_program (IsMade smaller) read whole (large_made read whole smaller) alike (hangs, shrunk)).1
-
-large_unshrunk : (read whole : List ℕ) (why : NotShrunk) → IsTooLarge read → IsTooLarge whole → IsNotShrunk read why → IsNotShrunk whole why
-large_unshrunk read whole unshrunk.NothingHangs large all is = absurd (none_finishes read large is)
-large_unshrunk read whole (unshrunk.Refused reason) large all is = large_program_reason read whole reason large all is
-
-pub whole_unshrunk : (read whole : List ℕ) (why : NotShrunk) → AreAlikePrograms read whole → IsNotShrunk read why → IsNotShrunk whole why
-whole_unshrunk read whole why = of_program (λ (text : List ℕ). IsNotShrunk text why) read whole (large_unshrunk read whole why)

@@ -3,6 +3,7 @@ ghost use Rattle.std.specs.Prelude.{◌≡◌, IfErr, IfOk, OnOk, Some, false, o
 ghost use Rattle.deciding.specs.Decisions.{IsDecided};
 ghost use Rattle.deciding.specs.Schedules.{schedule_text};
 ghost use Rattle.files.specs.Contents.{AreAll};
+ghost use Rattle.session.specs.Endings.{IsFollowedRun};
 ghost use Rattle.session.specs.Lines.{IsLine};
 ghost use Rattle.session.specs.Pages.{ChangesAtMost, IsDecidedPage, IsDecideFile, IsDecisionPage, IsProgram, IsRacePage, IsScheduled, IsScheduleFile, IsWritten, StopsBy};
 
@@ -12,21 +13,43 @@ use crate::racing::race_text;
 use crate::status::UNKNOWN;
 use crate::told::Told;
 use calltext::read_long;
-use deciding::{Decision, Race, Undecided, decide, schedule_text};
+use deciding::{Decision, Race, Undecided, decide, decide_telling, schedule_text};
 use explain::line_numbers;
 use files::{Extent, FileSet};
 use prooflog::Text;
 use semantics::Step;
 use std::alloc::{AllocError, Global};
+use std::io::Write;
 
-/// Decides by one run whether some run of the program of a file gets stuck, and writes the schedule of a deadlock to a file
-/// where one is named. The page is made before the file is, so that no file changes where memory runs out.
-pub fn decide_page<'a, F: FileSet>(
+/// Decides by one run whether some run of the program of a text gets stuck, and tells meanwhile how far it is, where that is asked
+/// for.
+fn decided<E: Write>(
+    alloc: Global,
+    text: &[u8],
+    progress: bool,
+    err: &mut E,
+) -> Result<Decision, Undecided>
+    ensures decided { IsDecided text.now result }
+    ensures followed { IsFollowedRun progress (Some text.now) (E.contents err.old) (E.contents err.new) }
+{
+    if progress {
+        decide_telling(alloc, text, err)
+    } else {
+        decide(alloc, text)
+    }
+}
+
+/// Decides by one run whether some run of the program of a file gets stuck, tells meanwhile how far it is, where that is asked for, and
+/// writes the schedule of a deadlock to a file where one is named. The page is made before the file is, so that no file changes where
+/// memory runs out.
+pub fn decide_page<'a, F: FileSet, E: Write>(
     alloc: Global,
     program: &'a str,
     out: Option<&'a str>,
+    progress: bool,
     json: bool,
     files: &mut F,
+    err: &mut E,
 ) -> Result<Page, Stop<'a>>
     ensures page { IfOk result (λ page.
         IsDecidedPage F.tells_written (F.held files.old) (F.held files.new) program.entry.now
@@ -35,14 +58,15 @@ pub fn decide_page<'a, F: FileSet>(
     ensures stop { IfErr result (StopsBy
         (IsDecideFile (F.reads files.old) program.entry.now (option_map (λ path. path.now) out.entry) (F.held files.old) (F.held files.new))
         (F.held files.old) (F.held files.new)) }
+    ensures followed { IsFollowedRun progress (F.held files.old program.entry.now) (E.contents err.old) (E.contents err.new) }
 {
     let text = read_whole(alloc, program, files)?;
-    let decided = decide(alloc, &text);
-    decision_page(alloc, &text, &decided, out, json, files)
+    let decision = decided(alloc, &text, progress, err);
+    decision_page(alloc, &text, &decision, out, json, files)
 }
 
 /// The whole content of the file at a path.
-fn read_whole<'a, F: FileSet>(
+pub fn read_whole<'a, F: FileSet>(
     alloc: Global,
     path: &'a str,
     files: &mut F,
@@ -105,7 +129,7 @@ fn deadlock_page<'a, F: FileSet>(
 }
 
 /// The page of a race of the program of this text: the line that tells it, and the line of its calls, or one JSON object.
-fn race_page(alloc: Global, text: &[u8], race: Race, json: bool) -> Result<Page, AllocError>
+pub fn race_page(alloc: Global, text: &[u8], race: Race, json: bool) -> Result<Page, AllocError>
     ensures { IfOk result (λ page. IsRacePage json text.now race page.text.items page.status) }
 {
     // The program was made of this text, so want of memory alone can be met.

@@ -128,18 +128,19 @@ pub fn proved_unknown_finishes()
 {}
 
 /// Where words ask to explain a program, and the run printed the line that tells a deadlock or ended with the status 1, the evidence that
-/// they name shows a stuck run of it; and where they name none, some evidence does.
+/// they name shows a stuck run of it; and where they name none, some steps are a run of it that gets stuck.
 pub fn explained_deadlock_is_shown()
     ensures { ExplainedDeadlockIsShown }
 {}
 
-/// Where words ask to explain a program, by an evidence or by a search, and the run ended with the status 0, no run of the program ends stuck.
+/// Where words ask to explain a program, and the run ended with the status 0, no run of the program ends stuck; where they name no evidence,
+/// the program may have any length.
 pub fn explained_safety_is_true()
     ensures { ExplainedSafetyIsTrue }
 {}
 
-/// Where it ended with the status 2, the words name no evidence; and with a budget above 0 some run of the program ends with all ranks
-/// finished.
+/// Where it ended with the status 2, the words name no evidence, and messages may race; and with a budget above 0 some run of the program ends
+/// with all ranks finished, or the program is refused as too large for a search.
 pub fn explained_unknown_finishes()
     ensures { ExplainedUnknownFinishes }
 {}

@@ -5,10 +5,13 @@
 mod advice;
 mod commands;
 mod decide;
+mod explained;
 mod laws;
+mod mapped;
 mod page;
 mod racing;
 mod run;
+mod shrunk;
 mod status;
 mod told;
 

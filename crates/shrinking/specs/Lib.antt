@@ -1,1 +1,2 @@
 pub mod Shrinking
+pub mod Laws

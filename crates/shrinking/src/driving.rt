@@ -19,7 +19,8 @@ use std::alloc::{AllocError, Global};
 pub struct Shrunk {
     /// The text. Its program has a run that ends stuck.
     pub text: Vec<u8>,
-    /// Whether all was tried: with any one line or rank left out, and what belongs to it, no walk ends stuck.
+    /// Whether all was tried: with any one line or rank left out, and what belongs to it, what was
+    /// tried no longer ends stuck.
     pub complete: bool,
 }
 
@@ -123,7 +124,8 @@ fn leave_out(alloc: Global, text: &mut Vec<u8>, left: &mut u32) -> Result<(), Al
     Ok(())
 }
 
-/// The text with ranks and lines left out, again and again until nothing more can be left out or no walk is left.
+/// The text with ranks and lines left out, again and again until nothing more can be left out or no
+/// walk is left.
 fn leave_out_all(alloc: Global, text: &[u8], walks: u32) -> Result<Shrunk, AllocError>
     requires { CanHang text.now }
     ensures { IfOk result (λ shrunk. IsShrunk text.now shrunk.text.items) }
@@ -145,11 +147,13 @@ fn leave_out_all(alloc: Global, text: &[u8], walks: u32) -> Result<Shrunk, Alloc
     })
 }
 
-/// A smaller program's text, which still has a run that ends stuck: no longer than the one given, and with no more lines.
-/// Ranks are left out, with all lines that name them, and higher ones numbered anew; then lines, first many that follow one
-/// another at once. With a start goes its wait, with a matched probe its receive. Each candidate is read like any other
-/// text, and taken where some walk of its program ends stuck. At most so many walks are taken, or few more; once none are left, the
-/// smallest text so far is the answer. A text of which no walk ends stuck has none.
+/// A smaller program's text, which still has a run that ends stuck: no longer than the one given,
+/// and with no more lines. Ranks are left out, with all lines that name them, and higher ones
+/// numbered anew; then lines, first many that follow one another at once. With a start goes its
+/// wait, with a matched probe its receive. Each candidate is read like any other text, and taken
+/// where some walk of its program ends stuck. At most so many walks are taken, or few more; once
+/// none are left, the smallest text so far is the answer. A text of which no walk ends stuck has
+/// none.
 pub fn shrink(alloc: Global, text: &[u8], walks: u32) -> Result<Shrunk, NotShrunk>
     ensures shrunk { IfOk result (λ shrunk. IsShrunk text.now shrunk.text.items) }
     ensures given { IfOk result (λ shrunk. CanHang text.now) }

@@ -45,6 +45,15 @@ pub fn verb_of(words: &[&[u8]]) -> Option<Verb> {
     Verb::find(first)
 }
 
+/// For how many calls a call line of these words stands.
+pub fn count_calls(words: &[&[u8]]) -> usize {
+    match verb_of(words) {
+        Some(Verb::WaitAll) => words.len().saturating_sub(1),
+        Some(Verb::SendReceive) => 4,
+        _ => 1,
+    }
+}
+
 /// Adds a line.
 pub fn put_line(out: &mut Vec<u8>, line: &[u8]) -> Result<(), AllocError> {
     out.extend_from_slice(line)?;

@@ -1,23 +1,12 @@
 //! Which call lines are left out together: those of a send and of the call that may take its message.
 
-use crate::lines::{is_call, lines_of, verb_of};
+use crate::lines::{count_calls, is_call, lines_of};
 use callorder::{Kind, Program};
-use calltext::Verb;
 use plaintext::words_of;
 use std::alloc::{AllocError, Global};
 
 /// The number of a line that is never left out for its own sake: a wait, or a receive on a handle.
 pub const FOLLOWS: usize = usize::MAX;
-
-/// For how many calls a call line stands.
-fn count_parts(alloc: Global, line: &[u8]) -> Result<usize, AllocError> {
-    let words = words_of(alloc, line)?;
-    Ok(match verb_of(&words) {
-        Some(Verb::WaitAll) => words.len().saturating_sub(1),
-        Some(Verb::SendReceive) => 4,
-        _ => 1,
-    })
-}
 
 /// For each call the place of its line, from 0, among the call lines of all ranks.
 fn places_of(alloc: Global, text: &[u8]) -> Result<Vec<usize>, AllocError> {
@@ -26,7 +15,8 @@ fn places_of(alloc: Global, text: &[u8]) -> Result<Vec<usize>, AllocError> {
     let mut place = 0usize;
     for line in lines.iter() {
         if is_call(line) {
-            put_copies(&mut places, place, count_parts(alloc, line)?)?;
+            let words = words_of(alloc, line)?;
+            put_copies(&mut places, place, count_calls(&words))?;
             place = place.saturating_add(1);
         }
     }

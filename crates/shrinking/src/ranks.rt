@@ -1,11 +1,12 @@
-//! Texts without one of their ranks.
+//! Texts without some of their ranks, and how the others are numbered then.
 
-use crate::lines::{is_rank, lines_of, verb_of};
+use crate::lines::{count_ranks, is_rank, lines_of, verb_of};
 use calltext::Verb;
 use plaintext::{number_of, put_number, words_of};
 use std::alloc::{AllocError, Global};
 
-/// At which places, from 0, the words of a line may name ranks, or how many ranks there are; 0 where there is no such place.
+/// At which places, from 0, the words of a line may name ranks, or how many ranks there are; 0
+/// where there is no such place.
 fn rank_places(words: &[&[u8]]) -> (usize, usize) {
     match verb_of(words) {
         Some(Verb::Send { started, .. } | Verb::Receive { started }) => {
@@ -34,40 +35,79 @@ fn names(words: &[&[u8]], rank: u32) -> bool {
     rank_at(words, one) == Some(rank) || rank_at(words, other) == Some(rank)
 }
 
-/// Adds a word, where it names a rank as it is numbered once this one is left out.
+/// The rank whose heading a line of these words is.
+pub fn heading_rank(words: &[&[u8]]) -> Option<u32> {
+    rank_at(words, 1)
+}
+
+/// For each rank the number that it gets once these are left out, and behind the last one how many
+/// stay.
+pub fn new_numbers(alloc: Global, left_out: &[bool]) -> Result<Vec<u32>, AllocError> {
+    let mut numbers = Vec::new(alloc);
+    let mut kept = 0u32;
+    for is_out in left_out {
+        numbers.push(kept)?;
+        if !*is_out {
+            kept = kept.saturating_add(1);
+        }
+    }
+    numbers.push(kept)?;
+    Ok(numbers)
+}
+
+/// The new number of the rank that the word at this place names, if it names one.
+fn new_number(words: &[&[u8]], place: usize, numbers: &[u32]) -> Option<u32> {
+    let (one, other) = rank_places(words);
+    if place != one && place != other {
+        return None;
+    }
+    let rank = rank_at(words, place)?;
+    numbers.get(rank as usize).copied()
+}
+
+/// Adds a word, where it names a rank by the new number.
 fn put_word(
     out: &mut Vec<u8>,
     words: &[&[u8]],
     place: usize,
     word: &[u8],
-    rank: u32,
+    numbers: &[u32],
 ) -> Result<(), AllocError> {
-    let (one, other) = rank_places(words);
-    let named = if place == one || place == other {
-        rank_at(words, place)
-    } else {
-        None
-    };
-    match named {
-        Some(number) if number > rank => put_number(out, number - 1),
-        _ => out.extend_from_slice(word),
+    match new_number(words, place, numbers) {
+        Some(number) => put_number(out, number),
+        None => out.extend_from_slice(word),
     }
 }
 
-/// Adds a line, with ranks as they are numbered once this one is left out.
-fn put_renumbered(out: &mut Vec<u8>, words: &[&[u8]], rank: u32) -> Result<(), AllocError> {
+/// Adds a line of these words, in which ranks, and how many there are, have their new numbers.
+pub fn put_renumbered(
+    out: &mut Vec<u8>,
+    words: &[&[u8]],
+    numbers: &[u32],
+) -> Result<(), AllocError> {
     for (place, word) in words.iter().enumerate() {
         if place > 0 {
             out.push(b' ')?;
         }
-        put_word(out, words, place, word, rank)?;
+        put_word(out, words, place, word, numbers)?;
     }
     out.push(b'\n')?;
     Ok(())
 }
 
-/// The text without the rank of this number, from 0: without its lines and those that name it. Higher ranks are numbered anew.
+/// The new numbers of the text's ranks once this one is left out.
+fn numbers_without(alloc: Global, text: &[u8], rank: u32) -> Result<Vec<u32>, AllocError> {
+    let mut left_out = vec![in alloc; false; count_ranks(alloc, text)?]?;
+    if let Some(mark) = left_out.get_mut(rank as usize) {
+        *mark = true;
+    }
+    new_numbers(alloc, &left_out)
+}
+
+/// The text without the rank of this number, from 0: without its lines and those that name it.
+/// Higher ranks are numbered anew.
 pub fn without_rank(alloc: Global, text: &[u8], rank: u32) -> Result<Vec<u8>, AllocError> {
+    let numbers = numbers_without(alloc, text, rank)?;
     let lines = lines_of(alloc, text)?;
     let mut out = Vec::with_capacity(alloc, text.len())?;
     let mut inside = false;
@@ -77,7 +117,7 @@ pub fn without_rank(alloc: Global, text: &[u8], rank: u32) -> Result<Vec<u8>, Al
             inside = names(&words, rank);
         }
         if !inside && !line.is_empty() && !names(&words, rank) {
-            put_renumbered(&mut out, &words, rank)?;
+            put_renumbered(&mut out, &words, &numbers)?;
         }
     }
     Ok(out)

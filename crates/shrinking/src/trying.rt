@@ -30,7 +30,7 @@ fn hangs(alloc: Global, text: &[u8], left: &mut u32) -> Result<bool, AllocError>
 }
 
 /// Whether the one text is shorter than the other, and has no more lines.
-fn is_smaller(one: &[u8], other: &[u8]) -> bool
+pub fn is_smaller(one: &[u8], other: &[u8]) -> bool
     ensures bytes { IsTrue result → length one.now < length other.now }
     ensures lines { IsTrue result → count_lines one.now ≤ count_lines other.now }
 {

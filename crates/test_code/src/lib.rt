@@ -1,8 +1,10 @@
 //! Tests that are code, since they need threads, gates, a clock or files that fail, or values that no text can name: what refutations are made
-//! of, cubes that several workers steal, workers over shares that lie, searches that a gate holds back, exported proofs by a plain checker that
+//! of, what is known of messages, cubes that several workers steal, workers over shares that lie, searches that a gate holds back, exported proofs by a plain checker that
 //! shares no code with what is tested, and runs of the session over files in memory.
 #![tactic(auto)]
 
+#[cfg(test)]
+mod columns;
 #[cfg(test)]
 mod deques;
 #[cfg(test)]

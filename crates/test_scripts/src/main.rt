@@ -1,6 +1,6 @@
 //! Judges scripts of calls: each line of a file is a call with its reply beside it. Each row that doesn't hold is printed, and
 //! at the end how many hold. A word that names no file of calls names one call of the library, which is made once, and once more where memory
-//! is refused to it: `./refusals library` does that. Where there is enough, it is answered as it should be.
+//! is refused to it: `tests/refusals library` does that. Where there is enough, it is answered as it should be.
 #![tactic(auto)]
 
 mod beside;

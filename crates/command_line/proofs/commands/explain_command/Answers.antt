@@ -11,4 +11,5 @@ returns c =
     let seven = c.with-command-7.ensures _ _ six c.dot.ensures in
     let eight = c.with-command-8.ensures _ _ seven c.chart.ensures in
     let nine = c.with-command-9.ensures _ _ eight c.svg.ensures in
-    c.with.ensures _ _ nine c.object.ensures
+    let ten = c.with-command-10.ensures _ _ nine c.object.ensures in
+    c.with.ensures _ _ ten c.map.ensures

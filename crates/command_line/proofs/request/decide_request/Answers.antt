@@ -11,6 +11,7 @@ returns c =
         given_by_rows m _ c.get_str.result c.get_str.ensures
             ∙ ap (option_map (λ s. s.now)) c.in_ok-get_str.was,
         given_by_rows m _ c.get_str-2.result c.get_str-2.ensures,
+        c.is_set-progress.ensures,
         c.is_set-json.ensures,
       );
     }

@@ -14,5 +14,6 @@ returns c =
         c.in_ok-options_of.ensures.depth,
         c.in_ok-options_of.ensures.budget,
         c.form_of.ensures,
+        given_by_rows m _ c.get_str-3.result c.get_str-3.ensures,
       );
     }

@@ -2,7 +2,9 @@
 use Rattle.std.proofs.Common.{IfErr, IfOk, ℕ, List, Bool, Result, Ok, Err, inl, inr, option_map, subst}
 use Rattle.std.specs.Prelude.{Option}
 use Rattle.session.specs.Endings.{Ends, Finishes}
-use Rattle.session.specs.Pages.{IsChecked, IsDecidedPage, IsDecideFile, IsEither, IsEncoded, IsExplainFile, IsExplainPage, IsExported, IsExportFile, IsProveFile, IsProgram, IsProved, IsReplayed, IsMadeSmaller, IsShrinkFile, IsTrimFile, IsTrimmed, StopsBy, is_object}
+use Rattle.session.specs.Mapping.{IsMapped, IsMappedFile}
+use Rattle.session.specs.Pages.{IsChecked, IsDecidedPage, IsDecideFile, IsEither, IsEncoded, IsExplainFile, IsExplainPage, IsExported, IsExportFile, IsProveFile, IsProgram, IsProved, IsReplayed, IsTrimFile, IsTrimmed, StopsBy, is_object}
+use Rattle.session.specs.Shrinking.{IsMadeSmaller, IsShrinkFile}
 use Rattle.session.specs.declared.commands.Stop.{Stop}
 use Rattle.session.specs.declared.commands.Stop.TheVariants as stop
 use Rattle.session.specs.declared.page.Page.{Page}
@@ -71,21 +73,23 @@ returns-in-Replay g c =
 pub returns-in-Explain : goal.returns-in-Explain
 returns-in-Explain g c =
     let before = g.F.FileSet.held c.args.files.now in
-    let after = g.F.FileSet.held c.explain_page-page.new.files in
+    let after = g.F.FileSet.held c.mapped_page-page.new.files in
     let program = c.in-Explain.program.now in
     let evidence = option_map (λ path. path.now) c.in-Explain.evidence in
-    let IsPage = IsExplainPage before program evidence c.in-Explain.options.budget c.in-Explain.form in
-    let IsFile = IsExplainFile (g.F.FileSet.reads c.args.files.now) program evidence in
+    let map = option_map (λ path. path.now) c.in-Explain.map in
+    let reads = g.F.FileSet.reads c.args.files.now in
+    let IsPage = IsMapped before c.in-Explain.form map (IsExplainPage before program evidence c.in-Explain.options.budget c.in-Explain.form) in
+    let IsFile = IsMappedFile reads program map (IsExplainFile reads program evidence) in
     let told_new = g.E.Write.contents c.finish-in-Explain.new.err in
     let new = g.O.Write.contents c.finish-in-Explain.new.out in
     let told_old = g.E.Write.contents c.args.err.now in
     let old = g.O.Write.contents c.args.out.now in
     rw c.in-Explain.is (
-      c.explain_page-page.ensures.same,
+      c.mapped_page-page.ensures.same,
       subst (λ (w : Want). Ends IsPage IsFile w (is_object c.in-Explain.form) before after old new told_old told_new c.finish-in-Explain.result) c.explain_want.ensures
           (subst (λ (j : Bool). Ends IsPage IsFile c.explain_want.result j before after old new told_old told_new c.finish-in-Explain.result) c.is_object.ensures
           (ended IsPage IsFile _ _ _ before after _ _ _ _ _
-          c.explain_page-page.ensures.page c.explain_page-page.ensures.stop c.finish-in-Explain.ensures)),
+          c.mapped_page-page.ensures.page c.mapped_page-page.ensures.stop c.finish-in-Explain.ensures)),
     )
 
 pub returns-in-Export : goal.returns-in-Export
@@ -123,9 +127,13 @@ returns-in-Decide g c =
     let file = option_map (λ path. path.now) c.in-Decide.file in
     rw c.in-Decide.is (
       c.decide_page-page.ensures.others,
-      ended (IsDecidedPage g.F.FileSet.tells_written before after program file c.in-Decide.json) (IsDecideFile (g.F.FileSet.reads c.args.files.now) program file before after) _ _ _
-          before after _ _ _ _ _
-          c.decide_page-page.ensures.page c.decide_page-page.ensures.stop c.finish-in-Decide.ensures,
+      (
+        g.E.Write.contents c.decide_page-page.new.err,
+        c.decide_page-page.ensures.followed,
+        ended (IsDecidedPage g.F.FileSet.tells_written before after program file c.in-Decide.json) (IsDecideFile (g.F.FileSet.reads c.args.files.now) program file before after) _ _ _
+            before after _ _ _ _ _
+            c.decide_page-page.ensures.page c.decide_page-page.ensures.stop c.finish-in-Decide.ensures,
+      ),
     )
 
 pub returns-in-Trim : goal.returns-in-Trim

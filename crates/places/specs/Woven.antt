@@ -1,0 +1,82 @@
+-- A text with the places of the lines that it names.
+use Rattle.std.specs.Prelude.{◌≡◌, ◌⊎◌, ◌==◌, ◌||◌, ℕ, nat_lt, if◌then◌else◌, List, [], ◌∷◌, ◌++◌, codes}
+use Rattle.std.specs.List.{AllByRecursion, flat_map}
+use Rattle.settings.specs.declared.form.Form.{Form}
+use Rattle.settings.specs.declared.form.Form.TheVariants as forms
+use Rattle.places.specs.Maps.{HasEntry}
+
+-- what stands before the number of a line that is named
+abbrev pub marker : Form → List ℕ
+marker forms.Object = codes "\"line\":"
+marker forms.Brief = codes "line "
+marker forms.Whole = codes "line "
+marker forms.Graph = codes "line "
+marker forms.Chart = codes "line "
+marker forms.Picture = codes "line "
+
+-- what stands for a byte in a text, in quotes, or in a picture: a question mark where it isn't printable ASCII
+abbrev pub plain_byte : ℕ → List ℕ
+plain_byte byte = if nat_lt byte 32 || nat_lt 126 byte then 63 ∷ [] else byte ∷ []
+
+abbrev pub quoted_byte : ℕ → List ℕ
+quoted_byte byte = if byte == 34 || byte == 92 then 92 ∷ byte ∷ [] else plain_byte byte
+
+abbrev pub drawn_byte : ℕ → List ℕ
+drawn_byte byte = if byte == 38 then codes "&amp;" else if byte == 60 then codes "&lt;" else if byte == 62 then codes "&gt;" else plain_byte byte
+
+-- what stands for a byte in a text of this form
+abbrev pub shown : Form → ℕ → List ℕ
+shown forms.Object = quoted_byte
+shown forms.Graph = quoted_byte
+shown forms.Picture = drawn_byte
+shown forms.Brief = plain_byte
+shown forms.Whole = plain_byte
+shown forms.Chart = plain_byte
+
+-- what stands before the words of a place, and behind them
+abbrev pub opening : Form → List ℕ
+opening forms.Object = codes ",\"place\":\""
+opening _ = codes " ("
+
+abbrev pub closing : Form → List ℕ
+closing forms.Object = codes "\""
+closing _ = codes ")"
+
+-- what a text of this form tells of the words of a map: all in an object, and in another no more than up to a mark ` < `, behind which
+-- callers stand
+abbrev pub IsTold : Form → List ℕ → List ℕ → Type 0
+IsTold forms.Object words told = told ≡ words
+IsTold _ words told = (told ≡ words) ⊎ ((callers : List ℕ) × (words ≡ told ++ (codes " < " ++ callers)))
+
+-- what is added behind the number of a line of which these words are told
+abbrev pub place_text : Form → List ℕ → List ℕ
+place_text form words = opening form ++ (flat_map (shown form) words ++ closing form)
+
+-- a part of the text, and what is added behind it
+pub record Piece : Type 0 where
+  pub kept : List ℕ
+  pub added : List ℕ
+
+abbrev pub both : Piece → List ℕ
+both piece = piece.kept ++ piece.added
+
+-- the part ends with the number of a line that the map has, and what it says of that is added
+pub record IsPlaced (form : Form) (map : List ℕ) (piece : Piece) : Type 0 where
+  pub front : List ℕ
+  pub digits : List ℕ
+  pub words : List ℕ
+  pub short : List ℕ
+  pub ends : piece.kept ≡ front ++ (marker form ++ digits)
+  pub entry : HasEntry map digits words
+  pub part : IsTold form words short
+  pub told : piece.added ≡ place_text form short
+
+abbrev pub IsAdded : Form → List ℕ → Piece → Type 0
+IsAdded form map piece = (piece.added ≡ []) ⊎ IsPlaced form map piece
+
+-- the parts of the one text, with what is added behind some of them, are the other
+pub record IsWoven (form : Form) (map plain told : List ℕ) : Type 0 where
+  pub pieces : List Piece
+  pub added : AllByRecursion (IsAdded form map) pieces
+  pub plain_is : plain ≡ flat_map (λ p. p.kept) pieces
+  pub told_is : told ≡ flat_map both pieces

@@ -1,0 +1,10 @@
+//! The checksum by which a map names its text.
+
+/// The checksum of Fowler, Noll and Vo in its form `1a`, of 64 bits.
+pub fn sum_of(bytes: &[u8]) -> u64 {
+    let mut sum: u64 = 0xcbf2_9ce4_8422_2325;
+    for byte in bytes {
+        sum = (sum ^ u64::from(*byte)).wrapping_mul(0x0000_0100_0000_01b3);
+    }
+    sum
+}

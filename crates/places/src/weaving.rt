@@ -1,0 +1,162 @@
+//! A text with the places of the lines that it names.
+
+ghost use Rattle.std.specs.Prelude.{◌≡◌, ◌++◌, IfOk, List, OnOk, ℕ};
+ghost use Rattle.std.specs.List.{flat_map};
+ghost use Rattle.places.specs.Maps.{AreFrom};
+ghost use Rattle.places.specs.Woven.{IsAdded, IsTold, IsWoven, Piece, both, closing, drawn_byte, marker, opening, place_text, plain_byte, quoted_byte, shown};
+
+use crate::map::Places;
+use crate::marks::{around, digits_of};
+use settings::Form;
+use std::alloc::{AllocError, Global};
+
+/// What stands before the number of a line that a text of this form names.
+fn marker(form: Form) -> &'static [u8]
+    ensures { result.now ≡ marker form }
+{
+    match form {
+        Form::Object => b"\"line\":",
+        Form::Brief | Form::Whole | Form::Graph | Form::Chart | Form::Picture => b"line ",
+    }
+}
+
+/// Adds what stands for a byte in a text.
+fn put_plain(out: &mut Vec<u8>, byte: u8) -> Result<(), AllocError>
+    ensures { OnOk result (out.new.items ≡ out.old.items ++ plain_byte byte) }
+{
+    if byte < 32 || byte > 126 {
+        out.push(b'?')?;
+    } else {
+        out.push(byte)?;
+    }
+    Ok(())
+}
+
+/// Adds what stands for a byte in quotes.
+fn put_quoted(out: &mut Vec<u8>, byte: u8) -> Result<(), AllocError>
+    ensures { OnOk result (out.new.items ≡ out.old.items ++ quoted_byte byte) }
+{
+    if byte == b'"' || byte == b'\\' {
+        out.extend_from_slice(&[b'\\', byte])
+    } else {
+        put_plain(out, byte)
+    }
+}
+
+/// Adds what stands for a byte in a picture.
+fn put_drawn(out: &mut Vec<u8>, byte: u8) -> Result<(), AllocError>
+    ensures { OnOk result (out.new.items ≡ out.old.items ++ drawn_byte byte) }
+{
+    match byte {
+        b'&' => out.extend_from_slice(b"&amp;"),
+        b'<' => out.extend_from_slice(b"&lt;"),
+        b'>' => out.extend_from_slice(b"&gt;"),
+        byte => put_plain(out, byte),
+    }
+}
+
+/// Adds what stands for a byte in a text of this form.
+fn put_byte(out: &mut Vec<u8>, form: Form, byte: u8) -> Result<(), AllocError>
+    ensures { OnOk result (out.new.items ≡ out.old.items ++ shown form byte) }
+{
+    match form {
+        Form::Object | Form::Graph => put_quoted(out, byte),
+        Form::Picture => put_drawn(out, byte),
+        Form::Brief | Form::Whole | Form::Chart => put_plain(out, byte),
+    }
+}
+
+/// Adds the words of a place.
+fn put_words(out: &mut Vec<u8>, form: Form, words: &[u8]) -> Result<(), AllocError>
+    ensures { OnOk result (out.new.items ≡ out.old.items ++ flat_map (shown form) words.now) }
+{
+    for byte in words {
+        put_byte(out, form, *byte)?;
+    }
+    Ok(())
+}
+
+/// What a text of this form tells of the words of a map: the call and its place, and in an object its callers too.
+fn told_of<'a>(form: Form, words: &'a [u8]) -> &'a [u8]
+    ensures { IsTold form words.now result.now }
+{
+    match form {
+        Form::Object => words,
+        Form::Brief | Form::Whole | Form::Graph | Form::Chart | Form::Picture => {
+            match around(words, b" < ") {
+                Some((place, _callers)) => place,
+                None => words,
+            }
+        }
+    }
+}
+
+/// What stands before the words of a place.
+fn opening(form: Form) -> &'static [u8]
+    ensures { result.now ≡ opening form }
+{
+    match form {
+        Form::Object => b",\"place\":\"",
+        Form::Brief | Form::Whole | Form::Graph | Form::Chart | Form::Picture => b" (",
+    }
+}
+
+/// What stands behind them.
+fn closing(form: Form) -> &'static [u8]
+    ensures { result.now ≡ closing form }
+{
+    match form {
+        Form::Object => b"\"",
+        Form::Brief | Form::Whole | Form::Graph | Form::Chart | Form::Picture => b")",
+    }
+}
+
+/// Adds a place.
+fn put_place(out: &mut Vec<u8>, form: Form, words: &[u8]) -> Result<(), AllocError>
+    ensures { OnOk result (out.new.items ≡ out.old.items ++ place_text form words.now) }
+{
+    out.extend_from_slice(opening(form))?;
+    put_words(out, form, words)?;
+    out.extend_from_slice(closing(form))
+}
+
+/// Adds a part of a text that ends with the number of a line, and the place of that line, where one is known.
+fn put_piece(
+    out: &mut Vec<u8>,
+    form: Form,
+    front: &[u8],
+    digits: &[u8],
+    places: &Places<'_>,
+) -> Result<(), AllocError>
+    ensures { OnOk result ((map : List ℕ) → AreFrom map places.now → (piece : Piece) × IsAdded form map piece × (piece.kept ≡ front.now ++ (marker form ++ digits.now)) × (out.new.items ≡ out.old.items ++ both piece)) }
+{
+    out.extend_from_slice(front)?;
+    out.extend_from_slice(marker(form))?;
+    out.extend_from_slice(digits)?;
+    match places.words_at(digits) {
+        Some(words) => put_place(out, form, told_of(form, words)),
+        None => Ok(()),
+    }
+}
+
+/// A text that names lines, with their places beside them, in the form in which it was printed: in brackets behind each number of a line,
+/// without callers; in an object as the member `place` behind each member `line`. A line that the map says nothing of has none. The only error is want of
+/// memory.
+pub fn with_places(
+    alloc: Global,
+    plain: &[u8],
+    form: Form,
+    places: &Places<'_>,
+) -> Result<Vec<u8>, AllocError>
+    ensures { IfOk result (λ told. (map : List ℕ) → AreFrom map places.now → IsWoven form map plain.now told.items) }
+{
+    let mut out = Vec::new(alloc);
+    let mut rest = plain;
+    while let Some((front, behind)) = around(rest, marker(form)) {
+        let (digits, behind) = digits_of(behind);
+        put_piece(&mut out, form, front, digits, places)?;
+        rest = behind;
+    }
+    out.extend_from_slice(rest)?;
+    Ok(out)
+}

@@ -1,0 +1,110 @@
+-- What a page with the places of a map tells.
+use Rattle.std.proofs.Common.{◌≡◌, ◌∙◌, ◌⊎◌, ◌<◌, ℕ, Bool, true, false, not, ◌&&◌, ◌==◌, List, [], ◌∷◌, ◌++◌, Option, Some, None, inl, inr, refl, ap, sym, subst, arith, codes, decimal, append_assoc, get_or, drop}
+use Rattle.std.specs.List.{AllByRecursion, flat_map}
+use Rattle.calltext.proofs.Conjunctions.{and_true}
+use Rattle.settings.specs.declared.form.Form.{Form}
+use Rattle.settings.specs.declared.form.Form.TheVariants as forms
+use Rattle.places.specs.Woven.{IsAdded, IsWoven, Piece, both, marker}
+use Rattle.places.specs.declared.map.MapFault.{MapFault}
+use Rattle.places.specs.declared.map.MapFault.TheVariants as faults
+use Rattle.session.specs.Lines.{deadlock_line}
+use Rattle.session.specs.Mapping.{IsMapRefused, IsMapped}
+use Rattle.session.specs.Pages.{is_object}
+use Rattle.session.proofs.DeadlockLines.{PageTells, deadlock_begins, plainly_differs}
+
+-- the list has no letter i, which stands before each number of a line
+abbrev clean : List ℕ → Bool
+clean [] = true
+clean (b ∷ bytes) = not (b == 105) && clean bytes
+
+clean_behind : (xs ys : List ℕ) → clean (xs ++ ys) ≡ true → clean ys ≡ true
+clean_behind [] ys h = h
+clean_behind (x ∷ xs) ys h = clean_behind xs ys (and_true (not (x == 105)) (clean (xs ++ ys)) h).1
+
+marked_unclean : (form : Form) (rest : List ℕ) → clean (marker form ++ rest) ≡ true → ⊥
+marked_unclean forms.Object rest h = cc
+marked_unclean forms.Brief rest h = cc
+marked_unclean forms.Whole rest h = cc
+marked_unclean forms.Graph rest h = cc
+marked_unclean forms.Chart rest h = cc
+marked_unclean forms.Picture rest h = cc
+
+clean_deadlock : (as_json : Bool) → clean (deadlock_line as_json) ≡ true
+clean_deadlock false = refl
+clean_deadlock true = refl
+
+-- of two parts that make one list, the one begins with the other
+abbrev Cut : List ℕ → List ℕ → List ℕ → List ℕ → Type 0
+Cut xs ys zs ws = ((m : List ℕ) × (zs ≡ xs ++ m) × (ys ≡ m ++ ws)) ⊎ ((m : List ℕ) × (xs ≡ zs ++ m))
+
+cut : (xs ys zs ws : List ℕ) → xs ++ ys ≡ zs ++ ws → Cut xs ys zs ws
+cut [] ys zs ws e = inl (zs, refl, e)
+cut (x ∷ xs) ys [] ws e = inr (x ∷ xs, refl)
+cut (x ∷ xs) ys (z ∷ zs) ws e = longer (cut xs ys zs ws (ap (λ (l : List ℕ). drop 1 l) e))
+  where
+    same : x ≡ z
+    same = ap (λ (l : List ℕ). get_or l 0 0) e
+
+    longer : Cut xs ys zs ws → Cut (x ∷ xs) ys (z ∷ zs) ws
+    longer (inl (m, first, rest)) = inl (m, ap (λ (b : ℕ). b ∷ zs) (sym same) ∙ ap (λ (l : List ℕ). x ∷ l) first, rest)
+    longer (inr (m, first)) = inr (m, ap (λ (b : ℕ). b ∷ xs) same ∙ ap (λ (l : List ℕ). z ∷ l) first)
+
+-- what begins the text with the places, and has no letter i, begins the text without them
+abbrev Begins : List Piece → List ℕ → Type 0
+Begins pieces front = (rest : List ℕ) × (flat_map (λ p. p.kept) pieces ≡ front ++ rest)
+
+-- by what becomes of its first part
+begins_by : (form : Form) (map : List ℕ) (piece : Piece) (pieces : List Piece) (front rest : List ℕ) → IsAdded form map piece
+    → Cut piece.kept (piece.added ++ flat_map both pieces) front rest → clean front ≡ true
+    → ((m : List ℕ) → flat_map both pieces ≡ m ++ rest → clean m ≡ true → Begins pieces m) → Begins (piece ∷ pieces) front
+begins_by form map piece pieces front rest is (inr (m, first)) h next =
+    let more = flat_map (λ p. p.kept) pieces in
+    (m ++ more, ap (λ (l : List ℕ). l ++ more) first ∙ append_assoc front m more)
+begins_by form map piece pieces front rest (inl none) (inl (m, first, behind)) h next =
+    let found = next m (sym (ap (λ (l : List ℕ). l ++ flat_map both pieces) none) ∙ behind) (clean_behind piece.kept m (subst (λ (l : List ℕ). clean l ≡ true) first h)) in
+    (found.0, ap (λ (l : List ℕ). piece.kept ++ l) found.1 ∙ sym (append_assoc piece.kept m found.0) ∙ ap (λ (l : List ℕ). l ++ found.0) (sym first))
+begins_by form map piece pieces front rest (inr placed) (inl (m, first, behind)) h next =
+    let text : front ≡ placed.front ++ (marker form ++ (placed.digits ++ m)) =
+    first ∙ ap (λ (l : List ℕ). l ++ m) placed.ends ∙ append_assoc placed.front (marker form ++ placed.digits) m
+    ∙ ap (λ (l : List ℕ). placed.front ++ l) (append_assoc (marker form) placed.digits m) in
+    absurd (marked_unclean form (placed.digits ++ m) (clean_behind placed.front (marker form ++ (placed.digits ++ m)) (subst (λ (l : List ℕ). clean l ≡ true) text h)))
+
+woven_begins : (form : Form) (map : List ℕ) (pieces : List Piece) (front rest : List ℕ) → AllByRecursion (IsAdded form map) pieces → clean front ≡ true
+    → flat_map both pieces ≡ front ++ rest → Begins pieces front
+woven_begins form map [] [] rest added h e = ([], refl)
+woven_begins form map [] (b ∷ front) rest added h e = absurd (cc)
+woven_begins form map (piece ∷ pieces) front rest added h e =
+    begins_by form map piece pieces front rest added.0
+    (cut piece.kept (piece.added ++ flat_map both pieces) front rest (sym (append_assoc piece.kept piece.added (flat_map both pieces)) ∙ e)) h
+    (λ m behind clean_m. woven_begins form map pieces m rest added.1 clean_m behind)
+
+woven_tells : (form : Form) (map plain text : List ℕ) (status : ℕ) → IsWoven form map plain text → PageTells text status → PageTells plain status
+woven_tells form map plain text status w (inl one) = inl one
+woven_tells form map plain text status w (inr begins) =
+    let is = woven_begins form map w.pieces (deadlock_line begins.0) begins.1 w.added (clean_deadlock begins.0) (sym w.told_is ∙ begins.2) in
+    inr (begins.0, is.0, w.plain_is ∙ is.1)
+
+-- the words of a refused map begin as no deadlock's line does
+refused_untold : (json : Bool) (fault : MapFault) (text : List ℕ) (status : ℕ) → IsMapRefused json fault text status → PageTells text status → ⊥
+refused_untold json fault text status page (inl one) = omega (arith, page.1, one)
+refused_untold json faults.Memory text status page (inr begins) =
+    plainly_differs (codes "efused memory") deadlock_line 100 deadlock_begins begins.0 json text (codes "refused memory") begins.1 refl page.0 (λ e. omega (arith, e)) begins.2
+refused_untold json faults.OtherText text status page (inr begins) =
+    plainly_differs (codes "efused map of another text") deadlock_line 100 deadlock_begins begins.0 json text (codes "refused map of another text") begins.1 refl page.0 (λ e. omega (arith, e)) begins.2
+refused_untold json (faults.Line line) text status page (inr begins) =
+    plainly_differs (codes "efused map line " ++ decimal line) deadlock_line 100 deadlock_begins begins.0 json text (codes "refused map line " ++ decimal line) begins.1 refl page.0
+    (λ e. omega (arith, e)) begins.2
+
+-- a page that tells a deadlock is one without places that tells it
+pub unmapped_told : (held : List ℕ → Option (List ℕ)) (form : Form) (map : Option (List ℕ)) (IsPage : List ℕ → ℕ → Type 0) (text : List ℕ) (status : ℕ)
+    → IsMapped held form map IsPage text status → PageTells text status → (plain : List ℕ) × IsPage plain status × PageTells plain status
+unmapped_told held form None IsPage text status page tells = (text, page, tells)
+unmapped_told held form (Some path) IsPage text status (inl refused) tells = absurd (refused_untold (is_object form) refused.0 text status refused.1 tells)
+unmapped_told held form (Some path) IsPage text status (inr (map, plain, all, page, woven)) tells = (plain, page, woven_tells form map plain text status woven tells)
+
+-- and so of one with a status below 3
+pub unmapped_page : (held : List ℕ → Option (List ℕ)) (form : Form) (map : Option (List ℕ)) (IsPage : List ℕ → ℕ → Type 0) (text : List ℕ) (status : ℕ)
+    → IsMapped held form map IsPage text status → status < 3 → (plain : List ℕ) × IsPage plain status
+unmapped_page held form None IsPage text status page low = (text, page)
+unmapped_page held form (Some path) IsPage text status (inl refused) low = absurd (omega (arith, refused.1.1, low))
+unmapped_page held form (Some path) IsPage text status (inr (map, plain, all, page, woven)) low = (plain, page)

@@ -1,0 +1,173 @@
+//! Texts without some of their calls and ranks.
+
+use crate::lines::{count_calls, is_call, is_rank, lines_of, verb_of};
+use crate::ranks::{heading_rank, new_numbers, put_renumbered};
+use crate::running::Hanging;
+use crate::units::Units;
+use callorder::Call;
+use calltext::Verb;
+use plaintext::words_of;
+use std::alloc::{AllocError, Global};
+use std::ops::Range;
+
+/// The calls and the ranks that are left out of a text, each by its place, from 0.
+#[derive(Drop)]
+struct LeftOut {
+    calls: Vec<bool>,
+    ranks: Vec<bool>,
+}
+
+/// Whether the place is marked.
+fn is_marked(marks: &[bool], place: usize) -> bool {
+    marks.get(place).copied().unwrap_or(false)
+}
+
+/// Whether the number is one of these.
+fn is_within(numbers: &Range<usize>, number: usize) -> bool {
+    numbers.start <= number && number < numbers.end
+}
+
+/// For each of so many places whether it is one of these.
+fn marks_within(
+    alloc: Global,
+    count: usize,
+    marked: &Range<usize>,
+) -> Result<Vec<bool>, AllocError> {
+    let mut marks = Vec::with_capacity(alloc, count)?;
+    for place in 0..count {
+        marks.push(is_within(marked, place))?;
+    }
+    Ok(marks)
+}
+
+/// For each call whether its unit is marked.
+fn calls_of(alloc: Global, units: &Units, marks: &[bool]) -> Result<Vec<bool>, AllocError> {
+    let mut calls = Vec::with_capacity(alloc, units.of_calls.len())?;
+    for unit in units.of_calls.iter() {
+        calls.push(is_marked(marks, *unit))?;
+    }
+    Ok(calls)
+}
+
+/// Whether the call is of one of these ranks, or names one.
+fn touches(call: &Call, ranks: &Range<usize>) -> bool {
+    let destination = call.kind.message().map(|message| message.destination);
+    let source = call.kind.pattern().and_then(|pattern| pattern.source);
+    is_within(ranks, call.rank as usize)
+        || destination.is_some_and(|rank| is_within(ranks, rank as usize))
+        || source.is_some_and(|rank| is_within(ranks, rank as usize))
+}
+
+/// For each unit whether one of its calls is of one of these ranks, or names one.
+fn touched_units(
+    alloc: Global,
+    units: &Units,
+    calls: &[Call],
+    ranks: &Range<usize>,
+) -> Result<Vec<bool>, AllocError> {
+    let mut marks = vec![in alloc; false; units.are_over.len()]?;
+    for (call, unit) in calls.iter().zip(units.of_calls.iter()) {
+        if touches(call, ranks)
+            && let Some(mark) = marks.get_mut(*unit)
+        {
+            *mark = true;
+        }
+    }
+    Ok(marks)
+}
+
+/// The words of a call line that stay, where its first call stands at this place: all or none; of a
+/// wait for several requests those of the requests that stay.
+fn kept_words<'a>(
+    alloc: Global,
+    words: &[&'a [u8]],
+    left_out: &[bool],
+    place: usize,
+) -> Result<Vec<&'a [u8]>, AllocError> {
+    let is_list = matches!(verb_of(words), Some(Verb::WaitAll));
+    let mut kept = Vec::new(alloc);
+    for (index, word) in words.iter().enumerate() {
+        let call = if is_list {
+            place.saturating_add(index.saturating_sub(1))
+        } else {
+            place
+        };
+        if (is_list && index == 0) || !is_marked(left_out, call) {
+            kept.push(*word)?;
+        }
+    }
+    if is_list && kept.len() < 2 {
+        kept.clear();
+    }
+    Ok(kept)
+}
+
+/// Whether the heading stays: it is none of a rank that is left out.
+fn heading_stays(line: &[u8], words: &[&[u8]], ranks: &[bool]) -> bool {
+    let rank = if is_rank(line) {
+        heading_rank(words)
+    } else {
+        None
+    };
+    !rank.is_some_and(|rank| is_marked(ranks, rank as usize))
+}
+
+/// The text without what is left out. The other ranks are numbered anew.
+fn without(alloc: Global, text: &[u8], left_out: &LeftOut) -> Result<Vec<u8>, AllocError> {
+    let numbers = new_numbers(alloc, &left_out.ranks)?;
+    let lines = lines_of(alloc, text)?;
+    let mut out = Vec::with_capacity(alloc, text.len())?;
+    let mut place = 0usize;
+    for line in lines.iter() {
+        let words = words_of(alloc, line)?;
+        if is_call(line) {
+            let kept = kept_words(alloc, &words, &left_out.calls, place)?;
+            if !kept.is_empty() {
+                put_renumbered(&mut out, &kept, &numbers)?;
+            }
+            place = place.saturating_add(count_calls(&words));
+        } else if !line.is_empty() && heading_stays(line, &words, &left_out.ranks) {
+            put_renumbered(&mut out, &words, &numbers)?;
+        }
+    }
+    Ok(out)
+}
+
+/// The text without the units that are marked.
+fn without_marked(alloc: Global, hanging: &Hanging, marks: &[bool]) -> Result<Vec<u8>, AllocError> {
+    let left_out = LeftOut {
+        calls: calls_of(alloc, &hanging.units, marks)?,
+        ranks: vec![in alloc; false; hanging.program.ranks() as usize]?,
+    };
+    without(alloc, &hanging.text, &left_out)
+}
+
+/// The text without all units that the run is done with. It takes time near linear in the text.
+pub fn without_over(alloc: Global, hanging: &Hanging) -> Result<Vec<u8>, AllocError> {
+    without_marked(alloc, hanging, &hanging.units.are_over)
+}
+
+/// The text without these units, by their numbers. It takes time near linear in the text.
+pub fn without_units(
+    alloc: Global,
+    hanging: &Hanging,
+    numbers: Range<usize>,
+) -> Result<Vec<u8>, AllocError> {
+    let marks = marks_within(alloc, hanging.units.are_over.len(), &numbers)?;
+    without_marked(alloc, hanging, &marks)
+}
+
+/// The text without these ranks, by their numbers, and without the units that have a call of one of
+/// them, or one that names one. It takes time near linear in the text.
+pub fn without_ranks(
+    alloc: Global,
+    hanging: &Hanging,
+    ranks: Range<usize>,
+) -> Result<Vec<u8>, AllocError> {
+    let marks = touched_units(alloc, &hanging.units, hanging.program.calls(), &ranks)?;
+    let left_out = LeftOut {
+        calls: calls_of(alloc, &hanging.units, &marks)?,
+        ranks: marks_within(alloc, hanging.program.ranks() as usize, &ranks)?,
+    };
+    without(alloc, &hanging.text, &left_out)
+}
