@@ -1,7 +1,8 @@
 """Changes the texts of the examples by chance, gives them to the built program, and holds each answer against a second judge.
 
-Run by ./fuzz [MINUTES] [--seed N]. A finding is an answer that judge.py doesn't share, to the line that is refused; a crash; a
-run of more than 20 seconds; a line that is unknown; a status that doesn't fit its line. Findings are kept in a folder.
+Run by tests/fuzz [MINUTES] [--seed N]. A finding is an answer that judge.py doesn't share, to the
+line that is refused; a crash; a run of more than 20 seconds; a line that is unknown; a status that
+doesn't fit its line. Findings are kept in a folder.
 """
 import argparse
 import glob
@@ -310,7 +311,7 @@ class Fuzzer:
 
 def main():
     """Works for so many minutes, and prints figures; status 1 where something was found."""
-    parser = argparse.ArgumentParser(prog='./fuzz')
+    parser = argparse.ArgumentParser(prog='tests/fuzz')
     parser.add_argument('minutes', nargs='?', type=float, default=1)
     parser.add_argument('--seed', type=int, default=int(time.time()))
     options = parser.parse_args()

@@ -1,8 +1,9 @@
 """Refuses to calls of the library the memory that they ask for, one allocation after another, and looks at what they then answer.
 
-Run by ./refusals library [CALL..]: a word is the name of a call (read, publish, closed, ..; crates/test_scripts/args has all, some of them
-with the text of a program too). The program of crates/test_scripts makes each call, compares what it was lent where the call is refused,
-and makes it once more.
+Run by tests/refusals library [CALL..]: a word is the name of a call (read, publish, closed, ..;
+crates/test_scripts/args has all, some of them with the text of a program too). The program of
+crates/test_scripts makes each call, compares what it was lent where the call is refused, and makes
+it once more.
 """
 import os
 import shutil

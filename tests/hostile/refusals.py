@@ -1,7 +1,8 @@
 """Refuses to the built program what it asks the system for, one call after another, and looks at what it then answers.
 
-Run by ./refusals [WORD..]. A word is a kind (memory, threads, pieces, files, limits, names, scattered, budgets) or a command (prove, check, ..); without
-words all are tried. Each row below is a command on a small program that was worked by hand, with the status that it ends with.
+Run by tests/refusals [WORD..]. A word is a kind (memory, threads, pieces, files, limits, names,
+scattered, budgets) or a command (prove, check, ..); without words all are tried. Each row below is a
+command on a small program that was worked by hand, with the status that it ends with.
 """
 import errno
 import os
@@ -48,7 +49,21 @@ TEXTS = {
     'exchange.mpi': 'ranks 2\npolicy any\nrank 0\nsend 1 1\nrecv 1 1\nrank 1\nsend 0 1\nrecv 0 1\n',
     'order.mpi': 'ranks 3\npolicy none\nrank 0\nsend 1 1\nsend 2 1\nrank 1\nsend 2 1\nrecv 0 1\nrank 2\nrecv * 1\nrecv 0 1\n',
     'barrier.mpi': 'ranks 1\npolicy any\nrank 0\nbarrier\n',
+    'wide.mpi': 'ranks 2\npolicy any\nrank 0\nsend 1 40000\nrecv 1 1\nrank 1\nrecv 0 40000\nrecv 0 1\n',
+    'wide-ends.mpi': 'ranks 2\npolicy any\nrank 0\nsend 1 40000\nrank 1\nrecv 0 40000\n',
 }
+
+
+def map_of(text, places):
+    """The map of a text, which names it by its length and checksum (FNV-1a of 64 bits)."""
+    total = 0xcbf29ce484222325
+    for byte in text.encode():
+        total = (total ^ byte) * 0x100000001b3 % 2 ** 64
+    return f'map 1\nof {len(text)} bytes, sum {total:016x}\n{places}end\n'
+
+
+TEXTS['exchange.map'] = map_of(TEXTS['exchange.mpi'], 'line 4: rank 0, MPI_Send, 8 bytes, a.c:1 in f < a.c:2 in main\n')
+TEXTS['broken.map'] = map_of(TEXTS['exchange.mpi'], 'line 99: rank 0, MPI_Send, a.c:1\n')
 
 
 def hub(takers, senders, hubs=1):
@@ -107,7 +122,11 @@ def rows(trims):
         yield Row(0, ['explain', *REFUTED, *more])
         yield Row(1, ['explain', *HANGS, *more])
     yield Row(3, ['explain', 'buffered.mpi', 'idle.evidence', '--json'])
-    yield Row(2, ['explain', 'buffered.mpi', '--budget', '0'])
+    for more in ([], ['--json'], ['--svg']):
+        yield Row(1, ['explain', 'exchange.mpi', '--map', 'exchange.map', *more])
+        yield Row(3, ['explain', 'exchange.mpi', '--map', 'broken.map', *more])
+        yield Row(1, ['explain', 'wide.mpi', *more])
+    yield Row(5, ['explain', 'exchange.mpi', '--map', 'missing.map'])
     yield Row(3, ['explain', 'barrier.mpi'])
     yield Row(0, ['export', *REFUTED, *out])
     yield Row(1, ['export', *HANGS, *out])
@@ -120,12 +139,15 @@ def rows(trims):
         yield Row(1, ['shrink', 'buffering-lets-it-hang.mpi', *more])
         yield Row(2, ['shrink', 'buffered.mpi', *more])
         yield Row(3, ['shrink', 'barrier.mpi', *more])
+        yield Row(1, ['shrink', 'wide.mpi', *more])
+        yield Row(2, ['shrink', 'wide-ends.mpi', *more])
     for more in (out, ['--json', *out]):
         yield Row(0, ['decide', 'gather.mpi', *more])
         yield Row(1, ['decide', 'exchange.mpi', *more])
         yield Row(2, ['decide', 'buffering-lets-it-hang.mpi', *more])
         yield Row(3, ['decide', 'barrier.mpi', *more])
     yield Row(1, ['decide', 'exchange.mpi'])
+    yield Row(1, ['decide', 'wide.mpi', '--progress', *out])
     yield Row(5, ['decide', 'missing.mpi', *out])
     yield Row(0, ['--help'])
     yield Row(6, ['prove'])
@@ -297,17 +319,25 @@ def try_pieces(trial, _):
     trial.note('pieces', ['check', '--pieces', '1', '4', '16', '64'], got, f'threads: {counts}', counts == sorted(set(counts)))
 
 
+def fault_told(row, got):
+    """What was told on standard error behind the progress, where that was asked for."""
+    lines = got.told.splitlines(True)
+    return b''.join(line for line in lines if '--progress' not in row.words or not line.startswith(b'progress'))
+
+
 def is_told_fault(trial, row, got, call, path, how, answer):
     """What may come of a fault of a file, or of an output. Where all writes fail, standard error does too."""
     plain = trial.plain_outcome(row)
     if path == 'standard output':
-        return (got.status, got.told) == (5, b'') and plain.printed.startswith(got.printed) and trial.has_whole_file(row, got)
+        return (got.status, fault_told(row, got)) == (5, b'') and plain.printed.startswith(got.printed) and trial.has_whole_file(row, got)
+    if path == 'standard error' and how == 'on' and (got.status, plain.status) in ((5, 0), (5, 1)):
+        return (got.printed, fault_told(row, got)) == (b'', b'')
     if path == 'standard error':
         return (got.status, got.printed) == (plain.status, plain.printed) and trial.has_whole_file(row, got)
     if answer == errno.ENOMEM and is_want_of_memory(row, got):
         return True
     may_be_cut = path == 'out' and call != 'open'
-    is_told = got.told == b'file %s\n' % path.encode() or (call == 'write' and how == 'on' and got.told == b'')
+    is_told = fault_told(row, got) == b'file %s\n' % path.encode() or (call == 'write' and how == 'on' and fault_told(row, got) == b'')
     return (got.status, got.printed) == (5, b'') and is_told and (may_be_cut or got.out == BEFORE)
 
 
@@ -383,7 +413,7 @@ def is_right_under_limit(trial, row, got, kind):
     if kind in (resource.RLIMIT_AS, resource.RLIMIT_STACK):
         return is_want_of_memory(row, got) or (got.status == 127 and b'shared' in got.told)
     faults = [b'file %s\n' % word.encode() for word in row.words]
-    return (got.status, got.printed) == (5, b'') and got.told in faults
+    return (got.status, got.printed) == (5, b'') and fault_told(row, got) in faults
 
 
 def try_limits(trial, row):
