@@ -13,7 +13,7 @@ use Rattle.clap.specs.declared.builder.command.Command.{Command}
 use Rattle.clap.specs.declared.parser.matches.ArgMatches.{ArgMatches}
 use Rattle.clap.proofs.WalkLemmas.{first_value-rows, one_text-rows}
 use Rattle.command_line.specs.CommandLine.{IsRuled, IsShaped, command_line}
-use Rattle.command_line.specs.Requests.{is_true, Flags, Makes, MakesSome, NamesTask, Reads, Task}
+use Rattle.command_line.specs.Requests.{is_true, Flags, Makes, MakesSome, NamesTask, Reads, Task, path_of}
 use Rattle.std.specs.Prelude.{Box, List}
 use Rattle.std.specs.Box.{box_value}
 use Rattle.clap.specs.Words.{Row, is_simple, subcommand_name_of, subcommand_rows, subcommand_rows_of, subcommand_of, fault_of, kind_of, FailsBy, HasMatchesOf, IsAmong}
@@ -43,9 +43,14 @@ shaped_subcommand old sub new app below shaped under adds = record {
 }
 
 -- a text that was asked for
-pub given_by_rows : (m : ArgMatches) (id : Text) (given : Option (Bor Text)) → option_map (λ s. s.now) given ≡ first_value (found_of m) id
-    → first_of id (rows_of (found_of m)) ≡ option_map (λ s. s.now) given
+pub given_by_rows : (m : ArgMatches) (id : Text) (given : Option (Bor Text)) → path_of given ≡ first_value (found_of m) id
+    → first_of id (rows_of (found_of m)) ≡ path_of given
 given_by_rows m id given e = sym (e ∙ first_value-rows (found_of m) id)
+
+-- and is there
+pub path_by_rows : (m : ArgMatches) (id : Text) (given : Option (Bor Text)) (path : Bor Text) → path_of given ≡ first_value (found_of m) id
+    → given ≡ Some path → first_of id (rows_of (found_of m)) ≡ Some path.now
+path_by_rows m id given path e is = given_by_rows m id given e ∙ ap path_of is
 
 -- a text that isn't `true`
 other : (text : List ℕ) → (text ≡ codes "true" → ⊥) → bytes_eq text (codes "true") ≡ false

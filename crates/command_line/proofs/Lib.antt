@@ -1,7 +1,8 @@
 pub mod CommandLines
-pub mod SecondWords
-pub mod PlainWords
-pub mod PlainFaults
+pub mod CommandNames
 pub mod ReadTasks
-pub mod OptionWords
+pub mod Parts
 pub mod PieceWords
+pub mod PlainWords
+pub mod OptionWords
+pub mod SecondWords

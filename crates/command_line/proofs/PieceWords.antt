@@ -1,9 +1,9 @@
 -- The text of a number of pieces passes the parser of its option.
-use Rattle.std.proofs.Common.{◌≡◌, arith, ap₂, refl, subst, sym, cond, ℕ, ℤ, Bool, true, false, [], ◌∷◌, drop}
+use Rattle.std.proofs.Common.{◌≡◌, arith, ap, ap₂, refl, subst, sym, cond, ℕ, ℤ, Bool, true, false, [], ◌∷◌, drop}
 use Rattle.std.specs.Prelude.{◌<◌, ◌==◌, FitsSigned, int_le, neg_ℤ, pos, slice_index, ◌≤ℤ◌}
 use Rattle.std.specs.Int.{w64}
 use Rattle.std.specs.Char.{digit_value}
-use Rattle.std.specs.Str.Parse.{IsNumeral, digits_value, signed_digits_value, without_leading_sign}
+use Rattle.std.specs.Str.Parse.{IsNumeral, digits_value, signed_digits_value, without_leading_plus, without_leading_sign}
 use Rattle.std.proofs.lemmas.Bool.{le-leb, ne_eqb}
 use lib.Signed.{le_z_yes}
 use lib.Dec.{T}
@@ -12,7 +12,7 @@ use Rattle.clap.specs.Values.{IsSignedIn}
 use Rattle.clap.specs.ValueTests.{accepts}
 use Rattle.clap.specs.declared.builder.value_parser.ValueParser.TheVariants.{Signed}
 use Rattle.clap.proofs.ValueTestLemmas.{Accepts-accepts}
-use Rattle.command_line.specs.UsualWords.{SpellsPieces, begins_with_hyphen}
+use Rattle.command_line.specs.UsualWords.{IsFree, SpellsPieces}
 
 -- a code that is below or above those of the digits isn't the first of a numeral
 begins_otherwise : (text : Text) (code : ℕ) → IsNumeral 10 text → (digit_value code < 10 → ⊥) → (slice_index text 0 == code) ≡ false
@@ -57,6 +57,11 @@ in_range text spells =
 pub pieces_pass : (text : Text) → SpellsPieces text → accepts false (Signed (pos 1) (pos 64)) text ≡ true
 pieces_pass text spells = Accepts-accepts false (Signed (pos 1) (pos 64)) text (in_range text spells)
 
-pub pieces_are_free : (text : Text) → SpellsPieces text → begins_with_hyphen text ≡ false
+pub pieces_are_free : (text : Text) → SpellsPieces text → IsFree text
 pieces_are_free [] spells = refl
 pieces_are_free (byte ∷ rest) spells = no_minus (byte ∷ rest) spells.digits
+
+-- and has no plus
+pub plusless : (text : Text) → SpellsPieces text → IsNumeral 10 (without_leading_plus text)
+plusless text spells =
+    subst (λ (digits : Text). IsNumeral 10 digits) (sym (ap (λ (plus : Bool). drop (cond plus 1 0) text) (no_plus text spells.digits))) spells.digits

@@ -1,5 +1,6 @@
 -- What the words of a command line ask for.
 use Rattle.std.specs.Prelude.{◌≡◌, ℕ, [], Bool, if◌then◌else◌, false, Some, None, Option, option_map, codes, List, slice_get}
+use Rattle.std.specs.Borrow.{Bor}
 use Rattle.std.specs.Str.{bytes_eq}
 use Rattle.std.specs.Str.Parse.{IsNumeral, digits_value, without_leading_plus}
 use Rattle.clap.specs.Words.{Row, Text, fault_of, first_of, one_of, subcommand_of}
@@ -9,14 +10,17 @@ use Rattle.command_line.specs.CommandLine.{command_line}
 use Rattle.command_line.specs.declared.request.Request.{Request}
 use Rattle.command_line.specs.declared.request.Request.TheVariants as ask
 
--- What may be asked for: to prove a program, with the file for the evidence, where one is named, the numbers of workers, the depth and the
--- budget, whether the progress is told, and whether the answer is a JSON object; to check a program by an evidence, in so many pieces, with
--- the answer as a JSON object or not; to replay an evidence on a program, with lines of the text or not; to encode a program, in the DIMACS format or not; to explain what an
--- evidence, or where none is named one run, or the answer to a search with these numbers, shows of a program, in a form, with the places that the file
--- of a map, where one is named, has for lines; to export the proof that an
--- evidence makes of a program, to a file; to trim an evidence, to a file, with the answer as a JSON object
--- or not; to make a program smaller, to a file, where one is named; and to decide a program of any length by one
--- run, with the file for the schedule of a deadlock, where one is named, whether the progress is told, and whether the answer is a JSON object.
+-- What may be asked for: to prove a program, with the file for the evidence, where one is named,
+-- the numbers of workers, the depth and the budget, whether the progress is told, and whether the
+-- answer is a JSON object; to check a program by an evidence, in so many pieces, with the answer as
+-- a JSON object or not; to replay an evidence on a program, with lines of the text or not; to
+-- encode a program, in the DIMACS format or not; to explain what an evidence, or where none is
+-- named one run, or the answer to a search with these numbers, shows of a program, in a form, with
+-- the places that the file of a map, where one is named, has for lines; to export the proof that an
+-- evidence makes of a program, to a file; to trim an evidence, to a file, with the answer as a JSON
+-- object or not; to make a program smaller, to a file, where one is named; and to decide a program
+-- of any length by one run, with the file for the schedule of a deadlock, where one is named,
+-- whether the progress is told, and whether the answer is a JSON object.
 pub data Task : Type 0 where
   to_prove : Text → Option Text → ℕ → ℕ → ℕ → Bool → Bool → Task
   to_check : Text → Text → ℕ → Bool → Task
@@ -28,20 +32,22 @@ pub data Task : Type 0 where
   to_shrink : Text → Option Text → Task
   to_decide : Text → Option Text → Bool → Bool → Task
 
+-- the path of a file that may be named
+abbrev pub path_of : Option (Bor Text) → Option Text
+path_of = option_map (λ path. path.now)
+
 -- what a request asks for
 abbrev pub task_of : Request → Task
-task_of (ask.Prove program out options progress json) =
-    to_prove program.now (option_map (λ path. path.now) out) options.workers options.depth options.budget progress json
-task_of (ask.Check program evidence pieces json) = to_check program.now evidence.now pieces.number json
-task_of (ask.Replay program evidence lines) = to_replay program.now evidence.now lines
-task_of (ask.Encode program dimacs) = to_encode program.now dimacs
-task_of (ask.Explain program evidence options form map) =
-    to_explain program.now (option_map (λ path. path.now) evidence) options.workers options.depth options.budget form (option_map (λ path. path.now) map)
-task_of (ask.Export program evidence out) = to_export program.now evidence.now out.now
-task_of (ask.Trim evidence out json) = to_trim evidence.now out.now json
-task_of (ask.Shrink program out) = to_shrink program.now (option_map (λ path. path.now) out)
-task_of (ask.Decide program out progress json) =
-    to_decide program.now (option_map (λ path. path.now) out) progress json
+task_of (ask.Prove r) = to_prove r.program.now (path_of r.out) r.options.workers r.options.depth r.options.budget r.progress r.json
+task_of (ask.Check r) = to_check r.program.now r.evidence.now r.pieces.number r.json
+task_of (ask.Replay r) = to_replay r.program.now r.evidence.now r.lines
+task_of (ask.Encode r) = to_encode r.program.now r.dimacs
+task_of (ask.Explain r) =
+    to_explain r.program.now (path_of r.evidence) r.options.workers r.options.depth r.options.budget r.form (path_of r.map)
+task_of (ask.Export r) = to_export r.program.now r.evidence.now r.out.now
+task_of (ask.Trim r) = to_trim r.evidence.now r.out.now r.json
+task_of (ask.Shrink r) = to_shrink r.program.now (path_of r.out)
+task_of (ask.Decide r) = to_decide r.program.now (path_of r.out) r.progress r.json
 
 -- the word of a task's command
 abbrev pub command_of : Task → Text
@@ -70,7 +76,8 @@ is_true (Some text) = bytes_eq text (codes "true")
 abbrev pub Flags : List Row → Text → Bool → Type 0
 Flags rows id value = value ≡ is_true (one_of id rows)
 
--- the form of an explanation: the first of `--json`, `--svg`, `--chart`, `--dot` and `--all` that they set
+-- the form of an explanation: the first of `--json`, `--svg`, `--chart`, `--dot` and `--all` that
+-- they set
 abbrev pub form_in : List Row → Form
 form_in rows =
     if is_true (one_of (codes "json") rows) then Object
@@ -123,7 +130,8 @@ MakesSome (Some found) task = Makes found.0 found.1 task
 
 -- ---- what the words ask for
 
--- the words name the task's command, and the values after it are the task's, as the command line reads them
+-- the words name the task's command, and the values after it are the task's, as the command line
+-- reads them
 abbrev pub NamesTask : List Text → Task → Type 0
 NamesTask words task = MakesSome (subcommand_of command_line words) task
 

@@ -15,73 +15,102 @@ use clap::{ArgMatches, Error};
 use settings::{Form, Options, Pieces};
 use std::alloc::{AllocError, Global};
 
+/// To search for an answer, tell meanwhile how far the search is or not, and write its evidence to
+/// the file `out`.
+#[derive(Clone, Copy)]
+pub struct ToProve<'a> {
+    pub program: &'a str,
+    pub out: Option<&'a str>,
+    pub options: Options,
+    pub progress: bool,
+    pub json: bool,
+}
+
+/// To judge a program by an evidence.
+#[derive(Clone, Copy)]
+pub struct ToCheck<'a> {
+    pub program: &'a str,
+    pub evidence: &'a str,
+    pub pieces: Pieces,
+    pub json: bool,
+}
+
+/// To print the steps of a schedule, with the lines of the program's text or not.
+#[derive(Clone, Copy)]
+pub struct ToReplay<'a> {
+    pub program: &'a str,
+    pub evidence: &'a str,
+    pub lines: bool,
+}
+
+/// To print the formula of a program, in the DIMACS format or not.
+#[derive(Clone, Copy)]
+pub struct ToEncode<'a> {
+    pub program: &'a str,
+    pub dimacs: bool,
+}
+
+/// To explain what an evidence shows of a program, in this form. Where none is named, one run
+/// decides first, and where messages may race an evidence is searched for. The file `map` has the
+/// places in the sources that lines of the program come from.
+#[derive(Clone, Copy)]
+pub struct ToExplain<'a> {
+    pub program: &'a str,
+    pub evidence: Option<&'a str>,
+    pub options: Options,
+    pub form: Form,
+    pub map: Option<&'a str>,
+}
+
+/// To write the proof that an evidence makes of a program's formula to the file `out`.
+#[derive(Clone, Copy)]
+pub struct ToExport<'a> {
+    pub program: &'a str,
+    pub evidence: &'a str,
+    pub out: &'a str,
+}
+
+/// To write a refutation without the lines that aren't needed to the file `out`.
+#[derive(Clone, Copy)]
+pub struct ToTrim<'a> {
+    pub evidence: &'a str,
+    pub out: &'a str,
+    pub json: bool,
+}
+
+/// To print a smaller program that gets stuck too, or write it to the file `out`.
+#[derive(Clone, Copy)]
+pub struct ToShrink<'a> {
+    pub program: &'a str,
+    pub out: Option<&'a str>,
+}
+
+/// To decide by one run whether some run of a program of any length gets stuck, and write the
+/// schedule of a deadlock to the file `out`.
+#[derive(Clone, Copy)]
+pub struct ToDecide<'a> {
+    pub program: &'a str,
+    pub out: Option<&'a str>,
+    pub progress: bool,
+    pub json: bool,
+}
+
 /// What a command line asks for, with the paths of its files.
 #[derive(Clone, Copy)]
 pub enum Request<'a> {
-    /// Search for an answer, tell meanwhile how far the search is or not, and write its evidence to the file `out`.
-    Prove {
-        program: &'a str,
-        out: Option<&'a str>,
-        options: Options,
-        progress: bool,
-        json: bool,
-    },
-    /// Judge a program by an evidence.
-    Check {
-        program: &'a str,
-        evidence: &'a str,
-        pieces: Pieces,
-        json: bool,
-    },
-    /// Print the steps of a schedule, with the lines of the program's text or not.
-    Replay {
-        program: &'a str,
-        evidence: &'a str,
-        lines: bool,
-    },
-    /// Print the formula of a program, in the DIMACS format or not.
-    Encode {
-        program: &'a str,
-        dimacs: bool,
-    },
-    /// Explain what an evidence shows of a program, in this form. Where none is named, one run decides first, and where messages may race
-    /// an evidence is searched for. The file `map` has the places in the sources that lines of the program come from.
-    Explain {
-        program: &'a str,
-        evidence: Option<&'a str>,
-        options: Options,
-        form: Form,
-        map: Option<&'a str>,
-    },
-    /// Write the proof that an evidence makes of a program's formula to the file `out`.
-    Export {
-        program: &'a str,
-        evidence: &'a str,
-        out: &'a str,
-    },
-    /// Write a refutation without the lines that aren't needed to the file `out`.
-    Trim {
-        evidence: &'a str,
-        out: &'a str,
-        json: bool,
-    },
-    /// Print a smaller program that gets stuck too, or write it to the file `out`.
-    Shrink {
-        program: &'a str,
-        out: Option<&'a str>,
-    },
-    /// Decide by one run whether some run of a program of any length gets stuck, and write the
-    /// schedule of a deadlock to the file `out`.
-    Decide {
-        program: &'a str,
-        out: Option<&'a str>,
-        progress: bool,
-        json: bool,
-    },
+    Prove(ToProve<'a>),
+    Check(ToCheck<'a>),
+    Replay(ToReplay<'a>),
+    Encode(ToEncode<'a>),
+    Explain(ToExplain<'a>),
+    Export(ToExport<'a>),
+    Trim(ToTrim<'a>),
+    Shrink(ToShrink<'a>),
+    Decide(ToDecide<'a>),
 }
 
-/// What the words ask for. The first word is the program's own name. An error is a fault of usage, a
-/// question for help, or want of memory.
+/// What the words ask for. The first word is the program's own name. An error is a fault of usage,
+/// a question for help, or want of memory.
 pub fn request_of(alloc: Global, words: &[String]) -> Result<Request<'_>, Error>
     ensures asked { IfOk result (λ request. AskFor (map (λ w. string_bytes w) words.now) (task_of request)) }
     ensures faults { IfErr result (λ e. (kind_of e ≡ ErrorKind.OutOfMemory)
@@ -134,13 +163,13 @@ fn requested<'a>(subcommand: (&'a str, &ArgMatches<'a>)) -> Option<Request<'a>>
 fn prove_request<'a>(matches: &ArgMatches<'a>) -> Option<Request<'a>>
     ensures { IfSome result (λ request. Makes (codes "prove") (rows_of (found_of matches.now)) (task_of request)) }
 {
-    Some(Request::Prove {
+    Some(Request::Prove(ToProve {
         program: matches.get_str(PROGRAM)?,
         out: matches.get_str(OUT),
         options: options_of(matches)?,
         progress: is_set(matches, PROGRESS),
         json: is_set(matches, JSON),
-    })
+    }))
 }
 
 /// The request of the matches of `check`.
@@ -149,57 +178,57 @@ fn check_request<'a>(matches: &ArgMatches<'a>) -> Option<Request<'a>>
 {
     let program = matches.get_str(PROGRAM)?;
     let pieces = matches.get_one::<u32>(PIECES)?;
-    Some(Request::Check {
+    Some(Request::Check(ToCheck {
         program,
         evidence: matches.get_str(EVIDENCE)?,
         pieces: Pieces::make(pieces)?,
         json: is_set(matches, JSON),
-    })
+    }))
 }
 
 /// The request of the matches of `replay`.
 fn replay_request<'a>(matches: &ArgMatches<'a>) -> Option<Request<'a>>
     ensures { IfSome result (λ request. Makes (codes "replay") (rows_of (found_of matches.now)) (task_of request)) }
 {
-    Some(Request::Replay {
+    Some(Request::Replay(ToReplay {
         program: matches.get_str(PROGRAM)?,
         evidence: matches.get_str(EVIDENCE)?,
         lines: is_set(matches, LINES),
-    })
+    }))
 }
 
 /// The request of the matches of `encode`.
 fn encode_request<'a>(matches: &ArgMatches<'a>) -> Option<Request<'a>>
     ensures { IfSome result (λ request. Makes (codes "encode") (rows_of (found_of matches.now)) (task_of request)) }
 {
-    Some(Request::Encode {
+    Some(Request::Encode(ToEncode {
         program: matches.get_str(PROGRAM)?,
         dimacs: is_set(matches, DIMACS),
-    })
+    }))
 }
 
 /// The request of the matches of `explain`.
 fn explain_request<'a>(matches: &ArgMatches<'a>) -> Option<Request<'a>>
     ensures { IfSome result (λ request. Makes (codes "explain") (rows_of (found_of matches.now)) (task_of request)) }
 {
-    Some(Request::Explain {
+    Some(Request::Explain(ToExplain {
         program: matches.get_str(PROGRAM)?,
         evidence: matches.get_str(EVIDENCE),
         options: options_of(matches)?,
         form: form_of(matches),
         map: matches.get_str(MAP),
-    })
+    }))
 }
 
 /// The request of the matches of `export`.
 fn export_request<'a>(matches: &ArgMatches<'a>) -> Option<Request<'a>>
     ensures { IfSome result (λ request. Makes (codes "export") (rows_of (found_of matches.now)) (task_of request)) }
 {
-    Some(Request::Export {
+    Some(Request::Export(ToExport {
         program: matches.get_str(PROGRAM)?,
         evidence: matches.get_str(EVIDENCE)?,
         out: matches.get_str(OUT)?,
-    })
+    }))
 }
 
 /// The request of the matches of `trim`.
@@ -207,21 +236,21 @@ fn trim_request<'a>(matches: &ArgMatches<'a>) -> Option<Request<'a>>
     ensures { IfSome result (λ request. Makes (codes "trim") (rows_of (found_of matches.now)) (task_of request)) }
 {
     let out = matches.get_str(OUT)?;
-    Some(Request::Trim {
+    Some(Request::Trim(ToTrim {
         evidence: matches.get_str(EVIDENCE)?,
         out,
         json: is_set(matches, JSON),
-    })
+    }))
 }
 
 /// The request of the matches of `shrink`.
 fn shrink_request<'a>(matches: &ArgMatches<'a>) -> Option<Request<'a>>
     ensures { IfSome result (λ request. Makes (codes "shrink") (rows_of (found_of matches.now)) (task_of request)) }
 {
-    Some(Request::Shrink {
+    Some(Request::Shrink(ToShrink {
         program: matches.get_str(PROGRAM)?,
         out: matches.get_str(OUT),
-    })
+    }))
 }
 
 /// The request of the matches of `decide`.
@@ -231,12 +260,12 @@ fn decide_request<'a>(matches: &ArgMatches<'a>) -> Option<Request<'a>>
 {
     let progress = is_set(matches, PROGRESS);
     let json = is_set(matches, JSON);
-    Some(Request::Decide {
+    Some(Request::Decide(ToDecide {
         program: matches.get_str(PROGRAM)?,
         out: matches.get_str(OUT),
         progress,
         json,
-    })
+    }))
 }
 
 /// The form of an explanation: the first of these that is asked for.

@@ -1,38 +1,57 @@
--- Entries are those of lines of a map.
-use Rattle.std.proofs.Common.{◌≡◌, ◌∙◌, ◌⊎◌, ℕ, zero, suc, List, [], ◌∷◌, ◌++◌, Option, Some, None, ap, inl, inr, sym, append_assoc, replicate}
+-- Entries come to places that are free.
+use Rattle.std.proofs.Common.{◌≡◌, ◌≢◌, ◌∙◌, ◌<◌, ℕ, zero, suc, true, false, List, [], ◌∷◌, Option, Some, None, ap, refl, sym, arith, get_or, length, replicate, set}
 use Rattle.std.specs.Prelude.{slice_get}
-use Rattle.places.specs.Maps.{AreLines, AreOf, entry_line}
+use Rattle.std.specs.Option.{is_some}
+use Rattle.std.proofs.lemmas.List.{get_or-set_same, length-set}
+use Rattle.std.proofs.lemmas.Option.{slice_get-get_or, slice_get_within}
+use Rattle.plaintext.specs.Plain.{numeral}
+use Rattle.places.specs.Noting.{Notes}
 use Rattle.places.specs.declared.entries.Entry.{Entry}
 
 abbrev nones : ℕ → List (Option Entry)
 nones count = replicate count None
 
-none_there : (count n : ℕ) (entry : Entry) → slice_get (nones count) n ≡ Some (Some entry) → ⊥
+pub none_there : (count n : ℕ) (entry : Entry) → slice_get (nones count) n ≡ Some (Some entry) → ⊥
 none_there zero n entry there = cc
 none_there (suc count) zero entry there = cc
 none_there (suc count) (suc n) entry there = none_there count n entry there
 
-pub none_yet : (map : List ℕ) (entries : List (Option Entry)) (count : ℕ) → entries ≡ nones count → AreOf map entries
-none_yet map entries count is n entry there = absurd (none_there count n entry (sym (ap (λ (l : List (Option Entry)). slice_get l n) is) ∙ there))
+held : (entries : List (Option Entry)) (n : ℕ) (slot : Option Entry) → slice_get entries n ≡ Some slot → is_some slot ≡ true
+    → (found : Entry) × (slice_get entries n ≡ Some (Some found))
+held entries n (Some found) is some = (found, is)
+held entries n None is some = cc
 
--- one more line
-pub line_more : (map above line below : List ℕ) (old new : List (Option Entry)) → AreLines above → map ≡ above ++ (line ++ 10 ∷ below) → AreOf map old
-    → ((n : ℕ) (found : Entry) → slice_get new n ≡ Some (Some found) → (slice_get old n ≡ Some (Some found)) ⊎ ((rank : List ℕ) × (line ≡ entry_line found.number.now rank found.words.now)))
-    → AreOf map new
-line_more map above line below old new whole is are grows n entry there = elim (grows n entry there) [
-  | inl before ↦ are n entry before
-  | inr made ↦ record {
-    above = above;
-    rank = made.0;
-    below = below;
-    whole = whole;
-    is = is ∙ ap (λ (l : List ℕ). above ++ (l ++ 10 ∷ below)) made.1;
-  }
-]
+pub there : (entries : List (Option Entry)) (at : ℕ) (slot : Option Entry) → at < length entries → slot ≡ get_or entries at slot → slice_get entries at ≡ Some slot
+there entries at slot within is = slice_get-get_or entries at slot within ∙ ap (λ (x : Option Entry). Some x) (sym is)
 
-pub lines_more : (above line : List ℕ) → AreLines (above ++ (line ++ 10 ∷ []))
-lines_more above line = inr (above ++ line, sym (append_assoc above line (10 ∷ [])))
+pub occupied : (entries : List (Option Entry)) (n at : ℕ) (slot : Option Entry) → n ≡ at → slice_get entries at ≡ Some slot → is_some slot ≡ true
+    → (found : Entry) × (slice_get entries n ≡ Some (Some found))
+occupied entries n at slot same is some = held entries n slot (ap (λ (k : ℕ). slice_get entries k) same ∙ is) some
 
-pub behind_line : (map above line below : List ℕ) → map ≡ above ++ (line ++ 10 ∷ below) → map ≡ (above ++ (line ++ 10 ∷ [])) ++ below
-behind_line map above line below is =
-    is ∙ ap (λ (l : List ℕ). above ++ l) (sym (append_assoc line (10 ∷ []) below)) ∙ sym (append_assoc above (line ++ 10 ∷ []) below)
+is_free : (entries : List (Option Entry)) (n : ℕ) (slot : Option Entry) → slice_get entries n ≡ Some slot → is_some slot ≡ false → slice_get entries n ≡ Some None
+is_free entries n (Some found) is some = cc
+is_free entries n None is some = is
+
+set_there : (entries : List (Option Entry)) (n : ℕ) (x : Option Entry) → n < length entries → slice_get (set entries n x) n ≡ Some x
+set_there entries n x within =
+    slice_get-get_or (set entries n x) n None (grind (arith, length-set, within)) ∙ ap (λ (y : Option Entry). Some y) (get_or-set_same entries n x None within)
+
+set_elsewhere : (entries : List (Option Entry)) (n m : ℕ) (x : Option Entry) → m ≢ n → slice_get (set entries n x) m ≡ slice_get entries m
+set_elsewhere [] n m x other = refl
+set_elsewhere (e ∷ es) zero zero x other = absurd (other refl)
+set_elsewhere (e ∷ es) zero (suc m) x other = refl
+set_elsewhere (e ∷ es) (suc n) zero x other = refl
+set_elsewhere (e ∷ es) (suc n) (suc m) x other = set_elsewhere es n m x (λ same. other (ap (λ (k : ℕ). suc k) same))
+
+pub notes : (entries : List (Option Entry)) (entry : Entry) (n at : ℕ) (slot : Option Entry) → n ≡ at → numeral n ≡ entry.number.now → 0 < at → at < 2147483648
+    → slice_get entries at ≡ Some slot → is_some slot ≡ false → Notes entries (set entries at (Some entry)) entry
+notes entries entry n at slot same is some small there none = record {
+  n = at;
+  number_is = ap numeral (sym same) ∙ is;
+  some = some;
+  small = small;
+  free = is_free entries at slot there none;
+  noted = set_there entries at (Some entry) (slice_get_within entries at slot there);
+  others = λ m other. set_elsewhere entries at m (Some entry) other;
+  as_long = grind (arith, length-set);
+}

@@ -1,2 +1,4 @@
 pub mod Maps
+pub mod Marks
+pub mod Noting
 pub mod Woven

@@ -1,9 +1,10 @@
 -- A text with the places of the lines that it names.
-use Rattle.std.specs.Prelude.{◌≡◌, ◌⊎◌, ◌==◌, ◌||◌, ℕ, nat_lt, if◌then◌else◌, List, [], ◌∷◌, ◌++◌, codes}
-use Rattle.std.specs.List.{AllByRecursion, flat_map}
+use Rattle.std.specs.Prelude.{◌≡◌, ◌⊎◌, ◌≤◌, ◌==◌, ◌||◌, ℕ, length, nat_lt, if◌then◌else◌, List, [], ◌∷◌, ◌++◌, codes}
+use Rattle.std.specs.List.{flat_map}
 use Rattle.settings.specs.declared.form.Form.{Form}
 use Rattle.settings.specs.declared.form.Form.TheVariants as forms
-use Rattle.places.specs.Maps.{HasEntry}
+use Rattle.places.specs.Maps.{AreDigits, HasEntry}
+use Rattle.places.specs.Marks.{BeginsWithNoDigit, IsAround, Lacks}
 
 -- what stands before the number of a line that is named
 abbrev pub marker : Form → List ℕ
@@ -42,11 +43,11 @@ abbrev pub closing : Form → List ℕ
 closing forms.Object = codes "\""
 closing _ = codes ")"
 
--- what a text of this form tells of the words of a map: all in an object, and in another no more than up to a mark ` < `, behind which
--- callers stand
+-- what a text of this form tells of the words of a map: all in an object, and in another what stands before the first mark
+-- ` < `, behind which callers stand
 abbrev pub IsTold : Form → List ℕ → List ℕ → Type 0
 IsTold forms.Object words told = told ≡ words
-IsTold _ words told = (told ≡ words) ⊎ ((callers : List ℕ) × (words ≡ told ++ (codes " < " ++ callers)))
+IsTold _ words told = (Lacks (codes " < ") words × (told ≡ words)) ⊎ ((callers : List ℕ) × IsAround (codes " < ") words told callers)
 
 -- what is added behind the number of a line of which these words are told
 abbrev pub place_text : Form → List ℕ → List ℕ
@@ -60,23 +61,34 @@ pub record Piece : Type 0 where
 abbrev pub both : Piece → List ℕ
 both piece = piece.kept ++ piece.added
 
--- the part ends with the number of a line that the map has, and what it says of that is added
+-- what is added behind the digits of a line's number: the place that the map has for that line, or nothing where it has none
+abbrev pub IsSaid : Form → List ℕ → List ℕ → List ℕ → Type 0
+IsSaid form map digits added =
+    ((words : List ℕ) × (short : List ℕ) × HasEntry map digits words × IsTold form words short × (added ≡ place_text form short))
+    ⊎ (((words : List ℕ) → HasEntry map digits words → ⊥) × (added ≡ []))
+
+-- the part ends with the first marker in it and the digits behind that
 pub record IsPlaced (form : Form) (map : List ℕ) (piece : Piece) : Type 0 where
   pub front : List ℕ
   pub digits : List ℕ
-  pub words : List ℕ
-  pub short : List ℕ
   pub ends : piece.kept ≡ front ++ (marker form ++ digits)
-  pub entry : HasEntry map digits words
-  pub part : IsTold form words short
-  pub told : piece.added ≡ place_text form short
+  pub first : (a b : List ℕ) → piece.kept ≡ a ++ (marker form ++ b) → length front ≤ length a
+  pub are : AreDigits digits
+  pub said : IsSaid form map digits piece.added
 
-abbrev pub IsAdded : Form → List ℕ → Piece → Type 0
-IsAdded form map piece = (piece.added ≡ []) ⊎ IsPlaced form map piece
+abbrev pub kept_of : List Piece → List ℕ
+kept_of pieces = flat_map (λ piece. piece.kept) pieces
 
--- the parts of the one text, with what is added behind some of them, are the other
+-- each part is such a part, and behind it, in the others and the rest, stands no digit first
+abbrev pub AreCut : Form → List ℕ → List Piece → List ℕ → Type 0
+AreCut form map [] rest = Unit {0}
+AreCut form map (piece ∷ pieces) rest = IsPlaced form map piece × BeginsWithNoDigit (kept_of pieces ++ rest) × AreCut form map pieces rest
+
+-- The one text is cut behind each number of a line, and the other is the same with the places added there.
 pub record IsWoven (form : Form) (map plain told : List ℕ) : Type 0 where
   pub pieces : List Piece
-  pub added : AllByRecursion (IsAdded form map) pieces
-  pub plain_is : plain ≡ flat_map (λ p. p.kept) pieces
-  pub told_is : told ≡ flat_map both pieces
+  pub rest : List ℕ
+  pub cut : AreCut form map pieces rest
+  pub last : Lacks (marker form) rest
+  pub plain_is : plain ≡ kept_of pieces ++ rest
+  pub told_is : told ≡ flat_map both pieces ++ rest

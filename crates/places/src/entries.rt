@@ -1,9 +1,9 @@
 //! One line of a map.
 
-ghost use Rattle.std.specs.Prelude.{◌≡◌, IfSome, List, ℕ};
-ghost use Rattle.places.specs.Maps.{entry_line};
+ghost use Rattle.std.specs.Prelude.{IfNone, IfSome, List, ℕ};
+ghost use Rattle.places.specs.Maps.{IsLineOf};
 
-use crate::marks::around;
+use crate::marks::digits_of;
 
 /// What a map says of a line of the text.
 #[derive(Clone, Copy)]
@@ -16,10 +16,13 @@ pub struct Entry<'a> {
 
 /// What a line of a map says of a line of the text, where it says something of one.
 pub fn entry_of(line: &[u8]) -> Option<Entry<'_>>
-    ensures { IfSome result (λ entry. (rank : List ℕ) × (line.now ≡ entry_line entry.number.now rank entry.words.now)) }
+    ensures some { IfSome result (λ entry. IsLineOf line.now entry.number.now entry.words.now) }
+    ensures none { IfNone result ((digits words : List ℕ) → IsLineOf line.now digits words → ⊥) }
 {
     let rest = line.strip_prefix(b"line ")?;
-    let (number, rest) = around(rest, b": rank ")?;
-    let (_rank, words) = around(rest, b", ")?;
+    let (number, rest) = digits_of(rest);
+    let rest = rest.strip_prefix(b": rank ")?;
+    let (_rank, rest) = digits_of(rest);
+    let words = rest.strip_prefix(b", ")?;
     Some(Entry { number, words })
 }

@@ -3,7 +3,7 @@
 ghost use Rattle.std.specs.Prelude.{◌≡◌, ◌++◌, IfOk, List, OnOk, ℕ};
 ghost use Rattle.std.specs.List.{flat_map};
 ghost use Rattle.places.specs.Maps.{AreFrom};
-ghost use Rattle.places.specs.Woven.{IsAdded, IsTold, IsWoven, Piece, both, closing, drawn_byte, marker, opening, place_text, plain_byte, quoted_byte, shown};
+ghost use Rattle.places.specs.Woven.{IsSaid, IsTold, IsWoven, Piece, both, closing, drawn_byte, marker, opening, place_text, plain_byte, quoted_byte, shown};
 
 use crate::map::Places;
 use crate::marks::{around, digits_of};
@@ -128,7 +128,8 @@ fn put_piece(
     digits: &[u8],
     places: &Places<'_>,
 ) -> Result<(), AllocError>
-    ensures { OnOk result ((map : List ℕ) → AreFrom map places.now → (piece : Piece) × IsAdded form map piece × (piece.kept ≡ front.now ++ (marker form ++ digits.now)) × (out.new.items ≡ out.old.items ++ both piece)) }
+    ensures { OnOk result ((map : List ℕ) → AreFrom map places.now → (piece : Piece)
+        × IsSaid form map digits.now piece.added × (piece.kept ≡ front.now ++ (marker form ++ digits.now)) × (out.new.items ≡ out.old.items ++ both piece)) }
 {
     out.extend_from_slice(front)?;
     out.extend_from_slice(marker(form))?;
@@ -139,9 +140,9 @@ fn put_piece(
     }
 }
 
-/// A text that names lines, with their places beside them, in the form in which it was printed: in brackets behind each number of a line,
-/// without callers; in an object as the member `place` behind each member `line`. A line that the map says nothing of has none. The only error is want of
-/// memory.
+/// A text that names lines, with their places beside them, in the form in which it was printed: in brackets behind each number of
+/// a line, without callers; in an object as the member `place` behind each member `line`. Each line that the map says something of
+/// gets its place, wherever its number stands behind the marker, and no other. The only error is want of memory.
 pub fn with_places(
     alloc: Global,
     plain: &[u8],

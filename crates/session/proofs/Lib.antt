@@ -7,8 +7,10 @@ pub mod DecidedPages
 pub mod ExplainedPages
 pub mod MappedPages
 pub mod RunLaws
-pub mod DecidedRuns
-pub mod PlainAnswers
+pub mod CheckLaws
+pub mod SearchLaws
+pub mod FileLaws
+pub mod AnyLaws
 pub mod StandIns
 pub mod StrayEvidences
 pub mod WholeTexts

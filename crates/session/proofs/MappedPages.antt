@@ -1,15 +1,15 @@
 -- What a page with the places of a map tells.
 use Rattle.std.proofs.Common.{◌≡◌, ◌∙◌, ◌⊎◌, ◌<◌, ℕ, Bool, true, false, not, ◌&&◌, ◌==◌, List, [], ◌∷◌, ◌++◌, Option, Some, None, inl, inr, refl, ap, sym, subst, arith, codes, decimal, append_assoc, get_or, drop}
-use Rattle.std.specs.List.{AllByRecursion, flat_map}
+use Rattle.std.specs.List.{flat_map}
 use Rattle.calltext.proofs.Conjunctions.{and_true}
 use Rattle.settings.specs.declared.form.Form.{Form}
 use Rattle.settings.specs.declared.form.Form.TheVariants as forms
-use Rattle.places.specs.Woven.{IsAdded, IsWoven, Piece, both, marker}
+use Rattle.places.specs.Woven.{AreCut, IsPlaced, IsWoven, Piece, both, kept_of, marker}
 use Rattle.places.specs.declared.map.MapFault.{MapFault}
 use Rattle.places.specs.declared.map.MapFault.TheVariants as faults
+use Rattle.session.specs.Explaining.{is_object}
 use Rattle.session.specs.Lines.{deadlock_line}
 use Rattle.session.specs.Mapping.{IsMapRefused, IsMapped}
-use Rattle.session.specs.Pages.{is_object}
 use Rattle.session.proofs.DeadlockLines.{PageTells, deadlock_begins, plainly_differs}
 
 -- the list has no letter i, which stands before each number of a line
@@ -49,39 +49,31 @@ cut (x ∷ xs) ys (z ∷ zs) ws e = longer (cut xs ys zs ws (ap (λ (l : List �
     longer (inl (m, first, rest)) = inl (m, ap (λ (b : ℕ). b ∷ zs) (sym same) ∙ ap (λ (l : List ℕ). x ∷ l) first, rest)
     longer (inr (m, first)) = inr (m, ap (λ (b : ℕ). b ∷ xs) same ∙ ap (λ (l : List ℕ). z ∷ l) first)
 
--- what begins the text with the places, and has no letter i, begins the text without them
-abbrev Begins : List Piece → List ℕ → Type 0
-Begins pieces front = (rest : List ℕ) × (flat_map (λ p. p.kept) pieces ≡ front ++ rest)
-
--- by what becomes of its first part
-begins_by : (form : Form) (map : List ℕ) (piece : Piece) (pieces : List Piece) (front rest : List ℕ) → IsAdded form map piece
-    → Cut piece.kept (piece.added ++ flat_map both pieces) front rest → clean front ≡ true
-    → ((m : List ℕ) → flat_map both pieces ≡ m ++ rest → clean m ≡ true → Begins pieces m) → Begins (piece ∷ pieces) front
-begins_by form map piece pieces front rest is (inr (m, first)) h next =
-    let more = flat_map (λ p. p.kept) pieces in
-    (m ++ more, ap (λ (l : List ℕ). l ++ more) first ∙ append_assoc front m more)
-begins_by form map piece pieces front rest (inl none) (inl (m, first, behind)) h next =
-    let found = next m (sym (ap (λ (l : List ℕ). l ++ flat_map both pieces) none) ∙ behind) (clean_behind piece.kept m (subst (λ (l : List ℕ). clean l ≡ true) first h)) in
-    (found.0, ap (λ (l : List ℕ). piece.kept ++ l) found.1 ∙ sym (append_assoc piece.kept m found.0) ∙ ap (λ (l : List ℕ). l ++ found.0) (sym first))
-begins_by form map piece pieces front rest (inr placed) (inl (m, first, behind)) h next =
+-- what begins the text with the places, and has no letter i, begins the text without them: it ends before the first place
+begins_by : (form : Form) (map : List ℕ) (piece : Piece) (pieces : List Piece) (tail front rest behind : List ℕ) → IsPlaced form map piece → Cut piece.kept behind front rest
+    → clean front ≡ true → (more : List ℕ) × (kept_of (piece ∷ pieces) ++ tail ≡ front ++ more)
+begins_by form map piece pieces tail front rest behind is (inr (m, first)) h =
+    let others = kept_of pieces ++ tail in
+    (m ++ others, append_assoc piece.kept (kept_of pieces) tail ∙ ap (λ (l : List ℕ). l ++ others) first ∙ append_assoc front m others)
+begins_by form map piece pieces tail front rest behind placed (inl (m, first, then)) h =
     let text : front ≡ placed.front ++ (marker form ++ (placed.digits ++ m)) =
     first ∙ ap (λ (l : List ℕ). l ++ m) placed.ends ∙ append_assoc placed.front (marker form ++ placed.digits) m
     ∙ ap (λ (l : List ℕ). placed.front ++ l) (append_assoc (marker form) placed.digits m) in
     absurd (marked_unclean form (placed.digits ++ m) (clean_behind placed.front (marker form ++ (placed.digits ++ m)) (subst (λ (l : List ℕ). clean l ≡ true) text h)))
 
-woven_begins : (form : Form) (map : List ℕ) (pieces : List Piece) (front rest : List ℕ) → AllByRecursion (IsAdded form map) pieces → clean front ≡ true
-    → flat_map both pieces ≡ front ++ rest → Begins pieces front
-woven_begins form map [] [] rest added h e = ([], refl)
-woven_begins form map [] (b ∷ front) rest added h e = absurd (cc)
-woven_begins form map (piece ∷ pieces) front rest added h e =
-    begins_by form map piece pieces front rest added.0
-    (cut piece.kept (piece.added ++ flat_map both pieces) front rest (sym (append_assoc piece.kept piece.added (flat_map both pieces)) ∙ e)) h
-    (λ m behind clean_m. woven_begins form map pieces m rest added.1 clean_m behind)
+woven_begins : (form : Form) (map : List ℕ) (pieces : List Piece) (tail front rest : List ℕ) → AreCut form map pieces tail → clean front ≡ true
+    → flat_map both pieces ++ tail ≡ front ++ rest → (more : List ℕ) × (kept_of pieces ++ tail ≡ front ++ more)
+woven_begins form map [] tail front rest are h e = (rest, e)
+woven_begins form map (piece ∷ pieces) tail front rest are h e =
+    let told = flat_map both pieces in
+    let behind = piece.added ++ (told ++ tail) in
+    begins_by form map piece pieces tail front rest behind are.0
+    (cut piece.kept behind front rest (sym (append_assoc piece.kept piece.added (told ++ tail)) ∙ sym (append_assoc (both piece) told tail) ∙ e)) h
 
 woven_tells : (form : Form) (map plain text : List ℕ) (status : ℕ) → IsWoven form map plain text → PageTells text status → PageTells plain status
 woven_tells form map plain text status w (inl one) = inl one
 woven_tells form map plain text status w (inr begins) =
-    let is = woven_begins form map w.pieces (deadlock_line begins.0) begins.1 w.added (clean_deadlock begins.0) (sym w.told_is ∙ begins.2) in
+    let is = woven_begins form map w.pieces w.rest (deadlock_line begins.0) begins.1 w.cut (clean_deadlock begins.0) (sym w.told_is ∙ begins.2) in
     inr (begins.0, is.0, w.plain_is ∙ is.1)
 
 -- the words of a refused map begin as no deadlock's line does
@@ -96,15 +88,17 @@ refused_untold json (faults.Line line) text status page (inr begins) =
     (λ e. omega (arith, e)) begins.2
 
 -- a page that tells a deadlock is one without places that tells it
-pub unmapped_told : (held : List ℕ → Option (List ℕ)) (form : Form) (map : Option (List ℕ)) (IsPage : List ℕ → ℕ → Type 0) (text : List ℕ) (status : ℕ)
-    → IsMapped held form map IsPage text status → PageTells text status → (plain : List ℕ) × IsPage plain status × PageTells plain status
-unmapped_told held form None IsPage text status page tells = (text, page, tells)
-unmapped_told held form (Some path) IsPage text status (inl refused) tells = absurd (refused_untold (is_object form) refused.0 text status refused.1 tells)
-unmapped_told held form (Some path) IsPage text status (inr (map, plain, all, page, woven)) tells = (plain, page, woven_tells form map plain text status woven tells)
+pub unmapped_told : (held : List ℕ → Option (List ℕ)) (program : List ℕ) (form : Form) (map : Option (List ℕ)) (IsPage : List ℕ → ℕ → Type 0) (text : List ℕ) (status : ℕ)
+    → IsMapped held program form map IsPage text status → PageTells text status → (plain : List ℕ) × IsPage plain status × PageTells plain status
+unmapped_told held program form None IsPage text status page tells = (text, page, tells)
+unmapped_told held program form (Some path) IsPage text status (source, map, all, whole, inl refused) tells =
+    absurd (refused_untold (is_object form) refused.0 text status refused.3 tells)
+unmapped_told held program form (Some path) IsPage text status (source, map, all, whole, inr (of, (plain, page, woven))) tells =
+    (plain, page, woven_tells form map plain text status woven tells)
 
 -- and so of one with a status below 3
-pub unmapped_page : (held : List ℕ → Option (List ℕ)) (form : Form) (map : Option (List ℕ)) (IsPage : List ℕ → ℕ → Type 0) (text : List ℕ) (status : ℕ)
-    → IsMapped held form map IsPage text status → status < 3 → (plain : List ℕ) × IsPage plain status
-unmapped_page held form None IsPage text status page low = (text, page)
-unmapped_page held form (Some path) IsPage text status (inl refused) low = absurd (omega (arith, refused.1.1, low))
-unmapped_page held form (Some path) IsPage text status (inr (map, plain, all, page, woven)) low = (plain, page)
+pub unmapped_page : (held : List ℕ → Option (List ℕ)) (program : List ℕ) (form : Form) (map : Option (List ℕ)) (IsPage : List ℕ → ℕ → Type 0) (text : List ℕ) (status : ℕ)
+    → IsMapped held program form map IsPage text status → status < 3 → (plain : List ℕ) × IsPage plain status
+unmapped_page held program form None IsPage text status page low = (text, page)
+unmapped_page held program form (Some path) IsPage text status (source, map, all, whole, inl refused) low = absurd (omega (arith, refused.3.1, low))
+unmapped_page held program form (Some path) IsPage text status (source, map, all, whole, inr (of, (plain, page, woven))) low = (plain, page)

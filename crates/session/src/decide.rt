@@ -3,9 +3,10 @@ ghost use Rattle.std.specs.Prelude.{◌≡◌, IfErr, IfOk, OnOk, Some, false, o
 ghost use Rattle.deciding.specs.Decisions.{IsDecided};
 ghost use Rattle.deciding.specs.Schedules.{schedule_text};
 ghost use Rattle.files.specs.Contents.{AreAll};
+ghost use Rattle.command_line.specs.Requests.{path_of};
 ghost use Rattle.session.specs.Endings.{IsFollowedRun};
 ghost use Rattle.session.specs.Lines.{IsLine};
-ghost use Rattle.session.specs.Pages.{ChangesAtMost, IsDecidedPage, IsDecideFile, IsDecisionPage, IsProgram, IsRacePage, IsScheduled, IsScheduleFile, IsWritten, StopsBy};
+ghost use Rattle.session.specs.Pages.{ChangesAtMost, IsDecideFile, IsDecidedPage, IsDecisionPage, IsProgram, IsRacePage, IsScheduleFile, IsScheduled, IsWritten, StopsBy};
 
 use crate::commands::{Stop, decided_page, read};
 use crate::page::{Page, page_of};
@@ -13,6 +14,7 @@ use crate::racing::race_text;
 use crate::status::UNKNOWN;
 use crate::told::Told;
 use calltext::read_long;
+use command_line::ToDecide;
 use deciding::{Decision, Race, Undecided, decide, decide_telling, schedule_text};
 use explain::line_numbers;
 use files::{Extent, FileSet};
@@ -21,8 +23,8 @@ use semantics::Step;
 use std::alloc::{AllocError, Global};
 use std::io::Write;
 
-/// Decides by one run whether some run of the program of a text gets stuck, and tells meanwhile how far it is, where that is asked
-/// for.
+/// Decides by one run whether some run of the program of a text gets stuck, and tells meanwhile how
+/// far it is, where that is asked for.
 fn decided<E: Write>(
     alloc: Global,
     text: &[u8],
@@ -39,30 +41,28 @@ fn decided<E: Write>(
     }
 }
 
-/// Decides by one run whether some run of the program of a file gets stuck, tells meanwhile how far it is, where that is asked for, and
-/// writes the schedule of a deadlock to a file where one is named. The page is made before the file is, so that no file changes where
-/// memory runs out.
+/// Decides by one run whether some run of the program of a file gets stuck, tells meanwhile how far
+/// it is, where that is asked for, and writes the schedule of a deadlock to a file where one is
+/// named. The page is made before the file is, so that no file changes where memory runs out.
 pub fn decide_page<'a, F: FileSet, E: Write>(
     alloc: Global,
-    program: &'a str,
-    out: Option<&'a str>,
-    progress: bool,
-    json: bool,
+    asked: ToDecide<'a>,
     files: &mut F,
     err: &mut E,
 ) -> Result<Page, Stop<'a>>
     ensures page { IfOk result (λ page.
-        IsDecidedPage F.tells_written (F.held files.old) (F.held files.new) program.entry.now
-        (option_map (λ path. path.now) out.entry) json page.text.items page.status) }
-    ensures others { ChangesAtMost (option_map (λ path. path.now) out.entry) (F.held files.old) (F.held files.new) }
+        IsDecidedPage F.tells_written (F.held files.old) (F.held files.new) asked.entry.program.now
+        (path_of asked.entry.out) asked.entry.json page.text.items page.status) }
+    ensures others { ChangesAtMost (path_of asked.entry.out) (F.held files.old) (F.held files.new) }
     ensures stop { IfErr result (StopsBy
-        (IsDecideFile (F.reads files.old) program.entry.now (option_map (λ path. path.now) out.entry) (F.held files.old) (F.held files.new))
+        (IsDecideFile (F.reads files.old) asked.entry.program.now (path_of asked.entry.out) (F.held files.old) (F.held files.new))
         (F.held files.old) (F.held files.new)) }
-    ensures followed { IsFollowedRun progress (F.held files.old program.entry.now) (E.contents err.old) (E.contents err.new) }
+    ensures followed { IsFollowedRun asked.entry.progress (F.held files.old asked.entry.program.now)
+        (E.contents err.old) (E.contents err.new) }
 {
-    let text = read_whole(alloc, program, files)?;
-    let decision = decided(alloc, &text, progress, err);
-    decision_page(alloc, &text, &decision, out, json, files)
+    let text = read_whole(alloc, asked.program, files)?;
+    let decision = decided(alloc, &text, asked.progress, err);
+    decision_page(alloc, &text, &decision, asked.out, asked.json, files)
 }
 
 /// The whole content of the file at a path.
@@ -82,7 +82,8 @@ pub fn read_whole<'a, F: FileSet>(
     Ok(bytes)
 }
 
-/// The page of what is decided of a text. The schedule of a deadlock is written where a file is named.
+/// The page of what is decided of a text. The schedule of a deadlock is written where a file is
+/// named.
 fn decision_page<'a, F: FileSet>(
     alloc: Global,
     text: &[u8],
@@ -128,7 +129,8 @@ fn deadlock_page<'a, F: FileSet>(
     Ok(page_of(alloc, &Told::Deadlock, json)?)
 }
 
-/// The page of a race of the program of this text: the line that tells it, and the line of its calls, or one JSON object.
+/// The page of a race of the program of this text: the line that tells it, and the line of its
+/// calls, or one JSON object.
 pub fn race_page(alloc: Global, text: &[u8], race: Race, json: bool) -> Result<Page, AllocError>
     ensures { IfOk result (λ page. IsRacePage json text.now race page.text.items page.status) }
 {

@@ -1,16 +1,19 @@
 //! The command `explain`, from the files that it names to the page that it prints.
-ghost use Rattle.std.specs.Prelude.{◌≡◌, IfErr, IfOk, Ok, option_map};
+ghost use Rattle.std.specs.Prelude.{◌≡◌, IfErr, IfOk, Ok};
 ghost use Rattle.calltext.specs.Limits.{long};
 ghost use Rattle.semantics.specs.Headline.{IsNeverStuckWithin, IsStuckRunWithin};
 ghost use Rattle.deciding.specs.Decisions.{Decides, IsDecided};
+ghost use Rattle.command_line.specs.Requests.{path_of};
 ghost use Rattle.reports.specs.Explanations.{IsRunDrawn, TellsSizes};
-ghost use Rattle.session.specs.Pages.{IsAnswerPage, IsDecidedFirst, IsDecisionExplained, IsEither, IsExplained, IsExplainFile, IsExplainPage, IsExplanationPage, IsFound, IsProgram, IsSearched, IsUndecidedPage, StopsBy, is_object};
+ghost use Rattle.session.specs.Explaining.{IsAnswerPage, IsDecidedFirst, IsDecisionExplained, IsExplainFile, IsExplainPage, IsExplained, IsExplanationPage, IsFound, IsSearched, IsUndecidedPage, is_object};
+ghost use Rattle.session.specs.Pages.{IsEither, IsProgram, StopsBy};
 
 use crate::commands::{Open, PIECES, Stop, Texts, helped_page, is_object, read_both};
 use crate::decide::{race_page, read_whole};
 use crate::page::{Page, page_of};
 use crate::told::Told;
 use calltext::Limits;
+use command_line::ToExplain;
 use deciding::{Decision, Race, Undecided, decide, schedule_text};
 use files::FileSet;
 use prooflog::Text;
@@ -22,32 +25,30 @@ use std::alloc::{AllocError, Global};
 use std::sync::Wait;
 use std::thread::Threads;
 
-/// Explains what an evidence shows of a program, in a form; where none is named, what one run decides, or where messages may race what
-/// the evidence shows that a search finds. No file changes.
+/// Explains what an evidence shows of a program, in a form; where none is named, what one run
+/// decides, or where messages may race what the evidence shows that a search finds. No file
+/// changes.
 pub fn explain_page<'a, R: Threads + Wait + Sync, F: FileSet>(
     rt: &R,
     alloc: Global,
-    program: &'a str,
-    evidence: Option<&'a str>,
-    options: Options,
-    form: Form,
+    asked: ToExplain<'a>,
     files: &mut F,
 ) -> Result<Page, Stop<'a>>
     ensures page { IfOk result (λ page.
-        IsExplainPage (F.held files.old) program.entry.now (option_map (λ path. path.now) evidence.entry) options.budget form
+        IsExplainPage (F.held files.old) asked.entry.program.now (path_of asked.entry.evidence) asked.entry.options.budget asked.entry.form
         page.text.items page.status) }
     ensures same { F.held files.new ≡ F.held files.old }
-    ensures stop { IfErr result (StopsBy (IsExplainFile (F.reads files.old) program.entry.now (option_map (λ path. path.now) evidence.entry))
+    ensures stop { IfErr result (StopsBy (IsExplainFile (F.reads files.old) asked.entry.program.now (path_of asked.entry.evidence))
         (F.held files.old) (F.held files.new)) }
 {
-    match evidence {
-        Some(evidence) => given_page(rt, alloc, program, evidence, form, files),
-        None => decided_first(rt, alloc, program, options, form, files),
+    match asked.evidence {
+        Some(evidence) => given_page(rt, alloc, asked.program, evidence, asked.form, files),
+        None => decided_first(rt, alloc, asked.program, asked.options, asked.form, files),
     }
 }
 
-/// Decides by one run, and explains what it shows, in a form; where messages may race, searches for an answer, and explains what its
-/// evidence shows. No file changes.
+/// Decides by one run, and explains what it shows, in a form; where messages may race, searches for
+/// an answer, and explains what its evidence shows. No file changes.
 fn decided_first<'a, R: Threads + Wait + Sync, F: FileSet>(
     rt: &R,
     alloc: Global,
@@ -167,8 +168,8 @@ fn run_page<R: Threads + Wait + Sync>(
     Ok(Page { text, status })
 }
 
-/// The page of a program whose messages may race: that of the answer that a search finds, and of the race where the program is too
-/// large for one.
+/// The page of a program whose messages may race: that of the answer that a search finds, and of
+/// the race where the program is too large for one.
 fn searched_page<R: Threads + Wait + Sync>(
     rt: &R,
     alloc: Global,

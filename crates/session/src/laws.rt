@@ -1,38 +1,11 @@
 //! What follows from how a run ended. Each function does nothing: its contract is the law.
-ghost use Rattle.session.specs.Deadlocks.{
-  CheckedDeadlockIsPrinted,
-  CheckedDeadlockIsShown,
-  CheckedSafetyIsPrinted,
-  CheckedSafetyIsTrue,
-  DecidedRunsAreRight,
-  EncodedFormulaIsPrinted,
-  ExplainedDeadlockIsShown,
-  ExplainedSafetyIsTrue,
-  ExplainedUnknownFinishes,
-  ExportedAnswerIsPrinted,
-  ExportedProofIsWritten,
-  ExportedSafetyIsTrue,
-  PlainWordsAreAnswered,
-  ProvedDeadlockIsPrinted,
-  ProvedDeadlockIsShown,
-  ProvedSafetyIsPrinted,
-  ProvedSafetyIsTrue,
-  ProvedUnknownFinishes,
-  ReadFilesAreNotBlamed,
-  RefutedIsChecked,
-  ReplayedDeadlockIsShown,
-  ReplayedRunIsPrinted,
-  ShownDeadlockIsChecked,
-  ShownDeadlockIsReplayed,
-  ShrunkProgramHangs,
-  ToldDeadlockIsShown,
-  TrimmedRefutationIsWritten,
-  WrittenDeadlockIsShown,
-  WrittenSafetyIsRefuted,
-};
+ghost use Rattle.session.specs.AnyLaws.{PlainWordsAreAnswered, ToldDeadlockIsShown};
+ghost use Rattle.session.specs.CheckLaws.{CheckedDeadlockIsPrinted, CheckedDeadlockIsShown, CheckedSafetyIsPrinted, CheckedSafetyIsTrue, EncodedFormulaIsPrinted, ReadFilesAreNotBlamed, RefutedIsChecked, ReplayedDeadlockIsShown, ReplayedRunIsPrinted, ShownDeadlockIsChecked, ShownDeadlockIsReplayed};
+ghost use Rattle.session.specs.FileLaws.{ExportedAnswerIsPrinted, ExportedProofIsWritten, ExportedSafetyIsTrue, ShrunkProgramHangs, TrimmedRefutationIsWritten};
+ghost use Rattle.session.specs.SearchLaws.{DecidedRunsAreRight, ExplainedDeadlockIsShown, ExplainedSafetyIsTrue, ExplainedUnknownFinishes, ProvedDeadlockIsPrinted, ProvedDeadlockIsShown, ProvedSafetyIsPrinted, ProvedSafetyIsTrue, ProvedUnknownFinishes, WrittenDeadlockIsShown, WrittenSafetyIsRefuted};
 
-/// Where words ask for a check, and the run printed the line that tells a deadlock or ended with the
-/// status 1, the evidence of the one file shows a stuck run of the program of the other.
+/// Where words ask for a check, and the run printed the line that tells a deadlock or ended with
+/// the status 1, the evidence of the one file shows a stuck run of the program of the other.
 pub fn checked_deadlock_is_shown()
     ensures { CheckedDeadlockIsShown }
 {}
@@ -43,14 +16,14 @@ pub fn shown_deadlock_is_checked()
     ensures { ShownDeadlockIsChecked }
 {}
 
-/// Where words ask for a check, and the run printed the line that tells that there is no deadlock or
-/// ended with the status 0, no run of the program ends stuck.
+/// Where words ask for a check, and the run printed the line that tells that there is no deadlock
+/// or ended with the status 0, no run of the program ends stuck.
 pub fn checked_safety_is_true()
     ensures { CheckedSafetyIsTrue }
 {}
 
-/// Where the evidence of the one file refutes the program of the other, a check ends with the status
-/// 0, or with that of want of memory or of a file or an output that fails.
+/// Where the evidence of the one file refutes the program of the other, a check ends with the
+/// status 0, or with that of want of memory or of a file or an output that fails.
 pub fn refuted_is_checked()
     ensures { RefutedIsChecked }
 {}
@@ -65,8 +38,8 @@ pub fn checked_deadlock_is_printed()
     ensures { CheckedDeadlockIsPrinted }
 {}
 
-/// Where the files tell that they read both the program and the evidence, a check with the status 5 tells none of them as failed: its
-/// output did.
+/// Where the files tell that they read both the program and the evidence, a check with the status 5
+/// tells none of them as failed: its output did.
 pub fn read_files_are_not_blamed()
     ensures { ReadFilesAreNotBlamed }
 {}
@@ -83,7 +56,8 @@ pub fn shown_deadlock_is_replayed()
     ensures { ShownDeadlockIsReplayed }
 {}
 
-/// A replay that ended with the status 1 printed the run that the evidence shows, and none ends with the status 0.
+/// A replay that ended with the status 1 printed the run that the evidence shows, and none ends
+/// with the status 0.
 pub fn replayed_run_is_printed()
     ensures { ReplayedRunIsPrinted }
 {}
@@ -110,8 +84,8 @@ pub fn written_safety_is_refuted()
     ensures { WrittenSafetyIsRefuted }
 {}
 
-/// A search that ended with the status 0 printed the line that tells that there is no deadlock, and on standard error how far it was, where
-/// its words ask for that, and else nothing.
+/// A search that ended with the status 0 printed the line that tells that there is no deadlock, and
+/// on standard error how far it was, where its words ask for that, and else nothing.
 pub fn proved_safety_is_printed()
     ensures { ProvedSafetyIsPrinted }
 {}
@@ -121,32 +95,35 @@ pub fn proved_deadlock_is_printed()
     ensures { ProvedDeadlockIsPrinted }
 {}
 
-/// Where words ask to prove a program with a budget above 0, and the run printed the line `unknown budget`, `unknown full` or `unknown left`
-/// or ended with the status 2, some run of the program of the file ends with all ranks finished.
+/// Where words ask to prove a program with a budget above 0, and the run printed the line `unknown
+/// budget`, `unknown full` or `unknown left` or ended with the status 2, some run of the program of
+/// the file ends with all ranks finished.
 pub fn proved_unknown_finishes()
     ensures { ProvedUnknownFinishes }
 {}
 
-/// Where words ask to explain a program, and the run printed the line that tells a deadlock or ended with the status 1, the evidence that
-/// they name shows a stuck run of it; and where they name none, some steps are a run of it that gets stuck.
+/// Where words ask to explain a program, and the run printed the line that tells a deadlock or
+/// ended with the status 1, the evidence that they name shows a stuck run of it; and where they
+/// name none, some steps are a run of it that gets stuck.
 pub fn explained_deadlock_is_shown()
     ensures { ExplainedDeadlockIsShown }
 {}
 
-/// Where words ask to explain a program, and the run ended with the status 0, no run of the program ends stuck; where they name no evidence,
-/// the program may have any length.
+/// Where words ask to explain a program, and the run ended with the status 0, no run of the program
+/// ends stuck; where they name no evidence, the program may have any length.
 pub fn explained_safety_is_true()
     ensures { ExplainedSafetyIsTrue }
 {}
 
-/// Where it ended with the status 2, the words name no evidence, and messages may race; and with a budget above 0 some run of the program ends
-/// with all ranks finished, or the program is refused as too large for a search.
+/// Where it ended with the status 2, the words name no evidence, and messages may race; and with a
+/// budget above 0 some run of the program ends with all ranks finished, or the program is refused
+/// as too large for a search.
 pub fn explained_unknown_finishes()
     ensures { ExplainedUnknownFinishes }
 {}
 
-/// Where words ask to export a proof, and the run printed the line that tells that there is no deadlock or ended with the status 0, no
-/// run of the program of the file ends stuck.
+/// Where words ask to export a proof, and the run printed the line that tells that there is no
+/// deadlock or ended with the status 0, no run of the program of the file ends stuck.
 pub fn exported_safety_is_true()
     ensures { ExportedSafetyIsTrue }
 {}
@@ -156,47 +133,51 @@ pub fn exported_proof_is_written()
     ensures { ExportedProofIsWritten }
 {}
 
-/// An export that ended with the status 0 printed the line that tells that there is no deadlock, and one with the status 1 the line that
-/// tells one, and then no file has changed.
+/// An export that ended with the status 0 printed the line that tells that there is no deadlock,
+/// and one with the status 1 the line that tells one, and then no file has changed.
 pub fn exported_answer_is_printed()
     ensures { ExportedAnswerIsPrinted }
 {}
 
-/// Where words ask to encode a program, and the run ended with the status 0, it printed the text of the formula of the program of the file, in
-/// the DIMACS format where they ask for that; and none ends with the status 1.
+/// Where words ask to encode a program, and the run ended with the status 0, it printed the text of
+/// the formula of the program of the file, in the DIMACS format where they ask for that; and none
+/// ends with the status 1.
 pub fn encoded_formula_is_printed()
     ensures { EncodedFormulaIsPrinted }
 {}
 
-/// Where words ask to trim a refutation, and the run ended with the status 0, the file that they name holds afterwards the refutation without
-/// the lines that aren't needed, which refutes each program that the evidence refutes, and the numbers of lines before and after were
-/// printed; and none ends with the status 1.
+/// Where words ask to trim a refutation, and the run ended with the status 0, the file that they
+/// name holds afterwards the refutation without the lines that aren't needed, which refutes each
+/// program that the evidence refutes, and the numbers of lines before and after were printed; and
+/// none ends with the status 1.
 pub fn trimmed_refutation_is_written()
     ensures { TrimmedRefutationIsWritten }
 {}
 
-/// Where words ask for a smaller program, and the run ended with the status 1, the program of the file has a run that ends stuck, and one was
-/// printed, or written to the file that they name, that has such a run too and is no larger; with the status 2 some run of the program of the
-/// file finishes; and none ends with the status 0.
+/// Where words ask for a smaller program, and the run ended with the status 1, the program of the
+/// file has a run that ends stuck, and one was printed, or written to the file that they name, that
+/// has such a run too and is no larger; with the status 2 some run of the program of the file
+/// finishes; and none ends with the status 0.
 pub fn shrunk_program_hangs()
     ensures { ShrunkProgramHangs }
 {}
 
-/// Where any run printed the line of a deadlock or ended with the status 1, its words ask to prove, check,
-/// replay, explain, export or shrink a program, and that program has a run that ends stuck.
+/// Where any run printed the line of a deadlock or ended with the status 1, its words ask to prove,
+/// check, replay, explain, export or shrink a program, and that program has a run that ends stuck.
 pub fn told_deadlock_is_shown()
     ensures { ToldDeadlockIsShown }
 {}
 
-/// A run of words in their usual order answers their command, or tells want of memory, with the status 4, before it
-/// is known.
+/// A run of words in their usual order answers their command, or tells want of memory, with the
+/// status 4, before it is known.
 pub fn plain_words_are_answered()
     ensures { PlainWordsAreAnswered }
 {}
 
-/// Where words ask to decide a program by one run: a deadlock that was told is a run of the program that gets stuck, and the file that is
-/// named holds it; where no deadlock was told, no run of the program gets stuck; and where neither was, some receive, matched probe or
-/// probe takes any source. The program may have any length.
+/// Where words ask to decide a program by one run: a deadlock that was told is a run of the program
+/// that gets stuck, and the file that is named holds it; where no deadlock was told, no run of the
+/// program gets stuck; and where neither was, some receive, matched probe or probe takes any
+/// source. The program may have any length.
 pub fn decided_runs_are_right()
     ensures { DecidedRunsAreRight }
 {}

@@ -1,47 +1,47 @@
 //! The command `explain` with the map of a program's text.
-ghost use Rattle.std.specs.Prelude.{◌≡◌, IfErr, IfOk, List, option_map, string_bytes, ℕ};
+ghost use Rattle.std.specs.Prelude.{◌≡◌, IfErr, IfOk, List, string_bytes, ℕ};
+ghost use Rattle.command_line.specs.Requests.{path_of};
 ghost use Rattle.places.specs.Maps.{AreFrom};
 ghost use Rattle.places.specs.Woven.{IsWoven};
+ghost use Rattle.session.specs.Explaining.{IsExplainFile, IsExplainPage};
 ghost use Rattle.session.specs.Mapping.{IsMapRefused, IsMapped, IsMappedFile, IsPlaced, IsPlacedFile, map_words};
-ghost use Rattle.session.specs.Pages.{IsExplainFile, IsExplainPage, StopsBy};
+ghost use Rattle.session.specs.Pages.{StopsBy};
 
 use crate::commands::{Stop, is_object};
 use crate::decide::read_whole;
 use crate::explained::explain_page;
 use crate::page::{Page, page_with};
 use crate::status::REFUSED;
+use command_line::ToExplain;
 use files::FileSet;
 use places::{MapFault, Places, read_map, with_places};
-use prover::Options;
 use settings::Form;
 use std::alloc::{AllocError, Global};
 use std::sync::Wait;
 use std::thread::Threads;
 
-/// Explains as `explain_page` does, and where a map is named with the places that it has for the lines that are named. No file changes.
+/// Explains as `explain_page` does, and where a map is named with the places that it has for the
+/// lines that are named. No file changes.
 pub fn mapped_page<'a, R: Threads + Wait + Sync, F: FileSet>(
     rt: &R,
     alloc: Global,
-    program: &'a str,
-    evidence: Option<&'a str>,
-    options: Options,
-    form: Form,
-    map: Option<&'a str>,
+    asked: ToExplain<'a>,
     files: &mut F,
 ) -> Result<Page, Stop<'a>>
     ensures page { IfOk result (λ page.
-        IsMapped (F.held files.old) form (option_map (λ path. path.now) map.entry)
-        (IsExplainPage (F.held files.old) program.entry.now (option_map (λ path. path.now) evidence.entry) options.budget form)
+        IsMapped (F.held files.old) asked.entry.program.now asked.entry.form (path_of asked.entry.map)
+        (IsExplainPage (F.held files.old) asked.entry.program.now (path_of asked.entry.evidence)
+        asked.entry.options.budget asked.entry.form)
         page.text.items page.status) }
     ensures same { F.held files.new ≡ F.held files.old }
     ensures stop { IfErr result (StopsBy
-        (IsMappedFile (F.reads files.old) program.entry.now (option_map (λ path. path.now) map.entry)
-        (IsExplainFile (F.reads files.old) program.entry.now (option_map (λ path. path.now) evidence.entry)))
+        (IsMappedFile (F.reads files.old) asked.entry.program.now (path_of asked.entry.map)
+        (IsExplainFile (F.reads files.old) asked.entry.program.now (path_of asked.entry.evidence)))
         (F.held files.old) (F.held files.new)) }
 {
-    match map {
-        None => explain_page(rt, alloc, program, evidence, options, form, files),
-        Some(map) => placed_page(rt, alloc, program, evidence, options, form, map, files),
+    match asked.map {
+        None => explain_page(rt, alloc, asked, files),
+        Some(map) => placed_page(rt, alloc, asked, map, files),
     }
 }
 
@@ -49,31 +49,29 @@ pub fn mapped_page<'a, R: Threads + Wait + Sync, F: FileSet>(
 fn placed_page<'a, R: Threads + Wait + Sync, F: FileSet>(
     rt: &R,
     alloc: Global,
-    program: &'a str,
-    evidence: Option<&'a str>,
-    options: Options,
-    form: Form,
+    asked: ToExplain<'a>,
     map: &'a str,
     files: &mut F,
 ) -> Result<Page, Stop<'a>>
     ensures page { IfOk result (λ page.
-        IsPlaced (F.held files.old map.entry.now) form
-        (IsExplainPage (F.held files.old) program.entry.now (option_map (λ path. path.now) evidence.entry) options.budget form)
+        IsPlaced (F.held files.old asked.entry.program.now) (F.held files.old map.entry.now) asked.entry.form
+        (IsExplainPage (F.held files.old) asked.entry.program.now (path_of asked.entry.evidence)
+        asked.entry.options.budget asked.entry.form)
         page.text.items page.status) }
     ensures same { F.held files.new ≡ F.held files.old }
     ensures stop { IfErr result (StopsBy
-        (IsPlacedFile (F.reads files.old) program.entry.now map.entry.now
-        (IsExplainFile (F.reads files.old) program.entry.now (option_map (λ path. path.now) evidence.entry)))
+        (IsPlacedFile (F.reads files.old) asked.entry.program.now map.entry.now
+        (IsExplainFile (F.reads files.old) asked.entry.program.now (path_of asked.entry.evidence)))
         (F.held files.old) (F.held files.new)) }
 {
     let bytes = read_whole(alloc, map, files)?;
-    let text = read_whole(alloc, program, files)?;
+    let text = read_whole(alloc, asked.program, files)?;
     match read_map(alloc, &bytes, &text) {
         Err(MapFault::Memory) => Err(Stop::Memory),
-        Err(fault) => Ok(map_refused(alloc, fault, is_object(form))?),
+        Err(fault) => Ok(map_refused(alloc, fault, is_object(asked.form))?),
         Ok(places) => {
-            let page = explain_page(rt, alloc, program, evidence, options, form, files)?;
-            Ok(woven_page(alloc, page, form, &places)?)
+            let page = explain_page(rt, alloc, asked, files)?;
+            Ok(woven_page(alloc, page, asked.form, &places)?)
         }
     }
 }

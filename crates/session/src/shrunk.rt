@@ -1,5 +1,6 @@
 //! The command `shrink`, from the file that it names to the page that it prints.
 ghost use Rattle.std.specs.Prelude.{◌≡◌, IfErr, IfOk, OnOk, Some, option_map};
+ghost use Rattle.command_line.specs.Requests.{path_of};
 ghost use Rattle.session.specs.Pages.{ChangesAtMost, IsWritten, StopsBy};
 ghost use Rattle.session.specs.Shrinking.{IsBeyond, IsMadeSmaller, IsNotSmaller, IsShrinkFile, IsSmaller, IsSmallerPage, IsUnshrunkPage};
 
@@ -9,6 +10,7 @@ use crate::explained::undecided_page;
 use crate::page::Page;
 use crate::status::UNKNOWN;
 use crate::told::Told;
+use command_line::ToShrink;
 use deciding::Undecided;
 use files::FileSet;
 use prooflog::Text;
@@ -20,34 +22,36 @@ use std::alloc::{AllocError, Global};
 /// How many walks are taken at most to make a program smaller, or few more.
 const WALKS: u32 = 20_000;
 
-/// How many lines are read and run at most to make a program smaller that is beyond the limits of `prove`, or few more.
+/// How many lines are read and run at most to make a program smaller that is beyond the limits of
+/// `prove`, or few more.
 const WORK: u64 = 50_000_000;
 
-/// Makes the program of a file smaller, so that it still gets stuck: the page is the smaller program, or it is written to the file that is
-/// named, and the page tells a deadlock. No other file changes. The page is made before the file is, so that no file changes where memory
-/// runs out.
+/// Makes the program of a file smaller, so that it still gets stuck: the page is the smaller
+/// program, or it is written to the file that is named, and the page tells a deadlock. No other
+/// file changes. The page is made before the file is, so that no file changes where memory runs
+/// out.
 pub fn shrink_page<'a, F: FileSet>(
     alloc: Global,
-    program: &'a str,
-    out: Option<&'a str>,
+    asked: ToShrink<'a>,
     files: &mut F,
 ) -> Result<Page, Stop<'a>>
     ensures page { IfOk result (λ page.
-        IsMadeSmaller F.tells_written (F.held files.old) (F.held files.new) program.entry.now
-        (option_map (λ path. path.now) out.entry) page.text.items page.status) }
-    ensures others { ChangesAtMost (option_map (λ path. path.now) out.entry) (F.held files.old) (F.held files.new) }
+        IsMadeSmaller F.tells_written (F.held files.old) (F.held files.new) asked.entry.program.now
+        (path_of asked.entry.out) page.text.items page.status) }
+    ensures others { ChangesAtMost (path_of asked.entry.out) (F.held files.old) (F.held files.new) }
     ensures stop { IfErr result (StopsBy
-        (IsShrinkFile (F.reads files.old) program.entry.now (option_map (λ path. path.now) out.entry) (F.held files.old) (F.held files.new))
+        (IsShrinkFile (F.reads files.old) asked.entry.program.now (path_of asked.entry.out) (F.held files.old) (F.held files.new))
         (F.held files.old) (F.held files.new)) }
 {
-    let text = read_whole(alloc, program, files)?;
+    let text = read_whole(alloc, asked.program, files)?;
     match smaller_text(alloc, &text) {
-        Ok(smaller) => smaller_page(alloc, smaller, out, files),
+        Ok(smaller) => smaller_page(alloc, smaller, asked.out, files),
         Err(why) => Ok(unshrunk_page(alloc, &text, why)?),
     }
 }
 
-/// The text of a smaller program, or why there is none: within the limits of `prove` by walks, and beyond them by one run.
+/// The text of a smaller program, or why there is none: within the limits of `prove` by walks, and
+/// beyond them by one run.
 fn smaller_text(alloc: Global, text: &[u8]) -> Result<Vec<u8>, NotShrunkLong>
     ensures smaller { IfOk result (λ smaller. IsSmaller text.now smaller.items) }
     ensures why { IfErr result (IsNotSmaller text.now) }

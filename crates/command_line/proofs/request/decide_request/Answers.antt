@@ -1,5 +1,5 @@
-use Rattle.std.proofs.Common.{◌∙◌, ap, refl, option_map}
-use Rattle.command_line.proofs.CommandLines.{given_by_rows}
+use Rattle.std.proofs.Common.{refl}
+use Rattle.command_line.proofs.CommandLines.{given_by_rows, path_by_rows}
 use Rattle.command_line.proofs.request.decide_request.Goals as goal
 
 pub returns : goal.returns
@@ -8,8 +8,7 @@ returns c =
     record {
       command = refl;
       values = (
-        given_by_rows m _ c.get_str.result c.get_str.ensures
-            ∙ ap (option_map (λ s. s.now)) c.in_ok-get_str.was,
+        path_by_rows m _ c.get_str.result _ c.get_str.ensures c.in_ok-get_str.was,
         given_by_rows m _ c.get_str-2.result c.get_str-2.ensures,
         c.is_set-progress.ensures,
         c.is_set-json.ensures,

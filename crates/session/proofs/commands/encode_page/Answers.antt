@@ -8,7 +8,7 @@ pub returns-in-Ok-clause-page : goal.returns-in-Ok-clause-page
 returns-in-Ok-clause-page g c =
     let read = c.deref.result.now in
     let (whole, all, alike) = subst (StandsFor AreAlikePrograms _) (sym c.deref.ensures.value) c.in_ok-program.ensures.bytes in
-    (whole, all, inl (whole_formula c.args.dimacs read whole c.in-Ok.text.items alike c.in-Ok.ensures.text, c.status-status.ensures))
+    (whole, all, inl (whole_formula c.args.asked.dimacs read whole c.in-Ok.text.items alike c.in-Ok.ensures.text, c.status-status.ensures))
 
 pub returns-clause-page : goal.returns-clause-page
 returns-clause-page g c =

@@ -8,7 +8,7 @@ use Rattle.checker.specs.declared.reason.Verdict.TheVariants as verdicts
 use Rattle.checker.proofs.Reasons.{refuted_refute}
 use Rattle.reports.specs.Exports.{Exports}
 use Rattle.session.specs.Lines.{IsLine}
-use Rattle.session.specs.Pages.{IsExported, IsExportedTo, IsExportFile, IsWritten, StopsBy}
+use Rattle.session.specs.Pages.{IsExportFile, IsExported, IsExportedTo, IsWritten, StopsBy}
 use Rattle.session.specs.Texts.{AreAlikeEvidences, AreAlikePrograms, StandsFor}
 use Rattle.session.specs.declared.commands.Stop.{Stop}
 use Rattle.session.specs.declared.commands.Stop.TheVariants as stop
@@ -57,22 +57,22 @@ pub returns-in-Ok-clause-page : goal.returns-in-Ok-clause-page
 returns-in-Ok-clause-page g c =
     let held = g.F.FileSet.held c.args.files.now in
     let proof = c.in-Ok.proof.items in
-    let (program, all_p, alike_p) = subst (StandsFor AreAlikePrograms (held c.args.program.now)) (sym c.deref.ensures.value) c.in_ok-program.ensures.program in
-    let (evidence, all_e, alike_e) = subst (StandsFor AreAlikeEvidences (held c.args.evidence.now)) (sym c.deref-2.ensures.value) c.in_ok-program.ensures.evidence in
+    let (program, all_p, alike_p) = subst (StandsFor AreAlikePrograms (held c.args.asked.program.now)) (sym c.deref.ensures.value) c.in_ok-program.ensures.program in
+    let (evidence, all_e, alike_e) = subst (StandsFor AreAlikeEvidences (held c.args.asked.evidence.now)) (sym c.deref-2.ensures.value) c.in_ok-program.ensures.evidence in
     page_written g.F.FileSet.tells_written held (g.F.FileSet.held c.read_both.new.files) (g.F.FileSet.held c.decided_page.new.files)
-    c.args.program.now c.args.evidence.now c.args.out.now program evidence proof c.decided_page.result all_p all_e
+    c.args.asked.program.now c.args.asked.evidence.now c.args.asked.out.now program evidence proof c.decided_page.result all_p all_e
     (whole_proof c.deref.result.now program c.deref-2.result.now evidence proof alike_p alike_e
-    c.in-Ok.ensures.proof) (subst (λ (t : List ℕ). OnOk c.decided_page.result (IsWritten g.F.FileSet.tells_written (g.F.FileSet.held c.read_both.new.files) (g.F.FileSet.held c.decided_page.new.files) (Some c.args.out.now) t)) c.of-proof.ensures c.decided_page.ensures.written)
+    c.in-Ok.ensures.proof) (subst (λ (t : List ℕ). OnOk c.decided_page.result (IsWritten g.F.FileSet.tells_written (g.F.FileSet.held c.read_both.new.files) (g.F.FileSet.held c.decided_page.new.files) (Some c.args.asked.out.now) t)) c.of-proof.ensures c.decided_page.ensures.written)
     c.decided_page.ensures.line
 
 pub returns-in-Ok-clause-stop : goal.returns-in-Ok-clause-stop
 returns-in-Ok-clause-stop g c =
     let held = g.F.FileSet.held c.args.files.now in
     let proof = c.in-Ok.proof.items in
-    let (program, all_p, alike_p) = subst (StandsFor AreAlikePrograms (held c.args.program.now)) (sym c.deref.ensures.value) c.in_ok-program.ensures.program in
-    let (evidence, all_e, alike_e) = subst (StandsFor AreAlikeEvidences (held c.args.evidence.now)) (sym c.deref-2.ensures.value) c.in_ok-program.ensures.evidence in
+    let (program, all_p, alike_p) = subst (StandsFor AreAlikePrograms (held c.args.asked.program.now)) (sym c.deref.ensures.value) c.in_ok-program.ensures.program in
+    let (evidence, all_e, alike_e) = subst (StandsFor AreAlikeEvidences (held c.args.asked.evidence.now)) (sym c.deref-2.ensures.value) c.in_ok-program.ensures.evidence in
     stops_written (g.F.FileSet.reads c.args.files.now) held (g.F.FileSet.held c.read_both.new.files) (g.F.FileSet.held c.decided_page.new.files)
-    c.args.program.now c.args.evidence.now c.args.out.now program evidence proof c.decided_page.result c.in_ok-program.ensures.same all_p all_e
+    c.args.asked.program.now c.args.asked.evidence.now c.args.asked.out.now program evidence proof c.decided_page.result c.in_ok-program.ensures.same all_p all_e
     (whole_proof c.deref.result.now program c.deref-2.result.now evidence proof alike_p alike_e
     c.in-Ok.ensures.proof) c.decided_page.ensures.stop
 
@@ -81,15 +81,15 @@ returns-clause-page g c =
     let held = g.F.FileSet.held c.args.files.now in
     let page = c.in_ok-page_of-in-Err.field-0 in
     let v = c.in-Err.verdict in
-    let (program, all_p, alike_p) = subst (StandsFor AreAlikePrograms (held c.args.program.now)) (sym c.deref.ensures.value) c.in_ok-program.ensures.program in
-    let (evidence, all_e, alike_e) = subst (StandsFor AreAlikeEvidences (held c.args.evidence.now)) (sym c.deref-2.ensures.value) c.in_ok-program.ensures.evidence in (
+    let (program, all_p, alike_p) = subst (StandsFor AreAlikePrograms (held c.args.asked.program.now)) (sym c.deref.ensures.value) c.in_ok-program.ensures.program in
+    let (evidence, all_e, alike_e) = subst (StandsFor AreAlikeEvidences (held c.args.asked.evidence.now)) (sym c.deref-2.ensures.value) c.in_ok-program.ensures.evidence in (
       program,
       evidence,
       v,
       all_p,
       all_e,
       whole_verdict c.deref.result.now program c.deref-2.result.now evidence v alike_p alike_e c.in-Err.ensures.judges,
-      unexported g.F.FileSet.tells_written held (g.F.FileSet.held c.read_both.new.files) c.args.out.now program evidence v c.in-Err.ensures.other
+      unexported g.F.FileSet.tells_written held (g.F.FileSet.held c.read_both.new.files) c.args.asked.out.now program evidence v c.in-Err.ensures.other
           c.in_ok-program.ensures.same,
       subst (λ (t : Told). IsLine t false page.text.items page.status) c.from.ensures c.in_ok-page_of-in-Err.ensures,
     )

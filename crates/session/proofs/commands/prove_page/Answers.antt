@@ -6,7 +6,7 @@ use Rattle.prover.specs.declared.answer.Answer.{Answer}
 use Rattle.progress.proofs.Tellings.{none_told}
 use Rattle.session.specs.Endings.{IsFollowed}
 use Rattle.session.specs.Lines.{IsLine, told_of_answer}
-use Rattle.session.specs.Pages.{IsEvidenceFile, IsHandedOut, IsProved, IsProveFile, StopsBy}
+use Rattle.session.specs.Pages.{IsEvidenceFile, IsHandedOut, IsProveFile, IsProved, StopsBy}
 use Rattle.session.specs.Texts.{AreAlikePrograms, StandsFor}
 use Rattle.session.specs.declared.commands.Stop.{Stop}
 use Rattle.session.specs.declared.commands.Stop.TheVariants as stop
@@ -46,20 +46,20 @@ unfollowed false true known = inl refl
 unfollowed false false known = refl
 
 pub returns-in_err-text-clause-followed : goal.returns-in_err-text-clause-followed
-returns-in_err-text-clause-followed g c = unfollowed c.args.progress c.args.is_terminal (g.E.Write.contents c.args.err.now)
+returns-in_err-text-clause-followed g c = unfollowed c.args.asked.progress c.args.is_terminal (g.E.Write.contents c.args.err.now)
 
 pub returns-clause-page : goal.returns-clause-page
 returns-clause-page g c =
     let held = g.F.FileSet.held c.args.files.now in
-    page_told g.F.FileSet.tells_written held (g.F.FileSet.held c.read_program.new.files) (g.F.FileSet.held c.answer_page.new.files) c.args.program.now
-    (option_map (λ path. path.now) c.args.out) c.args.options.budget c.args.json c.deref.result.now c.searched-answer.result c.answer_page.result
-    c.in_ok-text.ensures.same (subst (StandsFor AreAlikePrograms (held c.args.program.now)) (sym c.deref.ensures.value) c.in_ok-text.ensures.bytes)
+    page_told g.F.FileSet.tells_written held (g.F.FileSet.held c.read_program.new.files) (g.F.FileSet.held c.answer_page.new.files) c.args.asked.program.now
+    (option_map (λ path. path.now) c.args.asked.out) c.args.asked.options.budget c.args.asked.json c.deref.result.now c.searched-answer.result c.answer_page.result
+    c.in_ok-text.ensures.same (subst (StandsFor AreAlikePrograms (held c.args.asked.program.now)) (sym c.deref.ensures.value) c.in_ok-text.ensures.bytes)
     c.searched-answer.ensures.answers c.searched-answer.ensures.finishes c.answer_page.ensures.handed c.answer_page.ensures.line
 
 pub returns-clause-stop : goal.returns-clause-stop
 returns-clause-stop g c =
     let held = g.F.FileSet.held c.args.files.now in
-    stops_told (g.F.FileSet.reads c.args.files.now) held (g.F.FileSet.held c.read_program.new.files) (g.F.FileSet.held c.answer_page.new.files) c.args.program.now
-    (option_map (λ path. path.now) c.args.out) c.deref.result.now c.searched-answer.result c.answer_page.result
-    c.in_ok-text.ensures.same (subst (StandsFor AreAlikePrograms (held c.args.program.now)) (sym c.deref.ensures.value) c.in_ok-text.ensures.bytes)
+    stops_told (g.F.FileSet.reads c.args.files.now) held (g.F.FileSet.held c.read_program.new.files) (g.F.FileSet.held c.answer_page.new.files) c.args.asked.program.now
+    (option_map (λ path. path.now) c.args.asked.out) c.deref.result.now c.searched-answer.result c.answer_page.result
+    c.in_ok-text.ensures.same (subst (StandsFor AreAlikePrograms (held c.args.asked.program.now)) (sym c.deref.ensures.value) c.in_ok-text.ensures.bytes)
     c.searched-answer.ensures.answers c.answer_page.ensures.stop

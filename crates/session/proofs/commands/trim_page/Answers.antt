@@ -5,7 +5,7 @@ use Rattle.files.specs.Contents.{AreAll}
 use Rattle.reports.specs.Trimming.{Shortens}
 use Rattle.reports.specs.declared.trimmed.Shortened.{Shortened}
 use Rattle.session.specs.Lines.{IsLine, line_text, lines_words}
-use Rattle.session.specs.Pages.{IsTrimmed, IsTrimFile, IsWritten, StopsBy}
+use Rattle.session.specs.Pages.{IsTrimFile, IsTrimmed, IsWritten, StopsBy}
 use Rattle.session.specs.Texts.{AreAlikeEvidences, StandsFor}
 use Rattle.session.specs.declared.commands.Stop.{Stop}
 use Rattle.session.specs.declared.commands.Stop.TheVariants as stop
@@ -33,19 +33,19 @@ stops_written reads old between new evidence_path file evidence s (Err (stop.Fil
 pub returns-in-Ok-clause-page : goal.returns-in-Ok-clause-page
 returns-in-Ok-clause-page g c =
     let held = g.F.FileSet.held c.args.files.now in
-    let (whole, all, alike) = subst (StandsFor AreAlikeEvidences (held c.args.evidence.now)) (sym c.deref.ensures.value) c.in_ok-bytes.ensures.bytes in
+    let (whole, all, alike) = subst (StandsFor AreAlikeEvidences (held c.args.asked.evidence.now)) (sym c.deref.ensures.value) c.in_ok-bytes.ensures.bytes in
     let shorter = whole_shorter c.deref.result.now whole c.in-Ok.shortened alike c.in-Ok.ensures.shortened in
     page_written g.F.FileSet.tells_written held (g.F.FileSet.held c.read_evidence.new.files) (g.F.FileSet.held c.shortened_page.new.files)
-    c.args.evidence.now c.args.out.now whole c.args.json c.in-Ok.shortened c.shortened_page.result all shorter
+    c.args.asked.evidence.now c.args.asked.out.now whole c.args.asked.json c.in-Ok.shortened c.shortened_page.result all shorter
     c.shortened_page.ensures.written c.shortened_page.ensures.text c.shortened_page.ensures.status
 
 pub returns-in-Ok-clause-stop : goal.returns-in-Ok-clause-stop
 returns-in-Ok-clause-stop g c =
     let held = g.F.FileSet.held c.args.files.now in
-    let (whole, all, alike) = subst (StandsFor AreAlikeEvidences (held c.args.evidence.now)) (sym c.deref.ensures.value) c.in_ok-bytes.ensures.bytes in
+    let (whole, all, alike) = subst (StandsFor AreAlikeEvidences (held c.args.asked.evidence.now)) (sym c.deref.ensures.value) c.in_ok-bytes.ensures.bytes in
     let shorter = whole_shorter c.deref.result.now whole c.in-Ok.shortened alike c.in-Ok.ensures.shortened in
     stops_written (g.F.FileSet.reads c.args.files.now) held (g.F.FileSet.held c.read_evidence.new.files) (g.F.FileSet.held c.shortened_page.new.files)
-    c.args.evidence.now c.args.out.now whole c.in-Ok.shortened c.shortened_page.result
+    c.args.asked.evidence.now c.args.asked.out.now whole c.in-Ok.shortened c.shortened_page.result
     c.in_ok-bytes.ensures.same all shorter c.shortened_page.ensures.stop
 
 pub returns-clause-page : goal.returns-clause-page
@@ -58,6 +58,6 @@ returns-clause-page g c =
         c.in-Err.why,
         whole_untrimmed c.deref.result.now whole c.in-Err.why alike c.in-Err.ensures.why,
         c.in_ok-bytes.ensures.same,
-        subst (λ (t : Told). IsLine t c.args.json page.text.items page.status) c.from.ensures c.in_ok-page_of-in-Err.ensures,
+        subst (λ (t : Told). IsLine t c.args.asked.json page.text.items page.status) c.from.ensures c.in_ok-page_of-in-Err.ensures,
       ),
     )

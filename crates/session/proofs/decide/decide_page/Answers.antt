@@ -7,7 +7,7 @@ use Rattle.deciding.specs.declared.decision.Decision.{Decision}
 use Rattle.deciding.specs.declared.decision.Decision.TheVariants as decisions
 use Rattle.deciding.specs.declared.texts.Undecided.{Undecided}
 use Rattle.session.specs.Endings.{IsFollowedRun}
-use Rattle.session.specs.Pages.{IsDecidedPage, IsDecideFile, IsDecisionPage, IsScheduled, IsScheduleFile, StopsBy}
+use Rattle.session.specs.Pages.{IsDecideFile, IsDecidedPage, IsDecisionPage, IsScheduleFile, IsScheduled, StopsBy}
 use Rattle.session.specs.declared.commands.Stop.{Stop}
 use Rattle.session.specs.declared.commands.Stop.TheVariants as stop
 use Rattle.session.specs.declared.page.Page.{Page}
@@ -37,19 +37,19 @@ stops_decided reads old between new path out program d (Err (stop.File file)) sa
 pub returns-clause-page : goal.returns-clause-page
 returns-clause-page g c =
     let held = g.F.FileSet.held c.args.files.now in
-    page_decided g.F.FileSet.tells_written held (g.F.FileSet.held c.read_whole.new.files) (g.F.FileSet.held c.decision_page.new.files) c.args.program.now
-    (option_map (λ path. path.now) c.args.out) c.args.json c.deref.result.now c.decided-decision.result c.decision_page.result
-    c.in_ok-text.ensures.same (subst (AreAll (held c.args.program.now)) (sym c.deref.ensures.value) c.in_ok-text.ensures.bytes)
+    page_decided g.F.FileSet.tells_written held (g.F.FileSet.held c.read_whole.new.files) (g.F.FileSet.held c.decision_page.new.files) c.args.asked.program.now
+    (option_map (λ path. path.now) c.args.asked.out) c.args.asked.json c.deref.result.now c.decided-decision.result c.decision_page.result
+    c.in_ok-text.ensures.same (subst (AreAll (held c.args.asked.program.now)) (sym c.deref.ensures.value) c.in_ok-text.ensures.bytes)
     c.decided-decision.ensures.decided c.decision_page.ensures.scheduled
-    (subst (λ (bytes : List ℕ). IfOk c.decision_page.result (λ p. IsDecisionPage c.args.json bytes c.decided-decision.result p.text.items p.status))
+    (subst (λ (bytes : List ℕ). IfOk c.decision_page.result (λ p. IsDecisionPage c.args.asked.json bytes c.decided-decision.result p.text.items p.status))
     (c.deref-2.ensures.value ∙ sym c.deref.ensures.value) c.decision_page.ensures.page)
 
 pub returns-clause-stop : goal.returns-clause-stop
 returns-clause-stop g c =
     let held = g.F.FileSet.held c.args.files.now in
-    stops_decided (g.F.FileSet.reads c.args.files.now) held (g.F.FileSet.held c.read_whole.new.files) (g.F.FileSet.held c.decision_page.new.files) c.args.program.now
-    (option_map (λ path. path.now) c.args.out) c.deref.result.now c.decided-decision.result c.decision_page.result
-    c.in_ok-text.ensures.same (subst (AreAll (held c.args.program.now)) (sym c.deref.ensures.value) c.in_ok-text.ensures.bytes)
+    stops_decided (g.F.FileSet.reads c.args.files.now) held (g.F.FileSet.held c.read_whole.new.files) (g.F.FileSet.held c.decision_page.new.files) c.args.asked.program.now
+    (option_map (λ path. path.now) c.args.asked.out) c.deref.result.now c.decided-decision.result c.decision_page.result
+    c.in_ok-text.ensures.same (subst (AreAll (held c.args.asked.program.now)) (sym c.deref.ensures.value) c.in_ok-text.ensures.bytes)
     c.decided-decision.ensures.decided c.decision_page.ensures.stop
 
 followed_decided : (progress : Bool) (file : Option (List ℕ)) (text : List ℕ) (told_old told_new : Option (List ℕ)) → AreAll file text
@@ -62,5 +62,5 @@ followed_decided false file text told_old told_new all none = none
 pub returns-clause-followed : goal.returns-clause-followed
 returns-clause-followed g c =
     let held = g.F.FileSet.held c.args.files.now in
-    followed_decided c.args.progress (held c.args.program.now) c.deref.result.now _ _
-    (subst (AreAll (held c.args.program.now)) (sym c.deref.ensures.value) c.in_ok-text.ensures.bytes) c.decided-decision.ensures.followed
+    followed_decided c.args.asked.progress (held c.args.asked.program.now) c.deref.result.now _ _
+    (subst (AreAll (held c.args.asked.program.now)) (sym c.deref.ensures.value) c.in_ok-text.ensures.bytes) c.decided-decision.ensures.followed

@@ -1,7 +1,7 @@
 -- The page tells what is decided of the whole program.
 use Rattle.std.proofs.Common.{◌∙◌, List, ℕ, subst, sym}
 use Rattle.files.specs.Contents.{AreAll}
-use Rattle.session.specs.Pages.{IsDecisionExplained}
+use Rattle.session.specs.Explaining.{IsDecisionExplained}
 use Rattle.session.proofs.explained.decided_first.Goals as goal
 
 pub returns-clause-page : goal.returns-clause-page

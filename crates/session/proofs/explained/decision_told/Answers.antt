@@ -1,5 +1,5 @@
 -- The page is that of the steps that were decided.
-use Rattle.std.proofs.Common.{◌≡◌, ◌∙◌, ap, IfOk, List, ℕ, Result, Ok, Err, subst, sym}
+use Rattle.std.proofs.Common.{◌≡◌, ap, IfOk, List, ℕ, Result, Ok, Err, subst, sym}
 use Rattle.std.specs.Global.{Vec}
 use Rattle.std.specs.declared.alloc.AllocError.{AllocError}
 use Rattle.semantics.specs.declared.state.Step.{Step}
@@ -8,7 +8,7 @@ use Rattle.deciding.specs.declared.decision.Decision.TheVariants as decisions
 use Rattle.deciding.specs.declared.texts.Undecided.{Undecided}
 use Rattle.settings.specs.declared.form.Form.{Form}
 use Rattle.reports.specs.Explanations.{IsRunDrawn}
-use Rattle.session.specs.Pages.{IsDecisionExplained}
+use Rattle.session.specs.Explaining.{IsDecisionExplained}
 use Rattle.session.specs.declared.page.Page.{Page}
 use Rattle.session.proofs.explained.decision_told.Goals as goal
 

@@ -1,6 +1,6 @@
 -- The text and the status are those of the explanation.
 use Rattle.std.proofs.Common.{List, ℕ, ◌∙◌, inl, inr, refl, subst}
-use Rattle.session.specs.Pages.{IsFound}
+use Rattle.session.specs.Explaining.{IsFound}
 use Rattle.session.proofs.explained.found_page.Goals as goal
 
 pub returns-in-NoDeadlock : goal.returns-in-NoDeadlock

@@ -1,4 +1,4 @@
-use Rattle.session.proofs.DecidedRuns.{decided_runs}
+use Rattle.session.proofs.SearchLaws.{decided_runs}
 use Rattle.session.proofs.laws.decided_runs_are_right.Goals as goal
 
 pub returns : goal.returns

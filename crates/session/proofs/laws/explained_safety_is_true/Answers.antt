@@ -1,4 +1,4 @@
-use Rattle.session.proofs.RunLaws.{explained_safe}
+use Rattle.session.proofs.SearchLaws.{explained_safe}
 use Rattle.session.proofs.laws.explained_safety_is_true.Goals as goal
 
 pub returns : goal.returns

@@ -1,4 +1,4 @@
-use Rattle.session.proofs.RunLaws.{exported}
+use Rattle.session.proofs.FileLaws.{exported}
 use Rattle.session.proofs.laws.exported_answer_is_printed.Goals as goal
 
 pub returns : goal.returns

@@ -1,4 +1,4 @@
-use Rattle.session.proofs.RunLaws.{exported_never}
+use Rattle.session.proofs.FileLaws.{exported_never}
 use Rattle.session.proofs.laws.exported_safety_is_true.Goals as goal
 
 pub returns : goal.returns

@@ -1,4 +1,4 @@
-use Rattle.session.proofs.PlainAnswers.{plain_words_are_answered}
+use Rattle.session.proofs.TaskEnds.{plain_words_are_answered}
 use Rattle.session.proofs.laws.plain_words_are_answered.Goals as goal
 
 pub returns : goal.returns

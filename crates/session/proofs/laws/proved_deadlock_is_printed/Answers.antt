@@ -1,4 +1,4 @@
-use Rattle.session.proofs.RunLaws.{proved_stuck}
+use Rattle.session.proofs.SearchLaws.{proved_stuck}
 use Rattle.session.proofs.laws.proved_deadlock_is_printed.Goals as goal
 
 pub returns : goal.returns

@@ -1,4 +1,4 @@
-use Rattle.session.proofs.RunLaws.{proved_safe}
+use Rattle.session.proofs.SearchLaws.{proved_safe}
 use Rattle.session.proofs.laws.proved_safety_is_printed.Goals as goal
 
 pub returns : goal.returns

@@ -1,4 +1,4 @@
-use Rattle.session.proofs.RunLaws.{proved_never}
+use Rattle.session.proofs.SearchLaws.{proved_never}
 use Rattle.session.proofs.laws.proved_safety_is_true.Goals as goal
 
 pub returns : goal.returns

@@ -1,4 +1,4 @@
-use Rattle.session.proofs.RunLaws.{unknown_finishes}
+use Rattle.session.proofs.SearchLaws.{unknown_finishes}
 use Rattle.session.proofs.laws.proved_unknown_finishes.Goals as goal
 
 pub returns : goal.returns

@@ -1,4 +1,4 @@
-use Rattle.session.proofs.RunLaws.{refuted_checked}
+use Rattle.session.proofs.CheckLaws.{refuted_checked}
 use Rattle.session.proofs.laws.refuted_is_checked.Goals as goal
 
 pub returns : goal.returns

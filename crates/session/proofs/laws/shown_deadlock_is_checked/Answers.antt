@@ -1,4 +1,4 @@
-use Rattle.session.proofs.RunLaws.{shown_checked}
+use Rattle.session.proofs.CheckLaws.{shown_checked}
 use Rattle.session.proofs.laws.shown_deadlock_is_checked.Goals as goal
 
 pub returns : goal.returns

@@ -1,4 +1,4 @@
-use Rattle.session.proofs.RunLaws.{any_told}
+use Rattle.session.proofs.AnyLaws.{any_told}
 use Rattle.session.proofs.laws.told_deadlock_is_shown.Goals as goal
 
 pub returns : goal.returns

@@ -1,4 +1,4 @@
-use Rattle.session.proofs.RunLaws.{written_never}
+use Rattle.session.proofs.SearchLaws.{written_never}
 use Rattle.session.proofs.laws.written_safety_is_refuted.Goals as goal
 
 pub returns : goal.returns

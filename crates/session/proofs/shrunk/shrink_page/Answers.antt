@@ -38,19 +38,19 @@ untold tells old between out program (unshrunk.Undecided why) text status same i
 pub returns-in-Ok-clause-page : goal.returns-in-Ok-clause-page
 returns-in-Ok-clause-page g c =
     let held = g.F.FileSet.held c.args.files.now in
-    let out = option_map (λ path. path.now) c.args.out in
-    let all = subst (AreAll (held c.args.program.now)) (sym c.deref.ensures.value) c.in_ok-text.ensures.bytes in
-    page_written g.F.FileSet.tells_written held (g.F.FileSet.held c.read_whole.new.files) (g.F.FileSet.held c.smaller_page.new.files) c.args.program.now out
+    let out = option_map (λ path. path.now) c.args.asked.out in
+    let all = subst (AreAll (held c.args.asked.program.now)) (sym c.deref.ensures.value) c.in_ok-text.ensures.bytes in
+    page_written g.F.FileSet.tells_written held (g.F.FileSet.held c.read_whole.new.files) (g.F.FileSet.held c.smaller_page.new.files) c.args.asked.program.now out
     c.deref.result.now c.in-Ok.smaller.items c.smaller_page.result c.in_ok-text.ensures.same all c.in-Ok.ensures.smaller c.smaller_page.ensures.written
     c.smaller_page.ensures.page c.smaller_page.ensures.status
 
 pub returns-in-Ok-clause-stop : goal.returns-in-Ok-clause-stop
 returns-in-Ok-clause-stop g c =
     let held = g.F.FileSet.held c.args.files.now in
-    let out = option_map (λ path. path.now) c.args.out in
-    let all = subst (AreAll (held c.args.program.now)) (sym c.deref.ensures.value) c.in_ok-text.ensures.bytes in
+    let out = option_map (λ path. path.now) c.args.asked.out in
+    let all = subst (AreAll (held c.args.asked.program.now)) (sym c.deref.ensures.value) c.in_ok-text.ensures.bytes in
     stops_written (g.F.FileSet.reads c.args.files.now) held (g.F.FileSet.held c.read_whole.new.files) (g.F.FileSet.held c.smaller_page.new.files)
-    c.args.program.now out c.deref.result.now c.smaller_page.result c.in_ok-text.ensures.same all
+    c.args.asked.program.now out c.deref.result.now c.smaller_page.result c.in_ok-text.ensures.same all
     (smaller_hangs c.deref.result.now c.in-Ok.smaller.items c.in-Ok.ensures.smaller) c.smaller_page.ensures.stop
 
 pub returns-clause-page : goal.returns-clause-page
@@ -58,7 +58,7 @@ returns-clause-page g c =
     let held = g.F.FileSet.held c.args.files.now in
     let page = c.in_ok-unshrunk_page-in-Err.field-0 in (
       c.deref.result.now,
-      subst (AreAll (held c.args.program.now)) (sym c.deref.ensures.value) c.in_ok-text.ensures.bytes,
-      untold g.F.FileSet.tells_written held (g.F.FileSet.held c.read_whole.new.files) (option_map (λ path. path.now) c.args.out) c.deref.result.now c.in-Err.why
+      subst (AreAll (held c.args.asked.program.now)) (sym c.deref.ensures.value) c.in_ok-text.ensures.bytes,
+      untold g.F.FileSet.tells_written held (g.F.FileSet.held c.read_whole.new.files) (option_map (λ path. path.now) c.args.asked.out) c.deref.result.now c.in-Err.why
           page.text.items page.status c.in_ok-text.ensures.same c.in-Err.ensures.why c.in_ok-unshrunk_page-in-Err.ensures,
     )

@@ -1,5 +1,0 @@
-use Rattle.steal.specs.Supplies.{AreSupplies}
-use Rattle.test_code.proofs.deques.the_next_one_steals.Given as goal
-
-abbrev pub invariant-loop-cube : goal.invariant-loop-cube
-invariant-loop-cube g l = AreSupplies l.supplies.items

@@ -1,8 +1,0 @@
-use Rattle.steal.specs.Supplies.{IsSameSupply}
-use Rattle.test_code.proofs.deques.turns.Given as goal
-
-abbrev pub invariant-loop-cube : goal.invariant-loop-cube
-invariant-loop-cube l = IsSameSupply l.initial.supply l.supply
-
-abbrev pub invariant-loop : goal.invariant-loop
-invariant-loop l = IsSameSupply l.fn.supply l.supply
