@@ -92,3 +92,9 @@ pub record IsWoven (form : Form) (map plain told : List ℕ) : Type 0 where
   pub last : Lacks (marker form) rest
   pub plain_is : plain ≡ kept_of pieces ++ rest
   pub told_is : told ≡ flat_map both pieces ++ rest
+
+-- The text with all its places. Strings of an object name lines as labels of a graph do, with the same quoting: they come first,
+-- then its members.
+abbrev pub HasPlaces : Form → List ℕ → List ℕ → List ℕ → Type 0
+HasPlaces forms.Object map plain told = (strings : List ℕ) × IsWoven forms.Graph map plain strings × IsWoven forms.Object map strings told
+HasPlaces form map plain told = IsWoven form map plain told

@@ -3,7 +3,7 @@
 ghost use Rattle.std.specs.Prelude.{◌≡◌, ◌++◌, IfOk, List, OnOk, ℕ};
 ghost use Rattle.std.specs.List.{flat_map};
 ghost use Rattle.places.specs.Maps.{AreFrom};
-ghost use Rattle.places.specs.Woven.{IsSaid, IsTold, IsWoven, Piece, both, closing, drawn_byte, marker, opening, place_text, plain_byte, quoted_byte, shown};
+ghost use Rattle.places.specs.Woven.{HasPlaces, IsSaid, IsTold, IsWoven, Piece, both, closing, drawn_byte, marker, opening, place_text, plain_byte, quoted_byte, shown};
 
 use crate::map::Places;
 use crate::marks::{around, digits_of};
@@ -140,10 +140,8 @@ fn put_piece(
     }
 }
 
-/// A text that names lines, with their places beside them, in the form in which it was printed: in brackets behind each number of
-/// a line, without callers; in an object as the member `place` behind each member `line`. Each line that the map says something of
-/// gets its place, wherever its number stands behind the marker, and no other. The only error is want of memory.
-pub fn with_places(
+/// A text with the places of the lines whose numbers stand behind the marker of this form.
+fn woven(
     alloc: Global,
     plain: &[u8],
     form: Form,
@@ -160,4 +158,28 @@ pub fn with_places(
     }
     out.extend_from_slice(rest)?;
     Ok(out)
+}
+
+/// A text that names lines, with their places beside them, in the form in which it was printed: in
+/// brackets behind each number of a line, without callers; in an object so in its strings, and as
+/// the member `place`, with callers, behind each member `line`. Each line that the map says
+/// something of gets its place, wherever its number stands behind the marker, and no other. The only
+/// error is want of memory.
+pub fn with_places(
+    alloc: Global,
+    plain: &[u8],
+    form: Form,
+    places: &Places<'_>,
+) -> Result<Vec<u8>, AllocError>
+    ensures { IfOk result (λ told. (map : List ℕ) → AreFrom map places.now → HasPlaces form map plain.now told.items) }
+{
+    match form {
+        Form::Object => {
+            let strings = woven(alloc, plain, Form::Graph, places)?;
+            woven(alloc, &strings, Form::Object, places)
+        }
+        Form::Brief | Form::Whole | Form::Graph | Form::Chart | Form::Picture => {
+            woven(alloc, plain, form, places)
+        }
+    }
 }

@@ -4,7 +4,7 @@ use Rattle.std.specs.List.{flat_map}
 use Rattle.calltext.proofs.Conjunctions.{and_true}
 use Rattle.settings.specs.declared.form.Form.{Form}
 use Rattle.settings.specs.declared.form.Form.TheVariants as forms
-use Rattle.places.specs.Woven.{AreCut, IsPlaced, IsWoven, Piece, both, kept_of, marker}
+use Rattle.places.specs.Woven.{AreCut, HasPlaces, IsPlaced, IsWoven, Piece, both, kept_of, marker}
 use Rattle.places.specs.declared.map.MapFault.{MapFault}
 use Rattle.places.specs.declared.map.MapFault.TheVariants as faults
 use Rattle.session.specs.Explaining.{is_object}
@@ -76,6 +76,15 @@ woven_tells form map plain text status w (inr begins) =
     let is = woven_begins form map w.pieces w.rest (deadlock_line begins.0) begins.1 w.cut (clean_deadlock begins.0) (sym w.told_is ∙ begins.2) in
     inr (begins.0, is.0, w.plain_is ∙ is.1)
 
+places_tell : (form : Form) (map plain text : List ℕ) (status : ℕ) → HasPlaces form map plain text → PageTells text status → PageTells plain status
+places_tell forms.Object map plain text status (strings, first, then) tells =
+    woven_tells forms.Graph map plain strings status first (woven_tells forms.Object map strings text status then tells)
+places_tell forms.Brief map plain text status woven tells = woven_tells forms.Brief map plain text status woven tells
+places_tell forms.Whole map plain text status woven tells = woven_tells forms.Whole map plain text status woven tells
+places_tell forms.Graph map plain text status woven tells = woven_tells forms.Graph map plain text status woven tells
+places_tell forms.Chart map plain text status woven tells = woven_tells forms.Chart map plain text status woven tells
+places_tell forms.Picture map plain text status woven tells = woven_tells forms.Picture map plain text status woven tells
+
 -- the words of a refused map begin as no deadlock's line does
 refused_untold : (json : Bool) (fault : MapFault) (text : List ℕ) (status : ℕ) → IsMapRefused json fault text status → PageTells text status → ⊥
 refused_untold json fault text status page (inl one) = omega (arith, page.1, one)
@@ -94,7 +103,7 @@ unmapped_told held program form None IsPage text status page tells = (text, page
 unmapped_told held program form (Some path) IsPage text status (source, map, all, whole, inl refused) tells =
     absurd (refused_untold (is_object form) refused.0 text status refused.3 tells)
 unmapped_told held program form (Some path) IsPage text status (source, map, all, whole, inr (of, (plain, page, woven))) tells =
-    (plain, page, woven_tells form map plain text status woven tells)
+    (plain, page, places_tell form map plain text status woven tells)
 
 -- and so of one with a status below 3
 pub unmapped_page : (held : List ℕ → Option (List ℕ)) (program : List ℕ) (form : Form) (map : Option (List ℕ)) (IsPage : List ℕ → ℕ → Type 0) (text : List ℕ) (status : ℕ)

@@ -3,7 +3,7 @@ use Rattle.std.specs.Prelude.{◌≡◌, ◌≢◌, ◌⊎◌, ℕ, Bool, List, 
 use Rattle.files.specs.Contents.{AreAll}
 use Rattle.settings.specs.declared.form.Form.{Form}
 use Rattle.places.specs.Maps.{IsMapFault, IsMapOf}
-use Rattle.places.specs.Woven.{IsWoven}
+use Rattle.places.specs.Woven.{HasPlaces}
 use Rattle.places.specs.declared.map.MapFault.{MapFault}
 use Rattle.places.specs.declared.map.MapFault.TheVariants as faults
 use Rattle.session.specs.Explaining.{is_object}
@@ -26,7 +26,7 @@ abbrev pub IsPlaced : Option (List ℕ) → Option (List ℕ) → Form → (List
 IsPlaced program_file map_file form IsPage text status =
     (program : List ℕ) × (map : List ℕ) × AreAll program_file program × AreAll map_file map
     × (((fault : MapFault) × IsMapFault program map fault × (fault ≢ faults.Memory) × IsMapRefused (is_object form) fault text status)
-    ⊎ (IsMapOf program map × ((plain : List ℕ) × IsPage plain status × IsWoven form map plain text)))
+    ⊎ (IsMapOf program map × ((plain : List ℕ) × IsPage plain status × HasPlaces form map plain text)))
 
 -- so, where a map is named
 abbrev pub IsMapped : (List ℕ → Option (List ℕ)) → List ℕ → Form → Option (List ℕ) → (List ℕ → ℕ → Type 0) → List ℕ → ℕ → Type 0

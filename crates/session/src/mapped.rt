@@ -2,7 +2,7 @@
 ghost use Rattle.std.specs.Prelude.{◌≡◌, IfErr, IfOk, List, string_bytes, ℕ};
 ghost use Rattle.command_line.specs.Requests.{path_of};
 ghost use Rattle.places.specs.Maps.{AreFrom};
-ghost use Rattle.places.specs.Woven.{IsWoven};
+ghost use Rattle.places.specs.Woven.{HasPlaces};
 ghost use Rattle.session.specs.Explaining.{IsExplainFile, IsExplainPage};
 ghost use Rattle.session.specs.Mapping.{IsMapRefused, IsMapped, IsMappedFile, IsPlaced, IsPlacedFile, map_words};
 ghost use Rattle.session.specs.Pages.{StopsBy};
@@ -83,7 +83,7 @@ fn woven_page(
     form: Form,
     places: &Places<'_>,
 ) -> Result<Page, AllocError>
-    ensures text { IfOk result (λ woven. (map : List ℕ) → AreFrom map places.now → IsWoven form map page.text.items woven.text.items) }
+    ensures text { IfOk result (λ woven. (map : List ℕ) → AreFrom map places.now → HasPlaces form map page.text.items woven.text.items) }
     ensures status { IfOk result (λ woven. woven.status ≡ page.status) }
 {
     let text = with_places(alloc, &page.text, form, places)?;

@@ -3,7 +3,7 @@ use Rattle.std.proofs.Common.{◌∙◌, ℕ, List, [], ◌∷◌, ◌++◌, ap,
 use Rattle.places.specs.Marks.{IsAround, Lacks}
 use Rattle.places.specs.Woven.{AreCut, both, kept_of, marker}
 use Rattle.places.proofs.Pieces.{cut_more, flat_push, kept_more, placed_piece}
-use Rattle.places.proofs.weaving.with_places.Goals as goal
+use Rattle.places.proofs.weaving.woven.Goals as goal
 
 pub loop-front-preserved : goal.loop-front-preserved
 loop-front-preserved c = λ map are.

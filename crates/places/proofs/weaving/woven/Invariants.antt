@@ -2,7 +2,7 @@ use Rattle.std.proofs.Common.{◌≡◌, ◌++◌, List, ℕ, length}
 use Rattle.std.specs.List.{flat_map}
 use Rattle.places.specs.Maps.{AreFrom}
 use Rattle.places.specs.Woven.{AreCut, Piece, both, kept_of}
-use Rattle.places.proofs.weaving.with_places.Given as goal
+use Rattle.places.proofs.weaving.woven.Given as goal
 
 abbrev pub invariant-loop-front : goal.invariant-loop-front
 invariant-loop-front l =
