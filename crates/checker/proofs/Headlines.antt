@@ -11,7 +11,8 @@ use Rattle.refutations.proofs.Covers.{accepted-refute}
 use Rattle.worlds.proofs.Assignments.{unsatisfiable_have_no_stuck_run}
 use Rattle.checker.specs.declared.reason.Verdict.{Verdict}
 use Rattle.checker.specs.declared.reason.Verdict.TheVariants as verdicts
-use Rattle.checker.specs.Verdicts.{IsNeverStuck, Judges, NeverBoth, RefutedAreNeverStuck}
+use Rattle.checker.specs.Verdicts.{IsVerdict, Judges, NeverBoth, RefutedAreNeverStuck}
+use Rattle.checker.proofs.OneVerdicts.{right_or_memory}
 
 pub is_program : (program : List ℕ) (p : MpiProgram) → IsTextOf program p → IsProgram p
 is_program program p of =
@@ -30,6 +31,12 @@ never_both program evidence other refutes shows =
     let same : shows.p ≡ never.p = one_program_of_bytes program shows.p never.p shows.text never.text in
     never.never shows.steps (subst (λ (p : MpiProgram). IsStuckRun p shows.steps) same shows.stuck)
 
--- the headline's first half, of any right verdict
-pub no_deadlock : (program evidence : List ℕ) (v : Verdict) → Judges program evidence v → v ≡ verdicts.NoDeadlock → IsNeverStuck program
-no_deadlock program evidence v judges e = refuted_are_never_stuck program evidence (subst (Judges program evidence) e judges)
+-- what each right verdict promises
+pub is_verdict : (program evidence : List ℕ) (v : Verdict) → Judges program evidence v → IsVerdict program evidence v
+is_verdict program evidence v judges = record {
+  no_deadlock = λ e. refuted_are_never_stuck program evidence (subst (Judges program evidence) e judges);
+  deadlock = λ e. subst (Judges program evidence) e judges;
+  no_deadlock_only = λ refutes. right_or_memory program evidence v verdicts.NoDeadlock judges refutes (λ e. cc);
+  deadlock_only = λ shows. right_or_memory program evidence v verdicts.Deadlock judges shows (λ e. cc);
+  judges = judges;
+}

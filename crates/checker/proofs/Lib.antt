@@ -1,3 +1,4 @@
+pub mod HandedOut
 pub mod Headlines
 mod OnRefutations
 pub mod OneVerdicts

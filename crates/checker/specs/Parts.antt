@@ -2,8 +2,6 @@
 use Rattle.std.specs.Prelude.{◌≡◌, ◌==◌, ◌&&◌, ℕ, Bool, false, List, length}
 use Rattle.calltext.specs.declared.fault.ReadFault.{ReadFault}
 use Rattle.calltext.specs.declared.fault.ReadFault.TheVariants as reading
-use Rattle.callorder.specs.Programs.{MpiProgram}
-use Rattle.callorder.specs.Resolving.{IsTextOf}
 use Rattle.callorder.specs.declared.fault.ResolveFault.{ResolveFault}
 use Rattle.callorder.specs.declared.fault.ResolveFault.TheVariants as resolving
 use Rattle.candidates.specs.declared.fault.PairFault.{PairFault}
@@ -11,21 +9,18 @@ use Rattle.candidates.specs.declared.fault.PairFault.TheVariants as pairing
 use Rattle.encode.specs.declared.fault.EncodeFault.{EncodeFault}
 use Rattle.encode.specs.declared.fault.EncodeFault.TheVariants as encoding
 use Rattle.clauses.specs.Clauses.{Conjunction}
-use Rattle.formulas.specs.Numbering.{formula_of}
-use Rattle.semantics.specs.declared.state.Step.{Step}
 use Rattle.refutations.specs.declared.tree_check.TreeFault.{TreeFault}
 use Rattle.refutations.specs.declared.tree_check.TreeFault.TheVariants as tree
-use Rattle.prooflog.specs.declared.evidence.Evidence.{Evidence}
-use Rattle.prooflog.specs.declared.evidence.Evidence.TheVariants.{Refutation}
 use Rattle.prooflog.specs.declared.fault.EvidenceFault.{EvidenceFault}
 use Rattle.prooflog.specs.declared.fault.EvidenceFault.TheVariants as proving
+use Rattle.prooflog.specs.declared.refutation.Version.TheVariants.{Two}
 use Rattle.prooflog.specs.Refutations.{ClaimedRefutation}
-use Rattle.prooflog.specs.Grammar.{IsEvidenceText}
+use Rattle.trimming.specs.Needed.{Needed}
 use Rattle.checker.specs.declared.reason.Reason.{Reason}
 use Rattle.checker.specs.declared.reason.Reason.TheVariants as reasons
 use Rattle.checker.specs.declared.reason.NoRun.{NoRun}
 use Rattle.checker.specs.declared.reason.NoRun.TheVariants as runs
-use Rattle.checker.specs.Verdicts.{Shows, HasCounts, IsARefutation, IsReason, is_of_refutation}
+use Rattle.checker.specs.Verdicts.{IsARefutation, IsReason, is_of_refutation}
 
 -- the reason for which a fault is told; want of memory is a reason of its own
 abbrev pub read_reason : ReadFault → Reason
@@ -52,15 +47,6 @@ abbrev pub tree_reason : TreeFault → Reason
 tree_reason tree.Memory = reasons.Memory
 tree_reason fault = reasons.Tree fault
 
--- the texts are those of this program and this evidence
-pub record AreTexts (program evidence : List ℕ) (p : MpiProgram) (e : Evidence) : Type 0 where
-  pub program_is : IsTextOf program p
-  pub evidence_is : IsEvidenceText evidence e
-
--- a deadlock is shown of this program by these steps
-abbrev pub AreShown : List ℕ → List ℕ → MpiProgram → List Step → Type 0
-AreShown program evidence p steps = (shown : Shows program evidence) × (shown.p ≡ p) × (shown.steps ≡ steps)
-
 -- why there is no stuck run: the evidence is no schedule, or the first reason of the others
 abbrev pub IsNoRun : List ℕ → List ℕ → NoRun → Type 0
 IsNoRun program evidence (runs.Refused reason) = IsReason program evidence reason × (is_of_refutation reason ≡ false)
@@ -70,14 +56,6 @@ IsNoRun program evidence runs.NotASchedule = IsARefutation program evidence
 abbrev pub has_counts : ClaimedRefutation → Conjunction → Bool
 has_counts claim f = (claim.variables == f.variables) && (claim.clauses == length f.clauses)
 
--- this is the formula of the program, and the refutation has its counts
-pub record IsClaim (p : MpiProgram) (f : Conjunction) (claim : ClaimedRefutation) : Type 0 where
-  pub formula : f ≡ formula_of p
-  pub counts : HasCounts p claim
-
--- the program's text has a value, the evidence's text is the refutation's, and this is its claim
-pub record IsClaimOf (program evidence : List ℕ) (f : Conjunction) (claim : ClaimedRefutation) : Type 0 where
-  pub p : MpiProgram
-  pub text : IsTextOf program p
-  pub refutation : IsEvidenceText evidence (Refutation claim)
-  pub is : IsClaim p f claim
+-- in version 2 each line of the refutation is needed
+abbrev pub AreNeeded : ClaimedRefutation → Type 0
+AreNeeded claim = claim.version ≡ Two → Needed claim.clauses claim.lines claim.nodes

@@ -1,5 +1,5 @@
 -- What a verdict on a program's text and an evidence's text says.
-use Rattle.std.specs.Prelude.{◌≡◌, ◌≢◌, ◌≤◌, ◌<◌, ℕ, Bool, true, false, IsTrue, List, length}
+use Rattle.std.specs.Prelude.{◌≡◌, ◌≢◌, ◌⊎◌, ◌≤◌, ◌<◌, ℕ, Bool, true, false, IsTrue, List, length, Result, Ok, Err}
 use Rattle.calltext.specs.Grammar.{ProgramText, IsText}
 use Rattle.calltext.specs.Fault.{HasFault}
 use Rattle.calltext.specs.declared.fault.ReadFault.TheVariants as reading
@@ -26,6 +26,8 @@ use Rattle.prooflog.specs.declared.refutation.Version.TheVariants.{Two}
 use Rattle.prooflog.specs.Refutations.{ClaimedRefutation}
 use Rattle.prooflog.specs.Grammar.{IsEvidenceText}
 use Rattle.prooflog.specs.Fault.{HasEvidenceFault}
+use Rattle.checker.specs.declared.judging.Judged.{Judged}
+use Rattle.checker.specs.declared.judging.Judged.TheVariants as judged
 use Rattle.checker.specs.declared.reason.Reason.{Reason}
 use Rattle.checker.specs.declared.reason.Reason.TheVariants as reasons
 use Rattle.checker.specs.declared.reason.Verdict.{Verdict}
@@ -143,6 +145,14 @@ IsUnshown (reasons.NotStuck ends.Finished) p steps = IsFinishedRun p steps
 IsUnshown (reasons.NotStuck ends.Live) p steps = IsLiveRun p steps
 IsUnshown _ p steps = ⊥
 
+-- The one text says this, and is that of this program, and the other text is that of this schedule, which is a run of the program that ends
+-- where a rank is unfinished and no step is enabled.
+pub record AreShown (program evidence : List ℕ) (source : ProgramText) (p : MpiProgram) (steps : List Step) : Type 0 where
+  pub says : IsText program source
+  pub text : IsTextOf program p
+  pub schedule : IsEvidenceText evidence (Schedule steps)
+  pub stuck : IsStuckRun p steps
+
 -- ---- verdicts
 
 -- Each reason is the first that there is, in this order: the program's text has a fault; its call lines have one; the
@@ -167,6 +177,21 @@ abbrev pub Judges : List ℕ → List ℕ → Verdict → Type 0
 Judges program evidence verdicts.NoDeadlock = Refutes program evidence
 Judges program evidence verdicts.Deadlock = Shows program evidence
 Judges program evidence (verdicts.Refused reason) = IsReason program evidence reason
+
+-- What is handed out of two texts that were judged: the program with its formula, and the refutation that refutes it; or what the program's
+-- text says, the program, and the schedule that is a run of it which ends stuck; or why neither is.
+abbrev pub IsJudged : List ℕ → List ℕ → Result Judged Reason → Type 0
+IsJudged program evidence (Ok (judged.Refuted r)) = (are : AreRefuted program evidence r.formula r.refutation) × (are.p ≡ r.program)
+IsJudged program evidence (Ok (judged.Stuck run)) = AreShown program evidence run.source run.program run.schedule
+IsJudged program evidence (Err reason) = IsReason program evidence reason
+
+-- The headline, and that each verdict comes exactly where it is right, but for want of memory.
+pub record IsVerdict (program evidence : List ℕ) (verdict : Verdict) : Type 0 where
+  pub no_deadlock : verdict ≡ verdicts.NoDeadlock → IsNeverStuck program
+  pub deadlock : verdict ≡ verdicts.Deadlock → Shows program evidence
+  pub no_deadlock_only : Refutes program evidence → (verdict ≡ verdicts.NoDeadlock) ⊎ (verdict ≡ verdicts.Refused reasons.Memory)
+  pub deadlock_only : Shows program evidence → (verdict ≡ verdicts.Deadlock) ⊎ (verdict ≡ verdicts.Refused reasons.Memory)
+  pub judges : Judges program evidence verdict
 
 -- ---- laws
 

@@ -4,15 +4,17 @@
 #![tactic(auto)]
 
 mod formula;
-mod judge;
+mod judging;
 mod laws;
 mod reason;
+mod refuting;
 mod texts;
 
 pub use formula::formula_of;
-pub use judge::{Refuted, refuted_in, verdict, verdict_in};
+pub use judging::{Judged, judge, refuted_in, verdict, verdict_in};
 pub use laws::{never_both, one_verdict, refuted_are_never_stuck};
 pub use pieces::PieceGate;
 pub use reason::{NoRun, Reason, Verdict};
 pub use refutations::{LineFault, LineList, TreeFault, check_line, check_tree};
+pub use refuting::Refuted;
 pub use texts::{StuckRun, program_of, stuck_run_of};

@@ -20,4 +20,4 @@ pub use laws::known_is_taken;
 pub use narrowing::Taken;
 pub use pinning::with_choice;
 pub use telling::told;
-pub use weighing::decide;
+pub use weighing::{decide, decide_run};

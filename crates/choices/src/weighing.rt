@@ -207,8 +207,8 @@ fn search_for(program: &LongProgram, limits: Limits) -> Option<Options> {
     Some(limits.search)
 }
 
-/// What decided a run of the text's program.
-fn decided_run<R: Threads + Wait + Sync>(
+/// What decided this run of the text's program, which ends stuck, as [`decide`] tells it. The only refusal is want of memory.
+pub fn decide_run<R: Threads + Wait + Sync>(
     rt: &R,
     alloc: Global,
     text: &[u8],
@@ -261,7 +261,7 @@ pub fn decide<R: Threads + Wait + Sync>(
         Ok(run) => run,
         Err(why) => return Err(why),
     };
-    match decided_run(rt, alloc, text, &run.program, run.schedule.steps(), limits) {
+    match decide_run(rt, alloc, text, &run.program, run.schedule.steps(), limits) {
         Ok(decided) => Ok(decided),
         Err(AllocError) => Err(NoRun::Refused(Reason::Memory)),
     }

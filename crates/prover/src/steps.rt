@@ -1,14 +1,15 @@
 //! The steps of a schedule, told one by one.
 
 ghost use Rattle.std.specs.Prelude.{◌≡◌, ◌++◌, ◌≤◌, IfOk, IsSome, OnOk, length, slice_get, true};
+ghost use Rattle.calltext.specs.Grammar.{IsText};
 ghost use Rattle.semantics.specs.Machine.{IsEnabled, IsRun, IsStuckRun, opening};
 ghost use Rattle.prover.specs.Answers.{Replays, TellsRun};
 ghost use Rattle.prover.specs.Telling.{how_issued, issue_line, told_line, told_run, verb_of};
 
 use callorder::{Kind, LongProgram};
-use calltext::{Verb, read};
+use calltext::Verb;
 use charts::lined_steps;
-use checker::{NoRun, Reason, stuck_run_of};
+use checker::{NoRun, Reason, StuckRun, stuck_run_of};
 use plaintext::put_number;
 use prooflog::put_find;
 use semantics::{State, Step};
@@ -118,40 +119,18 @@ fn numbered(alloc: Global, program: &LongProgram, steps: &[Step]) -> Result<Vec<
     Ok(text)
 }
 
-/// The same by the lines of the program's text.
-fn lined(
-    alloc: Global,
-    text: &[u8],
-    program: &LongProgram,
-    steps: &[Step],
-) -> Result<Vec<u8>, AllocError>
-    requires { IsStuckRun program.now steps.now }
-    ensures { IfOk result (λ lines. TellsRun true text.now program.now steps.now lines.items) }
+/// The text of the run of the program of this text, which ends stuck, by lines or by numbers.
+fn text_of(alloc: Global, text: &[u8], run: &StuckRun, lines: bool) -> Result<Vec<u8>, AllocError>
+    requires says { IsText text.now run.now.source }
+    requires stuck { IsStuckRun run.now.program run.now.schedule }
+    ensures { IfOk result (λ told. TellsRun lines text.now run.now.program run.now.schedule told.items) }
 {
-    // The program was made of this text, so want of memory alone can be met.
-    let Ok(source) = read(alloc, text) else {
-        return Err(AllocError);
-    };
-    let lines = lined_steps(alloc, text, &source, program, steps)?;
-    Ok(lines)
-}
-
-/// The text of a run of the program of this text that ends stuck, by lines or by numbers.
-fn text_of(
-    alloc: Global,
-    text: &[u8],
-    program: &LongProgram,
-    steps: &[Step],
-    lines: bool,
-) -> Result<Vec<u8>, AllocError>
-    requires stuck { IsStuckRun program.now steps.now }
-    requires few { length program.now.calls ≤ 1024 }
-    ensures { IfOk result (λ told. TellsRun lines text.now program.now steps.now told.items) }
-{
+    let _calls = run.program.calls();
+    let steps = run.schedule.steps();
     if lines {
-        lined(alloc, text, program, steps)
+        lined_steps(alloc, text, &run.source, &run.program, steps)
     } else {
-        numbered(alloc, program, steps)
+        numbered(alloc, &run.program, steps)
     }
 }
 
@@ -166,8 +145,7 @@ pub fn replay(alloc: Global, program: &[u8], evidence: &[u8], lines: bool) -> Re
         Err(NoRun::Refused(reason)) => return Replayed::Refused(reason),
         Err(NoRun::NotASchedule) => return Replayed::NotASchedule,
     };
-    let _calls = run.program.calls();
-    match text_of(alloc, program, &run.program, run.schedule.steps(), lines) {
+    match text_of(alloc, program, &run, lines) {
         Ok(text) => Replayed::Stuck(text),
         Err(_) => Replayed::Refused(Reason::Memory),
     }

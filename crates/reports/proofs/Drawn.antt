@@ -4,18 +4,12 @@ use Rattle.std.specs.Global.{Vec}
 use Rattle.std.specs.declared.alloc.AllocError.{AllocError}
 use Rattle.calltext.specs.Grammar.{IsTextWithin, ProgramText}
 use Rattle.calltext.specs.Limits.{long}
-use Rattle.calltext.specs.declared.limits.Limits.{Limits}
 use Rattle.callorder.specs.Programs.{MpiProgram}
 use Rattle.callorder.specs.Resolving.{IsTextOfWithin}
 use Rattle.semantics.specs.Machine.{IsStuckRun}
 use Rattle.semantics.specs.declared.state.Step.{Step}
 use Rattle.settings.specs.declared.form.Form.{Form}
-use Rattle.reports.specs.Explanations.{IsDrawnFrom, IsDrawnWithin, IsRunDrawn, TellsSizes, marks_of, sizes_text}
-
-pub drawn : (r : Result (Vec ℕ) AllocError) (l : Limits) (form : Form) (text : List ℕ) (source : ProgramText) (p : MpiProgram) (steps : List Step) → IsTextWithin l text source
-    → IfOk r (λ told. IsDrawnFrom form text source p steps told.items) → IfOk r (λ told. IsDrawnWithin l form text p steps told.items)
-drawn (Ok told) l form text source p steps is told_is = (source, is, told_is)
-drawn (Err e) l form text source p steps is told_is = told_is
+use Rattle.reports.specs.Explanations.{IsDrawnFrom, IsRunDrawn, TellsSizes, marks_of, sizes_text}
 
 pub run_drawn : (r : Result (Vec ℕ) AllocError) (form : Form) (text : List ℕ) (source : ProgramText) (p : MpiProgram) (steps : List Step) → IsTextOfWithin long text p
     → IsStuckRun p steps → IsTextWithin long text source → IfOk r (λ told. IsDrawnFrom form text source p steps told.items)

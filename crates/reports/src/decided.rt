@@ -8,7 +8,7 @@ ghost use Rattle.semantics.specs.Headline.{IsNeverStuckWithin, IsStuckRunWithin}
 ghost use Rattle.reports.specs.Explanations.{IsRunDrawn, TellsSizes};
 
 use crate::counts::sizes_text;
-use crate::telling::{decided_text, run_text};
+use crate::telling::{decided_if_short, run_text};
 use callorder::LongProgram;
 use calltext::{LongSource, read_long};
 use semantics::Step;
@@ -55,7 +55,7 @@ pub fn explain_run<R: Threads + Wait + Sync>(
 {
     let program = program_of(alloc, text)?;
     let source = source_of(alloc, text)?;
-    let decided = decided_text(rt, alloc, text, schedule, form)?;
+    let decided = decided_if_short(rt, alloc, text, schedule, form)?;
     run_text(alloc, text, &source, &program, steps, &decided, form)
 }
 

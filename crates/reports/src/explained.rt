@@ -1,16 +1,15 @@
 //! The explanation of an answer.
 
-ghost use Rattle.std.specs.Prelude.{◌<◌, ◌≡◌, ◌≤◌, IfOk};
+ghost use Rattle.std.specs.Prelude.{◌<◌, ◌≡◌, ◌≤◌, IfOk, Ok};
+ghost use Rattle.callorder.specs.Resolving.{IsTextOf};
 ghost use Rattle.semantics.specs.Machine.{IsStuckRun};
-ghost use Rattle.checker.specs.Verdicts.{AreRefuted, Shows};
-ghost use Rattle.reports.specs.Explanations.{Explains, IsDrawn};
+ghost use Rattle.checker.specs.Verdicts.{AreShown, IsJudged};
+ghost use Rattle.reports.specs.Explanations.{Explains, IsDrawnFrom};
 
 use crate::counts::counts_text;
 use crate::telling::{decided_text, run_text};
-use callorder::Program;
-use calltext::read;
-use checker::{PieceGate, Reason, Refuted, Verdict, program_of, refuted_in, stuck_run_of};
-use semantics::Step;
+use callorder::LongProgram;
+use checker::{Judged, PieceGate, Reason, Refuted, StuckRun, judge};
 use settings::Form;
 use std::alloc::{AllocError, Global};
 use std::sync::Wait;
@@ -27,44 +26,37 @@ pub enum Explained {
     Refused(Reason),
 }
 
-/// The text, in this form, on the run of the program of this text that the evidence shows.
+/// The text, in this form, on a run of the program of this text, which ends stuck.
 fn deadlock_text<R: Threads + Wait + Sync>(
     rt: &R,
     alloc: Global,
     text: &[u8],
-    evidence: &[u8],
-    program: &Program,
-    steps: &[Step],
+    run: &StuckRun,
     form: Form,
 ) -> Result<Vec<u8>, AllocError>
-    requires { IsStuckRun program.now steps.now }
-    ensures { IfOk result (λ told. IsDrawn form text.now program.now steps.now told.items) }
+    requires program { IsTextOf text.now run.now.program }
+    requires stuck { IsStuckRun run.now.program run.now.schedule }
+    ensures { IfOk result (λ told. IsDrawnFrom form text.now run.now.source run.now.program run.now.schedule told.items) }
 {
-    // The program was made of this text, so want of memory alone can be met.
-    let Ok(source) = read(alloc, text) else {
-        return Err(AllocError);
-    };
-    let decided = decided_text(rt, alloc, text, evidence, form)?;
-    run_text(alloc, text, &source, program, steps, &decided, form)
+    let program: &LongProgram = &run.program;
+    let steps = run.schedule.steps();
+    let decided = decided_text(rt, alloc, text, program, steps, form)?;
+    run_text(alloc, text, &run.source, program, steps, &decided, form)
 }
 
-/// The text on the schedule of an evidence that shows a stuck run of a program.
+/// The text on the run that an evidence shows of a program.
 fn deadlock<R: Threads + Wait + Sync>(
     rt: &R,
     alloc: Global,
     program: &[u8],
     evidence: &[u8],
+    run: &StuckRun,
     form: Form,
 ) -> Explained
-    requires { Shows program.now evidence.now }
+    requires { AreShown program.now evidence.now run.now.source run.now.program run.now.schedule }
     ensures { Explains form program.now evidence.now result }
 {
-    // The texts were read before, so want of memory alone can be met.
-    let Ok(run) = stuck_run_of(alloc, program, evidence) else {
-        return Explained::Refused(Reason::Memory);
-    };
-    let steps = run.schedule.steps();
-    match deadlock_text(rt, alloc, program, evidence, &run.program, steps, form) {
+    match deadlock_text(rt, alloc, program, run, form) {
         Ok(text) => Explained::Deadlock(text),
         Err(AllocError) => Explained::Refused(Reason::Memory),
     }
@@ -78,14 +70,10 @@ fn no_deadlock(
     refuted: &Refuted,
     form: Form,
 ) -> Explained
-    requires { AreRefuted program.now evidence.now refuted.now.formula refuted.now.refutation }
+    requires { IsJudged program.now evidence.now (Ok (Judged.Refuted refuted.now)) }
     ensures { Explains form program.now evidence.now result }
 {
-    // The text was read before, so want of memory alone can be met.
-    let Ok(program) = program_of(alloc, program) else {
-        return Explained::Refused(Reason::Memory);
-    };
-    match counts_text(alloc, &program, &refuted.refutation, form) {
+    match counts_text(alloc, &refuted.program, &refuted.refutation, form) {
         Ok(text) => Explained::NoDeadlock(text),
         Err(AllocError) => Explained::Refused(Reason::Memory),
     }
@@ -98,8 +86,8 @@ fn no_deadlock(
 /// in a chart as lines. It is refused where `verdict` refuses it, for the same reasons.
 /// A refutation's lines are checked in so many pieces, 1 to 64.
 ///
-/// The texts of a deadlock, and the program's text, are read a second time once they are judged, so that the checker's answer is all that
-/// stands between an evidence and its explanation.
+/// What the checker hands out of the two texts is explained, and neither is read again, so that the checker alone stands between an evidence
+/// and its explanation.
 pub fn explain_evidence<R: Threads + Wait + Sync, G: PieceGate + Sync>(
     rt: &R,
     alloc: Global,
@@ -113,10 +101,9 @@ pub fn explain_evidence<R: Threads + Wait + Sync, G: PieceGate + Sync>(
     requires few { pieces ≤ 64 }
     ensures { Explains form program.now evidence.now result }
 {
-    match refuted_in(rt, alloc, program, evidence, pieces, gate) {
-        Ok(refuted) => no_deadlock(alloc, program, evidence, &refuted, form),
-        Err(Verdict::NoDeadlock) => unreachable!(),
-        Err(Verdict::Deadlock) => deadlock(rt, alloc, program, evidence, form),
-        Err(Verdict::Refused(reason)) => Explained::Refused(reason),
+    match judge(rt, alloc, program, evidence, pieces, gate) {
+        Ok(Judged::Refuted(refuted)) => no_deadlock(alloc, program, evidence, &refuted, form),
+        Ok(Judged::Stuck(run)) => deadlock(rt, alloc, program, evidence, &run, form),
+        Err(reason) => Explained::Refused(reason),
     }
 }

@@ -1,6 +1,7 @@
 //! A run that ends stuck in each form, and what decided it.
 
 ghost use Rattle.std.specs.Prelude.{IfOk};
+ghost use Rattle.callorder.specs.Resolving.{IsTextOf};
 ghost use Rattle.semantics.specs.Machine.{IsStuckRun};
 ghost use Rattle.reports.specs.Explanations.{IsDrawnFrom};
 
@@ -8,7 +9,7 @@ use callorder::LongProgram;
 use calltext::LongSource;
 use charts::{chart, picture};
 use checker::{NoRun, Reason};
-use choices::{Limits, decide, told};
+use choices::{Limits, decide, decide_run, told};
 use explain::{explanation, wait_graph};
 use objects::object_text;
 use semantics::Step;
@@ -34,13 +35,36 @@ fn tells_choices(form: Form) -> bool {
     }
 }
 
-/// The text on what decided the run that an evidence shows.
-fn asked_text<R: Threads + Wait + Sync>(
+/// The text on what decided a run of the program of a text, which ends stuck, where the form tells it.
+pub fn decided_text<R: Threads + Wait + Sync>(
+    rt: &R,
+    alloc: Global,
+    text: &[u8],
+    program: &LongProgram,
+    steps: &[Step],
+    form: Form,
+) -> Result<String, AllocError>
+    requires stuck { IsStuckRun program.now steps.now }
+    requires program { IsTextOf text.now program.now }
+{
+    if !tells_choices(form) {
+        return Ok(String::new(alloc));
+    }
+    let decided = decide_run(rt, alloc, text, program, steps, limits())?;
+    told(alloc, text, &decided)
+}
+
+/// The same of a program of any length, by the text of the steps as an evidence: it is asked only of a program that `prove` takes.
+pub fn decided_if_short<R: Threads + Wait + Sync>(
     rt: &R,
     alloc: Global,
     program: &[u8],
     evidence: &[u8],
+    form: Form,
 ) -> Result<String, AllocError> {
+    if !tells_choices(form) {
+        return Ok(String::new(alloc));
+    }
     match decide(rt, alloc, program, evidence, limits()) {
         Ok(decided) => told(alloc, program, &decided),
         Err(NoRun::Refused(Reason::Memory)) => Err(AllocError),
@@ -49,21 +73,6 @@ fn asked_text<R: Threads + Wait + Sync>(
             alloc,
             "what decided it:\n  asked only of programs that prove takes\n",
         ),
-    }
-}
-
-/// The text on what decided the run that an evidence shows, where the form tells it.
-pub fn decided_text<R: Threads + Wait + Sync>(
-    rt: &R,
-    alloc: Global,
-    program: &[u8],
-    evidence: &[u8],
-    form: Form,
-) -> Result<String, AllocError> {
-    if tells_choices(form) {
-        asked_text(rt, alloc, program, evidence)
-    } else {
-        Ok(String::new(alloc))
     }
 }
 

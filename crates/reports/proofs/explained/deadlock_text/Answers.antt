@@ -1,10 +1,9 @@
--- The text draws the run of what was read.
-use Rattle.std.proofs.Common.{IfOk, subst}
+-- The text draws what the checker handed out.
+use Rattle.std.proofs.Common.{IfOk, List, subst}
 use Rattle.calltext.specs.Grammar.{ProgramText}
-use Rattle.calltext.specs.Limits.{short}
 use Rattle.callorder.specs.Programs.{MpiProgram}
+use Rattle.semantics.specs.declared.state.Step.{Step}
 use Rattle.reports.specs.Explanations.{IsDrawnFrom}
-use Rattle.reports.proofs.Drawn.{drawn}
 use Rattle.reports.proofs.explained.deadlock_text.Goals as goal
 
 pub returns : goal.returns
@@ -12,7 +11,7 @@ returns g c =
     let r = c.run_text.result in
     let form = c.args.form in
     let text = c.args.text.now in
-    let steps = c.args.steps.now in
-    drawn r short form text c.in-Ok.source c.args.program.now steps c.in-Ok.ensures.text
-    (subst (λ (p : MpiProgram). IfOk r (λ told. IsDrawnFrom form text c.in-Ok.source p steps told.items)) c.deref-2.ensures
-    (subst (λ (s : ProgramText). IfOk r (λ told. IsDrawnFrom form text s c.deref-2.result.now steps told.items)) c.deref.ensures c.run_text.ensures))
+    let run = c.args.run.now in
+    subst (λ (source : ProgramText). IfOk r (λ told. IsDrawnFrom form text source run.program run.schedule told.items)) c.deref.ensures
+    (subst (λ (p : MpiProgram). IfOk r (λ told. IsDrawnFrom form text c.deref.result.now p run.schedule told.items)) c.deref-program.ensures
+    (subst (λ (steps : List Step). IfOk r (λ told. IsDrawnFrom form text c.deref.result.now c.deref-program.result.now steps told.items)) c.steps-steps.ensures.same c.run_text.ensures))

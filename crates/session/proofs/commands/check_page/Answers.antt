@@ -17,6 +17,6 @@ returns-clause-page g c =
       c.verdict_in.result,
       all_p,
       all_e,
-      whole_verdict c.deref.result.now program c.deref-2.result.now evidence c.verdict_in.result alike_p alike_e c.verdict_in.ensures.judges,
+      whole_verdict c.deref.result.now program c.deref-2.result.now evidence c.verdict_in.result alike_p alike_e c.verdict_in.ensures.is.judges,
       subst (λ (t : Told). IsLine t c.args.asked.json page.text.items page.status) c.from-told.ensures c.in_ok-page_of.ensures,
     )
