@@ -35,8 +35,8 @@ pub trait FileSet {
         ensures same { held self.new ≡ held self.old }
         ensures same_reads { reads self.new ≡ reads self.old };
 
-    /// Opens the file at a path to be written. What it held is gone, and what it holds is told once
-    /// it is closed. Every other file holds what it held, and where the opening is refused this one
+    /// Opens the file at a path to be written. What it held may be gone, and what it holds is told
+    /// once it is closed. Every other file holds what it held, and where the opening is refused this one
     /// does too.
     fn open_write(&mut self, path: &str) -> Result<Self::Writer, OpenFault>
         ensures empty { IsTrue tells_written →

@@ -6,9 +6,11 @@ mod extent;
 mod fault;
 mod file_set;
 mod host_files;
+mod host_writer;
 
 pub use contents::{Unloaded, load, store};
 pub use extent::Extent;
 pub use fault::{LoadFault, OpenFault, StoreFault};
 pub use file_set::FileSet;
 pub use host_files::HostFiles;
+pub use host_writer::HostWriter;
