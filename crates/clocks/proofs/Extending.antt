@@ -4,7 +4,7 @@ use Rattle.std.proofs.lemmas.Bool.{eq-eqb}
 use Rattle.std.specs.Option.{unwrap_or}
 use Rattle.calltext.proofs.Conjunctions.{and_both, and_true}
 use Rattle.callorder.specs.Programs.{MpiProgram, are_fit}
-use Rattle.semantics.specs.Machine.{Configuration, partner_of}
+use Rattle.semantics.specs.Machine.{Configuration, is_issued, partner_of}
 use Rattle.races.specs.Blocks.{Blocks}
 use Rattle.races.specs.Tells.{Table, IsJustified}
 use Rattle.knowledge.specs.Knowledge.{column_table, entry_at, union}
@@ -64,8 +64,8 @@ pub looked_more : (p : MpiProgram) (block : Blocks) (e : Configuration) (listed 
 looked_more p block e listed other low high a b within looked i f own from below there found = no_race_more p block e a b f own other within (looked i f own from below there found)
 
 pub checked_more : (p : MpiProgram) (block : Blocks) (e : Configuration) (other : ℕ) (a b : Table) → IsWithin a b → IsChecked p block e a other → IsChecked p block e b other
-checked_more p block e other a b within checked f own found mine =
-    elim (checked f own found mine) [
+checked_more p block e other a b within checked issued f own found mine =
+    elim (checked issued f own found mine) [
       | inl none ↦ inl (no_race_more p block e a b f own other within none)
       | inr w ↦ inr w
     ]
@@ -108,6 +108,11 @@ one_more_checked p block e sure ns told n =
 pub none_checked_yet : (p : MpiProgram) (block : Blocks) (e sure : Configuration) (ns : Numbering) (told : List Count) → ShowsFrom p sure ns told (λ more. (other : ℕ) → other < 0 → IsChecked p block e more other)
 none_checked_yet p block e sure ns told =
     shows_always p sure ns told (λ more. (other : ℕ) → other < 0 → IsChecked p block e more other) (λ knows are other below. absurd (omega (arith, below)))
+
+-- of a send that isn't issued nothing is asked
+pub unissued_checked : (p : MpiProgram) (block : Blocks) (e sure : Configuration) (ns : Numbering) (told : List Count) (other : ℕ) → is_issued p e other ≡ false → ShowsFrom p sure ns told (λ more. IsChecked p block e more other)
+unissued_checked p block e sure ns told other off =
+    shows_always p sure ns told (λ more. IsChecked p block e more other) (λ knows are issued f own found mine. absurd (cc (off, issued)))
 
 -- the finders from one call up to another are shown where those of the list are
 pub between_shown : (p : MpiProgram) (block : Blocks) (e sure : Configuration) (ns : Numbering) (told : List Count) (l : Listing) (other first end low high n past : ℕ) → IsListing p block ns l → low ≡ before_at l.listed l.before first → high ≡ before_at l.listed l.before end → high ≤ past → ((knows : Table) → AreTold ns knows told → (i f : ℕ) → low ≤ i → i < n → slice_get l.listed i ≡ Some f → knows other f ≡ true) → ShowsFrom p sure ns told (λ more. AreLookedAt p block e more l.listed other n past) → ShowsFrom p sure ns told (λ more. (f own : ℕ) → first ≤ f → f < end → partner_of e f ≡ Some own → are_fit p own f ≡ true → IsNoRace p block e more f own other)

@@ -1,16 +1,16 @@
 -- Which finders a send has to be looked at for.
-use Rattle.std.proofs.Common.{◌≡◌, ℕ, zero, suc, ◌+◌, ◌<◌, ◌≤◌, ◌⊎◌, inl, inr, Bool, true, false, ◌||◌, length, slice_get, List, Option, Some, None, refl, sym, ap, ◌∙◌, subst, arith}
+use Rattle.std.proofs.Common.{◌≡◌, ℕ, zero, suc, ◌+◌, ◌<◌, ◌≤◌, ◌⊎◌, inl, inr, Bool, true, false, ◌||◌, length, slice_get, slice_index, List, Option, Some, None, refl, sym, ap, ◌∙◌, subst, arith}
 use Rattle.std.proofs.lemmas.Bool.{cases_lt}
 use Rattle.std.proofs.lemmas.Option.{slice_get_within}
 use Rattle.calltext.proofs.Conjunctions.{and_both}
 use Rattle.calltext.specs.Limits.{long}
 use Rattle.callorder.specs.declared.calls.Call.{Call}
 use Rattle.callorder.specs.Programs.{MpiProgram, IsProgramWithin, call_at, fit_calls, are_fit, are_of_one_rank}
-use Rattle.semantics.specs.Machine.{Configuration, partner_of}
+use Rattle.semantics.specs.Machine.{Configuration, is_issued, partner_of}
 use Rattle.semantics.proofs.RankOrder.{one_rank_between}
 use Rattle.races.specs.Blocks.{Blocks, HasFellow}
 use Rattle.races.specs.Tells.{Table, IsJustified, tells_return_call}
-use Rattle.races.proofs.Steps.{one_rank, one_rank_made}
+use Rattle.races.proofs.Steps.{issued_within, within_issued, one_rank, one_rank_made}
 use Rattle.clocks.specs.Clocks.{IsNoRace, ShowsAll, HasEarlier, IsTaken, IsChecked, Numbering, rounds}
 use Rattle.clocks.specs.Finders.{IsListing, Listing, before_at}
 use Rattle.clocks.proofs.Levels.{or_left, rounds_within}
@@ -71,31 +71,39 @@ apart_or : (p : MpiProgram) (block : Blocks) (own earlier other finder : ℕ) �
 apart_or p block own earlier other finder one (inl apart) = inl (apart_from p own earlier other one apart)
 apart_or p block own earlier other finder one (inr w) = inr w
 
-all_later : (p : MpiProgram) (block : Blocks) (e sure : Configuration) (base : Table) (bound other : ℕ) → IsProgramWithin long p → IsJustified p sure base → ((it : ℕ) → IsChecked p block e base it) → other < bound → Later p block e sure base other
-all_later p block e sure base zero other is justified checked lt finder own found mine fit apart later = absurd (omega (arith, lt))
-all_later p block e sure base (suc bound) other is justified checked lt finder own found mine fit apart later =
-    elim (checked other finder own found mine) [
+-- an earlier call of the rank of an issued one is issued
+issued_earlier : (p : MpiProgram) (e : Configuration) (earlier other : ℕ) → earlier < other → are_of_one_rank p earlier other ≡ true → is_issued p e other ≡ true → is_issued p e earlier ≡ true
+issued_earlier p e earlier other below one issued =
+    let w = one_rank p earlier other one in
+    let within : other < slice_index e.next w.1.rank = issued_within p e other w.1 w.3 issued in
+    let there : other < slice_index e.next w.0.rank = subst (λ (z : ℕ). other < slice_index e.next z) (sym w.4) within in
+    within_issued p e earlier w.0 w.2 (omega (arith, there, below))
+
+all_later : (p : MpiProgram) (block : Blocks) (e sure : Configuration) (base : Table) (bound other : ℕ) → IsProgramWithin long p → IsJustified p sure base → ((it : ℕ) → IsChecked p block e base it) → other < bound → is_issued p e other ≡ true → Later p block e sure base other
+all_later p block e sure base zero other is justified checked lt issued finder own found mine fit apart later = absurd (omega (arith, lt))
+all_later p block e sure base (suc bound) other is justified checked lt issued finder own found mine fit apart later =
+    elim (checked other issued finder own found mine) [
       | inl none ↦ more_rounds p sure base zero other other finder justified (omega arith) (none fit apart later)
       | inr w ↦
           known_later p sure base w.earlier other finder is (omega (arith, w.before)) w.one
-          (all_later p block e sure base bound w.earlier is justified checked (omega (arith, w.before, lt)) finder own found mine w.fit (apart_or p block own w.earlier other finder w.one apart) w.later)
+          (all_later p block e sure base bound w.earlier is justified checked (omega (arith, w.before, lt)) (issued_earlier p e w.earlier other w.before w.one issued) finder own found mine w.fit (apart_or p block own w.earlier other finder w.one apart) w.later)
     ]
 
-send_there : (o u : Option Call) → fit_calls o u ≡ true → (x : Call) × (o ≡ Some x)
+pub send_there : (o u : Option Call) → fit_calls o u ≡ true → (x : Call) × (o ≡ Some x)
 send_there None u fit = absurd (cc)
 send_there (Some x) u fit = (x, refl)
 
 -- each send that is checked shows it all, some rounds later
 pub checked_shows : (p : MpiProgram) (block : Blocks) (e sure : Configuration) (base : Table) → IsProgramWithin long p → IsJustified p sure base → ((it : ℕ) → IsChecked p block e base it) → ShowsAll p block e (rounds p sure base (length p.calls))
-checked_shows p block e sure base is justified checked finder own other found mine fit apart later =
+checked_shows p block e sure base is justified checked finder own other found mine issued fit apart later =
     let w = send_there (call_at p other) (call_at p finder) fit in
     let within : other < length p.calls = slice_get_within p.calls other w.0 w.1 in
     more_rounds p sure base other (length p.calls) other finder justified (omega (arith, within))
-    (all_later p block e sure base (length p.calls) other is justified checked within finder own found mine fit apart later)
+    (all_later p block e sure base (length p.calls) other is justified checked within issued finder own found mine fit apart later)
 
 -- a send is checked where it is looked at for each finder that the four bounds leave
 pub checked_by : (p : MpiProgram) (block : Blocks) (e : Configuration) (knows : Table) (other first start end last low high : ℕ) → ((f : ℕ) → f < first → are_fit p other f ≡ true → HasEarlier p block e other f) → ((f : ℕ) → f < start → are_fit p other f ≡ true → ⊥) → ((f : ℕ) → end ≤ f → are_fit p other f ≡ true → IsTaken block e other f) → ((f : ℕ) → last ≤ f → are_fit p other f ≡ true → ⊥) → ((n : ℕ) → first ≤ n → start ≤ n → low ≤ n) → ((n : ℕ) → n < end → n < last → n < high) → ((f own : ℕ) → low ≤ f → f < high → partner_of e f ≡ Some own → are_fit p own f ≡ true → IsNoRace p block e knows f own other) → IsChecked p block e knows other
-checked_by p block e knows other first start end last low high a b c d from to looked f own found mine = by (are_fit p other f) refl
+checked_by p block e knows other first start end last low high a b c d from to looked issued f own found mine = by (are_fit p other f) refl
   where
     by : (fit : Bool) → are_fit p other f ≡ fit → IsNoRace p block e knows f own other ⊎ HasEarlier p block e other f
     by false is = inl (λ fit apart later. absurd (cc (is, fit)))
@@ -125,9 +133,9 @@ one_more_send p block e knows n h last other lt =
     ]
 
 pub all_checked : (p : MpiProgram) (block : Blocks) (e : Configuration) (knows : Table) (n : ℕ) → length p.calls ≤ n → ((other : ℕ) → other < n → IsChecked p block e knows other) → (other : ℕ) → IsChecked p block e knows other
-all_checked p block e knows n all h other f own found mine =
+all_checked p block e knows n all h other issued f own found mine =
     elim (cases_lt other n) [
-      | inl below ↦ h other below f own found mine
+      | inl below ↦ h other below issued f own found mine
       | inr ge ↦
           inl (λ fit apart later.
           let w = send_there (call_at p other) (call_at p f) fit in

@@ -1,18 +1,25 @@
 -- Rows of some level that show no race.
-use Rattle.std.proofs.Common.{zero, suc, ap, ◌∙◌, IfSome, [], ◌∷◌, ◌++◌, slice_get, ◌≡◌, ℕ, ◌<◌, ◌≤◌, ◌⊎◌, inl, inr, true, Option, None, IfNone, IfOk, Ok, Err, Result, List, length, ◌+◌, refl, take, get_or, Some, sym, subst, arith}
+use Rattle.std.proofs.Common.{zero, suc, ap, ◌∙◌, IfSome, [], ◌∷◌, ◌++◌, slice_get, ◌≡◌, ℕ, ◌<◌, ◌≤◌, ◌⊎◌, inl, inr, Bool, true, false, not, cond, nat_lt, Option, None, IfNone, IfOk, Ok, Err, Result, List, length, ◌+◌, refl, take, get_or, slice_index, Some, sym, subst, arith}
 use Rattle.std.proofs.lemmas.Option.{slice_get-get_or, slice_get_within}
 use Rattle.semantics.proofs.Runs.{IsRun-at}
-use Rattle.std.proofs.lemmas.Bool.{cases_lt}
+use Rattle.std.proofs.lemmas.Bool.{cases_lt, eq-eqb, lt-ltb}
 use Rattle.calltext.specs.Limits.{long}
 use Rattle.callorder.specs.declared.calls.Call.{Call}
-use Rattle.callorder.specs.Programs.{are_of_one_rank, MpiProgram, are_fit, IsProgramWithin, call_at, fit_calls}
+use Rattle.callorder.specs.Programs.{are_of_one_rank, is_of_rank, MpiProgram, are_fit, IsProgramWithin, call_at, fit_calls}
 use Rattle.semantics.specs.declared.state.Step.{Step}
-use Rattle.semantics.specs.Machine.{Configuration, opening, after_all, partner_of, IsEnabled, IsRun, IsFinishedRun, IsStuckRun}
+use Rattle.semantics.specs.Machine.{Configuration, first_call, opening, after_all, partner_of, is_issued, is_rank_finished, has_next, has_returned_before, IsEnabled, IsRun, IsFinishedRun, IsStuckRun}
 use Rattle.races.specs.Races.{BuffersNoneByChoice}
 use Rattle.races.specs.Tells.{Table}
-use Rattle.races.specs.Blocks.{Blocks, HasFellow, IsSure, ShowsNoRaceOfBlocks}
+use Rattle.races.specs.Blocks.{Blocks, HasFellow, IsSure}
 use Rattle.races.proofs.Telling.{programs_are_in_order}
 use Rattle.races.proofs.LikeRuns.{table_of_blocks_never_sticks}
+use Rattle.races.proofs.Passing.{kept_opening, part_all}
+use Rattle.races.proofs.Steps.{within_issued}
+use Rattle.calltext.proofs.Conjunctions.{and_true}
+use Rattle.callorder.proofs.Lookups.{slice_get-none_past}
+use Rattle.std.specs.List.{count_by}
+use Rattle.std.proofs.lemmas.List.Sums.{sum_by-cons}
+use Rattle.std.proofs.lemmas.List.FromFn.{get_or-map-range_with_len}
 use Rattle.clocks.specs.declared.race.Race.{Race}
 use Rattle.clocks.specs.declared.rows.Count.{Count}
 use Rattle.clocks.specs.Clocks.{Numbering, AreTold, AreToldSoundly, IsNoRace, ShowsAll, HasNoRaceShown, HasEarlier, IsTaken, IsSingle, IsSurePartner, IsChecked, IsRival, IsRivalIfSingle, level, rounds}
@@ -21,7 +28,7 @@ use Rattle.clocks.proofs.Members.{chain, name_below, named_from, spans_are_block
 use Rattle.std.specs.Option.{unwrap_or}
 use Rattle.clocks.specs.Clocks.{with_partners}
 use Rattle.clocks.proofs.Counts.{same_some}
-use Rattle.clocks.proofs.Looks.{checked_shows, checked_by}
+use Rattle.clocks.proofs.Looks.{checked_shows, checked_by, send_there}
 use Rattle.clocks.proofs.Levels.{level_justified, rounds_justified}
 use Rattle.clocks.specs.Exact.{ShowsFrom}
 use Rattle.clocks.proofs.Extending.{shows_as}
@@ -55,19 +62,65 @@ is_sure p block e sure spans h =
 up_to : (t f : ℕ) → t ≤ f → (t < f) ⊎ (t ≡ f)
 up_to t f le = elim (cases_lt t f) [ inl lt ↦ inl lt | inr ge ↦ inr (omega (arith, le, ge)) ]
 
-shows : (p : MpiProgram) (block : Blocks) (e : Configuration) (knows : Table) → ShowsAll p block e knows → ShowsNoRaceOfBlocks p block e knows
-shows p block e knows all finder own other found fit fits which taken =
-    all finder own other found fit fits which (λ taker is upto. taken taker is (narrow taker upto))
+-- what is shown of each send that is issued
+pub shows : (p : MpiProgram) (block : Blocks) (e : Configuration) (knows : Table) → ShowsAll p block e knows → (finder own other : ℕ) → partner_of e finder ≡ Some own → are_fit p own finder ≡ true → are_fit p other finder ≡ true → (are_of_one_rank p own other ≡ false) ⊎ HasFellow p block finder → ((taker : ℕ) → partner_of e other ≡ Some taker → (taker < finder) ⊎ (block taker ≡ block finder) → ⊥) → is_issued p e other ≡ true → knows other finder ≡ true
+shows p block e knows all finder own other found fit fits which taken issued =
+    all finder own other found fit issued fits which (λ taker is upto. taken taker is (narrow taker upto))
   where
     narrow : (taker : ℕ) → (taker ≤ finder) ⊎ (block taker ≡ block finder) → (taker < finder) ⊎ (block taker ≡ block finder)
     narrow taker (inr same) = inr same
     narrow taker (inl le) = elim (up_to taker finder le) [ inl lt ↦ inl lt | inr at ↦ inr (ap block at) ]
 
+one_counted : (x : Call) (xs : List Call) (rank : ℕ) → x.rank < rank → count_by (λ (y : Call). nat_lt y.rank rank) (x ∷ xs) ≡ 1 + count_by (λ (y : Call). nat_lt y.rank rank) xs
+one_counted x xs rank below =
+    sum_by-cons (λ (y : Call). cond (nat_lt y.rank rank) 1 0) x xs ∙ ap (λ (b : Bool). cond b 1 0 + count_by (λ (y : Call). nat_lt y.rank rank) xs) (lt-ltb x.rank rank below)
+
+-- where calls stand in rank order, a call of a lower rank is counted with all before it
+counted_below : (calls : List Call) (rank place : ℕ) (call : Call) → ((c d : ℕ) (one other : Call) → c ≤ d → slice_get calls c ≡ Some one → slice_get calls d ≡ Some other → one.rank ≤ other.rank) → slice_get calls place ≡ Some call → call.rank < rank → place < count_by (λ (y : Call). nat_lt y.rank rank) calls
+counted_below [] rank place call order there below = absurd (cc)
+counted_below (x ∷ xs) rank zero call order there below =
+    let first : x.rank ≤ call.rank = order 0 0 x call (omega arith) refl there in
+    omega (arith, one_counted x xs rank (omega (arith, first, below)))
+counted_below (x ∷ xs) rank (suc k) call order there below =
+    let first : x.rank ≤ call.rank = order 0 (suc k) x call (omega arith) refl there in
+    let rest = counted_below xs rank k call (λ c d a b le at_c at_d. order (suc c) (suc d) a b (omega (arith, le)) at_c at_d) there below in
+    omega (arith, one_counted x xs rank (omega (arith, first, below)), rest)
+
+-- where a rank is finished, no call of it stands at its next place or behind that
+not_last : (p : MpiProgram) (e : Configuration) (c : ℕ) (call : Call) (o : Option Call) → IsProgramWithin long p → first_call p call.rank ≤ slice_index e.next call.rank → call_at p c ≡ Some call → is_rank_finished p e call.rank ≡ true → call_at p (slice_index e.next call.rank) ≡ o → slice_index e.next call.rank ≤ c → ⊥
+not_last p e c call None is from there finished none past = omega (arith, slice_get-none_past p.calls (slice_index e.next call.rank) none, slice_get_within p.calls c call there, past)
+not_last p e c call (Some other) is from there finished at past =
+    elim (cases_lt other.rank call.rank) [
+      | inl low ↦ omega (arith, counted_below p.calls call.rank (slice_index e.next call.rank) other is.rank_order at low, from)
+      | inr ge ↦
+          let high : other.rank ≤ call.rank = is.rank_order (slice_index e.next call.rank) c other call past at there in
+          let same : other.rank ≡ call.rank = omega (arith, ge, high) in
+          let some : has_next p e call.rank ≡ true = ap (λ (z : Option Call). is_of_rank z call.rank) at ∙ eq-eqb other.rank call.rank same in
+          let none : not (has_next p e call.rank) ≡ true = (and_true (not (has_next p e call.rank)) (has_returned_before p e call.rank (slice_index e.next call.rank)) finished).0 in
+          let off = ap not some in
+          absurd (cc)
+    ]
+
+-- at the end of a run that finishes each call is issued
+all_issued : (p : MpiProgram) (steps : List Step) (c : ℕ) (call : Call) → IsProgramWithin long p → IsFinishedRun p steps → call_at p c ≡ Some call → is_issued p (after_all (opening p) steps) c ≡ true
+all_issued p steps c call is finished there =
+    let e = after_all (opening p) steps in
+    let in_range : call.rank < p.ranks = (is.in_range c call there).own in
+    let at : get_or (opening p).next call.rank 0 ≡ first_call p call.rank = get_or-map-range_with_len (first_call p) 0 p.ranks call.rank call.rank 0 in_range (omega arith) in
+    let grown : slice_index (opening p).next call.rank ≤ slice_index e.next call.rank = (part_all p (opening p) steps (kept_opening p (programs_are_in_order long p is).0) finished.run).next call.rank in
+    elim (cases_lt c (slice_index e.next call.rank)) [
+      | inl below ↦ within_issued p e c call there below
+      | inr past ↦ absurd (not_last p e c call (call_at p (slice_index e.next call.rank)) is (omega (arith, at, grown)) there (finished.finished call.rank in_range) refl past)
+    ]
+
 pub none_is_stuck : (p : MpiProgram) (steps other : List Step) → IsProgramWithin long p → IsFinishedRun p steps → BuffersNoneByChoice p steps → HasNoRaceShown p (after_all (opening p) steps) → IsStuckRun p other → ⊥
 none_is_stuck p steps other is finished choice w stuck =
     let order = programs_are_in_order long p is in
     table_of_blocks_never_sticks p steps other w.block w.sure w.knows order.0 order.1 finished choice (spans_are_blocks p w.block w.spans)
-    w.is_sure w.justified (shows p w.block (after_all (opening p) steps) w.knows w.shows) stuck
+    w.is_sure w.justified
+    (λ finder own send found fit fits which taken.
+    let here = send_there (call_at p send) (call_at p finder) fits in
+    shows p w.block (after_all (opening p) steps) w.knows w.shows finder own send found fit fits which taken (all_issued p steps send here.0 is finished here.1)) stuck
 
 pub none_shown : (p : MpiProgram) (block : Blocks) (e sure : Configuration) (ns : Numbering) (told : List Count) (found : Option Race) → IsProgramWithin long p → AreSpans p block → ((c x : ℕ) → partner_of sure c ≡ Some x → IsSurePartner block e c x) → AreToldSoundly p sure ns told → IfNone found (ShowsFrom p sure ns told (λ more. (other : ℕ) → IsChecked p block e more other)) → IfNone found (HasNoRaceShown p e)
 none_shown p block e sure ns told None is spans within sound shown =

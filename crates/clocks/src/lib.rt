@@ -1,5 +1,5 @@
-//! Whether the messages of a run that finishes race, for programs of any length. Where they don't,
-//! no run of the program is stuck.
+//! Whether the messages of a run race, for programs of any length. Where they don't, and the run
+//! finishes, no run of the program is stuck.
 //!
 //! A finder is a receive, a matched probe or a probe, and another send that fits it races for it
 //! where it may get there before the send that the finder found. It doesn't race where it is of the
@@ -29,8 +29,9 @@
 //! one envelope (the rank, the destination, the communicator and the tag) each finder is looked at
 //! for one send at most. Where the count doesn't tell, all that is known of the finder is asked for,
 //! which takes the calls in time and is kept until another finder is asked for. So of a race that is
-//! told no rule tells that the send is issued only where the finder has found. Ranks, and calls by
-//! their place in the program's list, count from 0.
+//! told no rule tells that the send is issued only where the finder has found. Of a send that the run
+//! hasn't issued nothing is asked; one that finishes has issued each. Ranks, and calls by their place
+//! in the program's list, count from 0.
 #![tactic(auto)]
 
 mod classes;
@@ -44,4 +45,4 @@ mod rows;
 mod spans;
 
 pub use laws::spans_are_blocks;
-pub use race::{Race, first_race};
+pub use race::{Race, first_race, shows_no_race};

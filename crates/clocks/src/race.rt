@@ -1,6 +1,6 @@
 //! The first race of a run.
 
-ghost use Rattle.std.specs.Prelude.{◌≡◌, ◌≤◌, ◌<◌, ℕ, IfOk, IfNone, IfSome, Bool, IsTrue, Option, Some, slice_get, false};
+ghost use Rattle.std.specs.Prelude.{◌≡◌, ◌≤◌, ◌<◌, ℕ, IfOk, IfNone, IfSome, Bool, IsTrue, Option, Some, slice_get, true, false};
 ghost use Rattle.semantics.specs.Machine.{opening, after_all, IsConfigurationOf, IsFinishedRun, partner_of};
 ghost use Rattle.races.specs.Races.{BuffersNoneByChoice, NamesSources};
 ghost use Rattle.races.specs.Tells.{Table};
@@ -252,8 +252,8 @@ fn smaller(one: usize, other: usize) -> usize
     if one < other { one } else { other }
 }
 
-/// The first finder for which the send races, among those that it is to be looked at for. The only
-/// error is want of memory.
+/// The first finder for which the send races, among those that it is to be looked at for, if it is
+/// issued. The only error is want of memory.
 fn race_of_send(
     alloc: Global,
     program: &LongProgram,
@@ -275,6 +275,9 @@ fn race_of_send(
     ensures rival { IfOk result (λ found. IfSome found (IsRivalIfSingle program.now (block_of names.now) state.now other)) }
     ensures unordered { IfOk result (λ found. IfSome found (λ finder. IsUnorderedBy program.now (with_partners exact.old.partners) other finder)) }
 {
+    if !state.is_issued(program, other) {
+        return Ok(None);
+    }
     let first = classes.first_open(program, state, names, other);
     let start = classes.rank_start(program, other);
     let end = end_open(program, state, names, other);
@@ -468,4 +471,20 @@ pub fn first_race(
     }
     let state = last_state(alloc, program, run)?;
     race_of(alloc, program, &state, run)
+}
+
+/// Whether it is shown that no messages race in a run that ends in this state, stuck or not: no
+/// send that it has issued may get to a receive, matched probe or probe before the send that this
+/// one found. That it isn't shown proves nothing. The only error is want of memory.
+pub fn shows_no_race(
+    alloc: Global,
+    program: &LongProgram,
+    state: &State,
+    run: &[Step],
+) -> Result<bool, AllocError>
+    requires { IsConfigurationOf program.now state.now }
+    ensures { result ≡ Ok true → HasNoRaceShown program.now state.now }
+{
+    let found = race_of(alloc, program, state, run)?;
+    Ok(found.is_none())
 }

@@ -67,6 +67,10 @@ pub at_some : {A : Type 0} (o : Option A) (x : A) (P : A → Type 0) → o ≡ S
 at_some None x P is h = absurd (cc)
 at_some (Some y) x P is h = let same : y ≡ x = cc in subst P same h
 
+pub at_none : {A : Type 0} (o : Option A) (P : Type 0) → o ≡ None → IfNone o P → P
+at_none None P is h = h
+at_none (Some x) P is h = absurd (cc)
+
 pub nothing : (xs : List ℕ) → length xs ≡ 0 → xs ≡ []
 nothing [] size = refl
 nothing (x ∷ xs) size = absurd (let never : ⊥ = omega (arith, size) in never)

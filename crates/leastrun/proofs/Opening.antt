@@ -1,16 +1,18 @@
 -- Nothing waits in the opening configuration.
-use Rattle.std.proofs.Common.{◌≡◌, ℕ, ◌<◌, true, List, [], length, slice_get, Option, Some, None, sym, ◌∙◌, ap, subst, arith}
+use Rattle.std.proofs.Common.{◌≡◌, ℕ, ◌<◌, true, false, List, [], length, slice_get, Option, Some, None, sym, ◌∙◌, ap, subst, arith}
 use Rattle.std.proofs.lemmas.Option.{slice_get_within}
 use Rattle.calltext.specs.Limits.{long}
 use Rattle.callorder.specs.Programs.{MpiProgram, IsProgramWithin}
 use Rattle.semantics.specs.Machine.{Configuration, opening, is_issued}
 use Rattle.semantics.specs.declared.state.Step.{Step}
 use Rattle.semantics.specs.declared.state.Step.TheVariants.{Issue}
-use Rattle.races.specs.Races.{BuffersNoneByChoice}
 use Rattle.races.proofs.Passing.{none_issued}
 use Rattle.races.proofs.Telling.{programs_are_in_order}
 use Rattle.leastrun.specs.declared.rows.Rows.{Rows}
 use Rattle.leastrun.specs.declared.tables.Tables.{Tables}
+use Rattle.leastrun.specs.declared.walk.Buffering.{Buffering}
+use Rattle.leastrun.specs.declared.walk.Buffering.TheVariants.{Least, Most}
+use Rattle.leastrun.specs.LeastBuffered.{BuffersSo}
 use Rattle.leastrun.specs.Slots.{HasForms}
 use Rattle.leastrun.specs.Queues.{row}
 use Rattle.leastrun.specs.Waiting.{AreInOrder, IsKept, IsFresh}
@@ -50,7 +52,11 @@ fresh_opening p m fresh is now none =
       last = λ c d here issued one. absurd (let both : ◌≡◌ {A = Option ℕ} None (Some c) = sym none ∙ here in cc);
     }
 
-pub none_by_choice : (p : MpiProgram) (steps : List Step) → steps ≡ [] → BuffersNoneByChoice p steps
-none_by_choice p steps none_yet place rank there =
-    let low : place < length steps = slice_get_within steps place (Issue rank true) there in
-    absurd (let never : ⊥ = omega (arith, low, ap length none_yet) in never)
+no_step : (steps : List Step) (place : ℕ) (step : Step) → steps ≡ [] → slice_get steps place ≡ Some step → ⊥
+no_step steps place step none there =
+    let low : place < length steps = slice_get_within steps place step there in
+    omega (arith, low, ap length none)
+
+pub none_yet : (buffering : Buffering) (p : MpiProgram) (steps : List Step) → steps ≡ [] → BuffersSo buffering p steps
+none_yet Least p steps none = λ place rank there. absurd (no_step steps place (Issue rank true) none there)
+none_yet Most p steps none = λ place rank there can. no_step steps place (Issue rank false) none there

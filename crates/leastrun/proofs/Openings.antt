@@ -1,13 +1,16 @@
 -- Open calls: which of them fit, and what may be found.
-use Rattle.std.proofs.Common.{◌≡◌, ℕ, ◌<◌, ◌≤◌, ◌⊎◌, inl, inr, Bool, true, false, not, ◌||◌, Some, slice_index, cond, refl, sym, ◌∙◌, ap, subst, arith}
+use Rattle.std.proofs.Common.{◌≡◌, ℕ, ◌<◌, ◌≤◌, ◌⊎◌, inl, inr, Bool, true, false, not, ◌||◌, Some, slice_index, cond, refl, sym, ap, subst, arith}
 use Rattle.calltext.proofs.Conjunctions.{and_true, and_both}
 use Rattle.callorder.specs.Programs.{MpiProgram, are_fit, is_probe, are_of_one_rank}
+use Rattle.semantics.specs.declared.state.Step.{Step}
 use Rattle.semantics.specs.declared.state.Step.TheVariants.{Issue}
 use Rattle.semantics.specs.Machine.{Configuration, is_issued, is_matched, is_open, CanFind, IsEnabled}
 use Rattle.histories.specs.Laws.{IsOpenPair}
 use Rattle.histories.specs.Places.{find_step}
 use Rattle.races.proofs.Steps.{not_true, is_or_not, issued_within, within_issued, one_rank, same_some}
-use Rattle.leastrun.specs.Waiting.{is_mate, IsLeastMate, NoMate, step_between, NoOpenPair, IsFresh, IsNext, IsNoIssue}
+use Rattle.leastrun.specs.declared.walk.Buffering.{Buffering}
+use Rattle.leastrun.specs.declared.walk.Buffering.TheVariants.{Least, Most}
+use Rattle.leastrun.specs.Waiting.{is_mate, IsLeastMate, NoMate, step_between, NoOpenPair, IsFresh, IsFind, IsNext}
 use Rattle.leastrun.proofs.Slotting.{not_itself}
 
 -- ---- open calls
@@ -89,13 +92,17 @@ no_issue_step : (b : Bool) (s f rank : ℕ) (buffered : Bool) → find_step b s 
 no_issue_step true s f rank buffered e = absurd (cc)
 no_issue_step false s f rank buffered e = absurd (cc)
 
-find_next : (p : MpiProgram) (m : Configuration) (s f : ℕ) → CanFind p m s f → IsNext p m (find_step (is_probe p f) s f)
-find_next p m s f can =
+is_find : (p : MpiProgram) (m : Configuration) (s f : ℕ) → CanFind p m s f → IsFind p m (find_step (is_probe p f) s f)
+is_find p m s f can =
     record {
       enabled = enabled_by p m s f (is_probe p f) refl can;
-      choice = λ rank e. absurd (no_issue_step (is_probe p f) s f rank true e);
-      settled = λ rank buffered e. absurd (no_issue_step (is_probe p f) s f rank buffered e);
+      no_issue = λ rank buffered e. no_issue_step (is_probe p f) s f rank buffered e;
     }
+
+-- a find is a next step, however sends are buffered
+pub find_next : (buffering : Buffering) (p : MpiProgram) (m : Configuration) (step : Step) → IsFind p m step → IsNext buffering p m step
+find_next Least p m step find = record { enabled = find.enabled; choice = λ rank e. absurd (find.no_issue rank true e); settled = λ rank buffered e. absurd (find.no_issue rank buffered e) }
+find_next Most p m step find = record { enabled = find.enabled; choice = λ rank e can. absurd (find.no_issue rank false e); settled = λ rank buffered e. absurd (find.no_issue rank buffered e) }
 
 by_send : (p : MpiProgram) (m : Configuration) (c x : ℕ) → IsFresh p m (Some c) → is_open p m c ≡ true → IsLeastMate p m c x → are_fit p c x ≡ true → CanFind p m c x
 by_send p m c x fresh opened found fit =
@@ -120,18 +127,11 @@ where_not a b (inl h) off = absurd (cc)
 where_not a b (inr h) off = h
 
 -- the step between the fresh call and its earliest mate may be taken
-pub next_between : (p : MpiProgram) (m : Configuration) (c x : ℕ) → IsFresh p m (Some c) → is_open p m c ≡ true → IsLeastMate p m c x → IsNext p m (step_between p c x)
-next_between p m c x fresh opened found =
+pub find_between : (p : MpiProgram) (m : Configuration) (c x : ℕ) → IsFresh p m (Some c) → is_open p m c ≡ true → IsLeastMate p m c x → IsFind p m (step_between p c x)
+find_between p m c x fresh opened found =
     elim (is_or_not (are_fit p c x)) [
-      | inl fits ↦ subst (λ (z : Bool). IsNext p m (cond z (find_step (is_probe p x) c x) (find_step (is_probe p c) x c))) (sym fits) (find_next p m c x (by_send p m c x fresh opened found fits))
-      | inr off ↦ subst (λ (z : Bool). IsNext p m (cond z (find_step (is_probe p x) c x) (find_step (is_probe p c) x c))) (sym off) (find_next p m x c (by_finder p m c x fresh opened found (where_not (are_fit p c x) (are_fit p x c) (mate_fits p m c x found.mate) off)))
-    ]
-
-pub between_is_find : (p : MpiProgram) (c x : ℕ) → IsNoIssue (step_between p c x)
-between_is_find p c x rank buffered is =
-    elim (is_or_not (are_fit p c x)) [
-      | inl fits ↦ no_issue_step (is_probe p x) c x rank buffered (ap (λ (z : Bool). cond z (find_step (is_probe p x) c x) (find_step (is_probe p c) x c)) (sym fits) ∙ is)
-      | inr off ↦ no_issue_step (is_probe p c) x c rank buffered (ap (λ (z : Bool). cond z (find_step (is_probe p x) c x) (find_step (is_probe p c) x c)) (sym off) ∙ is)
+      | inl fits ↦ subst (λ (z : Bool). IsFind p m (cond z (find_step (is_probe p x) c x) (find_step (is_probe p c) x c))) (sym fits) (is_find p m c x (by_send p m c x fresh opened found fits))
+      | inr off ↦ subst (λ (z : Bool). IsFind p m (cond z (find_step (is_probe p x) c x) (find_step (is_probe p c) x c))) (sym off) (is_find p m x c (by_finder p m c x fresh opened found (where_not (are_fit p c x) (are_fit p x c) (mate_fits p m c x found.mate) off)))
     ]
 
 pub pair_open : (p : MpiProgram) (m : Configuration) (s f : ℕ) → IsOpenPair p m s f → (is_open p m s ≡ true) × (is_open p m f ≡ true)

@@ -14,6 +14,7 @@ use Rattle.leastrun.specs.declared.rows.Rows.{Rows}
 use Rattle.leastrun.specs.declared.tables.Tables.{Tables}
 use Rattle.leastrun.specs.Slots.{send_slot, finder_slot}
 use Rattle.leastrun.specs.Queues.{row, StandsIn, IsGrown, IsPassed}
+use Rattle.leastrun.specs.declared.walk.Buffering.{Buffering}
 use Rattle.leastrun.specs.Waiting.{IsSendIn, IsFinderIn, AreInOrder, IsKept, NoOpenPair, IsFresh, fresh_after, IsSettled, IsNext}
 use Rattle.leastrun.proofs.Slotting.{same_at}
 use Rattle.leastrun.proofs.Queued.{grown_there}
@@ -136,15 +137,15 @@ fresh_by_issue p m r b w none_open =
 
 -- ---- a step
 
-pub kept_after : (p : MpiProgram) (m : Configuration) (fresh : Option ℕ) (t : Tables) (step : Step) → IsKept p fresh m t → IsNext p m step → IsSettled fresh step → IsKept p (fresh_after m fresh step) (after m step) t
-kept_after p m fresh t (Issue r b) kept next settled = kept_by_issue p m fresh t r b (issues p m r b next.enabled) kept (settled r b refl)
-kept_after p m fresh t (Match s f) kept next settled = kept_by_find p m fresh t (Match s f) kept (λ rank buffered is. absurd (cc))
-kept_after p m fresh t (See s f) kept next settled = kept_by_find p m fresh t (See s f) kept (λ rank buffered is. absurd (cc))
+pub kept_after : (buffering : Buffering) (p : MpiProgram) (m : Configuration) (fresh : Option ℕ) (t : Tables) (step : Step) → IsKept p fresh m t → IsNext buffering p m step → IsSettled fresh step → IsKept p (fresh_after m fresh step) (after m step) t
+kept_after buffering p m fresh t (Issue r b) kept next settled = kept_by_issue p m fresh t r b (issues p m r b next.enabled) kept (settled r b refl)
+kept_after buffering p m fresh t (Match s f) kept next settled = kept_by_find p m fresh t (Match s f) kept (λ rank buffered is. absurd (cc))
+kept_after buffering p m fresh t (See s f) kept next settled = kept_by_find p m fresh t (See s f) kept (λ rank buffered is. absurd (cc))
 
-pub still_fresh : (p : MpiProgram) (m : Configuration) (fresh : Option ℕ) (step : Step) → IsFresh p m fresh → IsNext p m step → IsFresh p (after m step) (fresh_after m fresh step)
-still_fresh p m fresh (Issue r b) new next = fresh_by_issue p m r b (issues p m r b next.enabled) (next.settled r b refl)
-still_fresh p m fresh (Match s f) new next = fresh_by_find p m (Match s f) fresh new (λ rank buffered is. absurd (cc))
-still_fresh p m fresh (See s f) new next = fresh_by_find p m (See s f) fresh new (λ rank buffered is. absurd (cc))
+pub still_fresh : (buffering : Buffering) (p : MpiProgram) (m : Configuration) (fresh : Option ℕ) (step : Step) → IsFresh p m fresh → IsNext buffering p m step → IsFresh p (after m step) (fresh_after m fresh step)
+still_fresh buffering p m fresh (Issue r b) new next = fresh_by_issue p m r b (issues p m r b next.enabled) (next.settled r b refl)
+still_fresh buffering p m fresh (Match s f) new next = fresh_by_find p m (Match s f) fresh new (λ rank buffered is. absurd (cc))
+still_fresh buffering p m fresh (See s f) new next = fresh_by_find p m (See s f) fresh new (λ rank buffered is. absurd (cc))
 
 -- ---- the fresh call waits
 

@@ -8,6 +8,8 @@ use Rattle.semantics.specs.declared.state.Step.TheVariants.{Issue, Match, See}
 use Rattle.semantics.specs.Machine.{Configuration, IsEnabled, is_issued, is_open, can_issue}
 use Rattle.histories.specs.Laws.{IsOpenPair}
 use Rattle.histories.specs.Places.{find_step}
+use Rattle.leastrun.specs.declared.walk.Buffering.{Buffering}
+use Rattle.leastrun.specs.declared.walk.Buffering.TheVariants.{Least, Most}
 use Rattle.leastrun.specs.declared.slot.Form.{Form}
 use Rattle.leastrun.specs.declared.rows.Rows.{Rows}
 use Rattle.leastrun.specs.declared.tables.Tables.{Tables}
@@ -107,11 +109,22 @@ IsNoIssue step = (rank : ℕ) (buffered : Bool) → step ≡ Issue rank buffered
 abbrev pub IsSettled : Option ℕ → Step → Type 0
 IsSettled fresh step = (rank : ℕ) (buffered : Bool) → step ≡ Issue rank buffered → fresh ≡ None
 
--- An enabled step that buffers nothing by choice; an issue only where no open finder fits an open
--- send.
-pub record IsNext (p : MpiProgram) (m : Configuration) (step : Step) : Type 0 where
+-- an enabled step that is no issue
+pub record IsFind (p : MpiProgram) (m : Configuration) (step : Step) : Type 0 where
   pub enabled : IsEnabled p m step
-  pub choice : (rank : ℕ) → step ≡ Issue rank true → p.policy ≡ Always
+  pub no_issue : IsNoIssue step
+
+-- The step issues a call as buffered only where the policy has each buffered; or as not buffered
+-- only where it can't be issued as buffered.
+abbrev pub IsChosen : Buffering → MpiProgram → Configuration → Step → Type 0
+IsChosen Least p m step = (rank : ℕ) → step ≡ Issue rank true → p.policy ≡ Always
+IsChosen Most p m step = (rank : ℕ) → step ≡ Issue rank false → IsEnabled p m (Issue rank true) → ⊥
+
+-- An enabled step that buffers as little, or as much, as it may; an issue only where no open finder
+-- fits an open send.
+pub record IsNext (buffering : Buffering) (p : MpiProgram) (m : Configuration) (step : Step) : Type 0 where
+  pub enabled : IsEnabled p m step
+  pub choice : IsChosen buffering p m step
   pub settled : (rank : ℕ) (buffered : Bool) → step ≡ Issue rank buffered → NoOpenPair p m
 
 -- no call of the rank can be issued

@@ -2,7 +2,7 @@
 
 ghost use Rattle.std.specs.Prelude.{◌≡◌, ℕ, IfSome, IfNone, Some};
 ghost use Rattle.callorder.specs.Programs.{call_at};
-ghost use Rattle.leastrun.specs.Waiting.{IsKept, IsFresh, AreInOrder, is_mate, IsFirstMate, NoMateAmong, IsLeastIn, NoMateIn, lesser, IsLeastMate, NoFinder, NoSend, NoMate, step_between, NoOpenPair, IsNext, IsNoIssue};
+ghost use Rattle.leastrun.specs.Waiting.{IsKept, IsFresh, AreInOrder, is_mate, IsFirstMate, NoMateAmong, IsLeastIn, NoMateIn, lesser, IsLeastMate, NoFinder, NoSend, NoMate, step_between, NoOpenPair, IsFind};
 
 use crate::rows::Rows;
 use crate::slot::{finder_slot, send_slot};
@@ -156,8 +156,7 @@ fn step_between(program: &LongProgram, call: usize, other: usize) -> Step
 pub fn find_of(program: &LongProgram, state: &State, tables: &Tables, call: usize) -> Option<Step>
     requires kept { IsKept program.now (Some call) state.now tables.now }
     requires fresh { IsFresh program.now state.now (Some call) }
-    ensures some { IfSome result (IsNext program.now state.now) }
-    ensures find { IfSome result IsNoIssue }
+    ensures some { IfSome result (IsFind program.now state.now) }
     ensures none { IfNone result (NoOpenPair program.now state.now) }
 {
     if !state.is_open(program, call) {

@@ -1,9 +1,9 @@
-//! The run that buffers as little as the policy allows.
+//! The runs that buffer as little and as much as the policy allows.
 
 ghost use Rattle.std.specs.Prelude.{◌≡◌, ℕ, IfSome, IfNone, IfOk, OnOk, Option};
 ghost use Rattle.semantics.specs.Machine.{IsConfigurationOf, opening, after_all};
 ghost use Rattle.leastrun.specs.Waiting.{IsKept, NoOpenPair, IsFresh, fresh_after, IsSettled, IsNext, NoIssueOf};
-ghost use Rattle.leastrun.specs.LeastBuffered.{NothingEnabled, IsLeastBufferedRun};
+ghost use Rattle.leastrun.specs.LeastBuffered.{NothingEnabled, IsLeastBufferedRun, IsMostBufferedRun, IsBufferedRun};
 
 use crate::lookup::find_of;
 use crate::tables::Tables;
@@ -11,10 +11,19 @@ use callorder::{Kind, LongProgram, Policy};
 use semantics::{State, Step};
 use std::alloc::{AllocError, Global};
 
+/// Which standard sends a run buffers, where the policy leaves it open.
+#[derive(Clone, Copy, Debug, PartialEq, Eq)]
+pub enum Buffering {
+    /// None.
+    Least,
+    /// Each.
+    Most,
+}
+
 /// The issue of the rank's next call, buffered only where it has to be.
-fn issue_of(program: &LongProgram, state: &State, rank: u32) -> Option<Step>
+fn least_issue(program: &LongProgram, state: &State, rank: u32) -> Option<Step>
     requires none_open { NoOpenPair program.now state.now }
-    ensures some { IfSome result (IsNext program.now state.now) }
+    ensures some { IfSome result (IsNext Buffering.Least program.now state.now) }
     ensures none { IfNone result (NoIssueOf program.now state.now rank) }
 {
     let unbuffered = Step::Issue {
@@ -36,16 +45,56 @@ fn issue_of(program: &LongProgram, state: &State, rank: u32) -> Option<Step>
     None
 }
 
-/// An enabled issue of one of these ranks, which are taken off the list up to it.
-fn ready_issue(program: &LongProgram, state: &State, ready: &mut Vec<u32>) -> Option<Step>
+/// The issue of the rank's next call, buffered wherever it may be.
+fn most_issue(program: &LongProgram, state: &State, rank: u32) -> Option<Step>
     requires none_open { NoOpenPair program.now state.now }
-    ensures { IfSome result (IsNext program.now state.now) }
+    ensures some { IfSome result (IsNext Buffering.Most program.now state.now) }
+    ensures none { IfNone result (NoIssueOf program.now state.now rank) }
+{
+    let buffered = Step::Issue {
+        rank,
+        buffered: true,
+    };
+    if state.enabled(program, buffered) {
+        return Some(buffered);
+    }
+    let otherwise = Step::Issue {
+        rank,
+        buffered: false,
+    };
+    if state.enabled(program, otherwise) {
+        return Some(otherwise);
+    }
+    None
+}
+
+/// The issue of the rank's next call.
+fn issue_of(program: &LongProgram, state: &State, buffering: Buffering, rank: u32) -> Option<Step>
+    requires none_open { NoOpenPair program.now state.now }
+    ensures some { IfSome result (IsNext buffering program.now state.now) }
+    ensures none { IfNone result (NoIssueOf program.now state.now rank) }
+{
+    match buffering {
+        Buffering::Least => least_issue(program, state, rank),
+        Buffering::Most => most_issue(program, state, rank),
+    }
+}
+
+/// An enabled issue of one of these ranks, which are taken off the list up to it.
+fn ready_issue(
+    program: &LongProgram,
+    state: &State,
+    buffering: Buffering,
+    ready: &mut Vec<u32>,
+) -> Option<Step>
+    requires none_open { NoOpenPair program.now state.now }
+    ensures { IfSome result (IsNext buffering program.now state.now) }
 {
     for _ in 0..ready.len() {
         let Some(rank) = ready.pop() else {
             return None;
         };
-        let issue = issue_of(program, state, rank);
+        let issue = issue_of(program, state, buffering, rank);
         if issue.is_some() {
             return issue;
         }
@@ -54,14 +103,14 @@ fn ready_issue(program: &LongProgram, state: &State, ready: &mut Vec<u32>) -> Op
 }
 
 /// An enabled issue of any rank.
-fn any_issue(program: &LongProgram, state: &State) -> Option<Step>
+fn any_issue(program: &LongProgram, state: &State, buffering: Buffering) -> Option<Step>
     requires of { IsConfigurationOf program.now state.now }
     requires none_open { NoOpenPair program.now state.now }
-    ensures some { IfSome result (IsNext program.now state.now) }
+    ensures some { IfSome result (IsNext buffering program.now state.now) }
     ensures none { IfNone result (NothingEnabled program.now state.now) }
 {
     for rank in 0..program.ranks() {
-        let issue = issue_of(program, state, rank);
+        let issue = issue_of(program, state, buffering, rank);
         if issue.is_some() {
             return issue;
         }
@@ -71,17 +120,22 @@ fn any_issue(program: &LongProgram, state: &State) -> Option<Step>
 
 /// An enabled issue: of a rank that is ready, and where there is none, of any rank. The list of
 /// ready ranks misses none, so that all ranks are looked at once, at the end.
-fn next_issue(program: &LongProgram, state: &State, ready: &mut Vec<u32>) -> Option<Step>
+fn next_issue(
+    program: &LongProgram,
+    state: &State,
+    buffering: Buffering,
+    ready: &mut Vec<u32>,
+) -> Option<Step>
     requires of { IsConfigurationOf program.now state.now }
     requires none_open { NoOpenPair program.now state.now }
-    ensures some { IfSome result (IsNext program.now state.now) }
+    ensures some { IfSome result (IsNext buffering program.now state.now) }
     ensures none { IfNone result (NothingEnabled program.now state.now) }
 {
-    let issue = ready_issue(program, state, ready);
+    let issue = ready_issue(program, state, buffering, ready);
     if issue.is_some() {
         return issue;
     }
-    any_issue(program, state)
+    any_issue(program, state, buffering)
 }
 
 /// The next step: a find of the fresh call, and where there is none, that call waits from then on,
@@ -89,6 +143,7 @@ fn next_issue(program: &LongProgram, state: &State, ready: &mut Vec<u32>) -> Opt
 fn next_step(
     program: &LongProgram,
     state: &State,
+    buffering: Buffering,
     tables: &mut Tables,
     ready: &mut Vec<u32>,
     fresh: &mut Option<usize>,
@@ -99,11 +154,11 @@ fn next_step(
     ensures kept { OnOk result (IsKept program.now fresh.new state.now tables.new) }
     ensures fresh { OnOk result (IsFresh program.now state.now fresh.new) }
     ensures settled { IfOk result (λ next. IfSome next (IsSettled fresh.new)) }
-    ensures some { IfOk result (λ next. IfSome next (IsNext program.now state.now)) }
+    ensures some { IfOk result (λ next. IfSome next (IsNext buffering program.now state.now)) }
     ensures none { IfOk result (λ next. IfNone next (NothingEnabled program.now state.now)) }
 {
     let Some(call) = *fresh else {
-        return Ok(next_issue(program, state, ready));
+        return Ok(next_issue(program, state, buffering, ready));
     };
     let find = find_of(program, state, tables, call);
     if find.is_some() {
@@ -111,7 +166,7 @@ fn next_step(
     }
     tables.post(program, state, call)?;
     *fresh = None;
-    Ok(next_issue(program, state, ready))
+    Ok(next_issue(program, state, buffering, ready))
 }
 
 /// The fresh call once this step is taken, in a state before it.
@@ -206,6 +261,44 @@ fn all_ranks(alloc: Global, ranks: u32) -> Result<Vec<u32>, AllocError> {
     Ok(ready)
 }
 
+/// A run that buffers so, as far as it goes, and the state after it. The only error is want of
+/// memory.
+fn buffered_run(
+    alloc: Global,
+    program: &LongProgram,
+    buffering: Buffering,
+) -> Result<(Vec<Step>, State), AllocError>
+    ensures run { IfOk result (λ walked. IsBufferedRun buffering program.now walked.0.items) }
+    ensures end { IfOk result (λ walked. walked.1 ≡ after_all (opening program.now) walked.0.items) }
+{
+    let probes = probes_of(alloc, program)?;
+    let mut ready = all_ranks(alloc, program.ranks())?;
+    let mut tables = Tables::new(alloc, program)?;
+    let mut state = State::start(alloc, program)?;
+    let most = 2 * program.calls().len() + 1;
+    let mut steps = Vec::with_capacity(alloc, most)?;
+    let mut fresh = None;
+    for turn in 0..most {
+        let next = next_step(
+            program,
+            &state,
+            buffering,
+            &mut tables,
+            &mut ready,
+            &mut fresh,
+        )?;
+        let Some(step) = next else {
+            return Ok((steps, state));
+        };
+        wake_by(program, &state, &probes, &mut ready, step)?;
+        fresh = fresh_after(&state, fresh, step);
+        steps.push(step)?;
+        state.apply(program, step);
+        pass_by(program, &state, &mut tables, step);
+    }
+    Ok((steps, state))
+}
+
 /// The run that buffers as little as the policy allows, as far as it goes, and the state after it,
 /// in which no step is enabled. A standard send is issued as buffered only where the policy has
 /// each one buffered. Whether the run finishes or gets stuck, `State::unfinished` of that state
@@ -219,23 +312,19 @@ pub fn least_buffered_run(
     ensures run { IfOk result (λ walked. IsLeastBufferedRun program.now walked.0.items) }
     ensures end { IfOk result (λ walked. walked.1 ≡ after_all (opening program.now) walked.0.items) }
 {
-    let probes = probes_of(alloc, program)?;
-    let mut ready = all_ranks(alloc, program.ranks())?;
-    let mut tables = Tables::new(alloc, program)?;
-    let mut state = State::start(alloc, program)?;
-    let most = 2 * program.calls().len() + 1;
-    let mut steps = Vec::with_capacity(alloc, most)?;
-    let mut fresh = None;
-    for turn in 0..most {
-        let next = next_step(program, &state, &mut tables, &mut ready, &mut fresh)?;
-        let Some(step) = next else {
-            return Ok((steps, state));
-        };
-        wake_by(program, &state, &probes, &mut ready, step)?;
-        fresh = fresh_after(&state, fresh, step);
-        steps.push(step)?;
-        state.apply(program, step);
-        pass_by(program, &state, &mut tables, step);
-    }
-    Ok((steps, state))
+    let walked = buffered_run(alloc, program, Buffering::Least)?;
+    Ok(walked)
+}
+
+/// As `least_buffered_run`, of the run that buffers as much as the policy allows: a standard send
+/// is issued as not buffered only where the policy has none buffered.
+pub fn most_buffered_run(
+    alloc: Global,
+    program: &LongProgram,
+) -> Result<(Vec<Step>, State), AllocError>
+    ensures run { IfOk result (λ walked. IsMostBufferedRun program.now walked.0.items) }
+    ensures end { IfOk result (λ walked. walked.1 ≡ after_all (opening program.now) walked.0.items) }
+{
+    let walked = buffered_run(alloc, program, Buffering::Most)?;
+    Ok(walked)
 }

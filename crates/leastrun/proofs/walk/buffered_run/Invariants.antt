@@ -1,8 +1,8 @@
 use Rattle.std.proofs.Common.{◌≡◌, length}
 use Rattle.semantics.specs.Machine.{IsConfigurationOf, IsRun, opening, after_all}
-use Rattle.races.specs.Races.{BuffersNoneByChoice}
+use Rattle.leastrun.specs.LeastBuffered.{BuffersSo}
 use Rattle.leastrun.specs.Waiting.{IsKept, IsFresh}
-use Rattle.leastrun.proofs.walk.least_buffered_run.Given as goal
+use Rattle.leastrun.proofs.walk.buffered_run.Given as goal
 
 abbrev pub invariant-loop-turn : goal.invariant-loop-turn
 invariant-loop-turn l =
@@ -13,5 +13,5 @@ invariant-loop-turn l =
       size : length l.steps.items ≡ l.turn;
       kept : IsKept l.program l.fresh l.state l.tables;
       fresh : IsFresh l.program l.state l.fresh;
-      choice : BuffersNoneByChoice l.program l.steps.items;
+      choice : BuffersSo l.buffering l.program l.steps.items;
     }
