@@ -1,4 +1,2 @@
 pub mod Parts
 mod Columns
-mod Listed
-mod Replayed

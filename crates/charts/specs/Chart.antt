@@ -6,10 +6,10 @@ use Rattle.calltext.specs.Grammar.{ProgramText}
 use Rattle.callorder.specs.Programs.{MpiProgram}
 use Rattle.semantics.specs.declared.state.Step.{Step}
 use Rattle.semantics.specs.Machine.{Configuration, opening, after_all, is_rank_finished}
-use Rattle.charts.specs.declared.acts.Act.{Act}
-use Rattle.charts.specs.declared.acts.Act.TheVariants.{Issue, Match, See}
-use Rattle.charts.specs.Acts.{acts_from}
-use Rattle.charts.specs.Calls.{Telling, told_calls, shortened}
+use Rattle.scene.specs.declared.acts.Act.{Act}
+use Rattle.scene.specs.declared.acts.Act.TheVariants.{Issue, Match, See}
+use Rattle.scene.specs.Acts.{acts_from}
+use Rattle.scene.specs.Labels.{Label, call_labels, shortened}
 use Rattle.charts.specs.Cuts.{undrawn, undrawn_line}
 
 -- ---- columns
@@ -57,7 +57,7 @@ sign_of true = codes "b "
 
 -- the words of the call, cut to 15 characters, with `b ` before them where it is a buffered send; where columns are narrow, `i` or `b` and
 -- the number of its line
-abbrev pub issue_mark : ℕ → Telling → Bool → List ℕ
+abbrev pub issue_mark : ℕ → Label → Bool → List ℕ
 issue_mark ranks told buffered =
     if are_narrow ranks then letter_of buffered ++ numeral told.line else shortened 15 (sign_of buffered ++ told.words)
 
@@ -68,7 +68,7 @@ issue_cell ranks owner mark rank = padded (if rank == owner then mark else codes
 abbrev pub issue_row : ℕ → ℕ → List ℕ → List ℕ
 issue_row ranks owner mark = columns (issue_cell ranks owner mark) ranks ++ codes "\n"
 
-abbrev pub issue_row_of : ℕ → Option Telling → Bool → List ℕ
+abbrev pub issue_row_of : ℕ → Option Label → Bool → List ℕ
 issue_row_of ranks None buffered = codes "\n"
 issue_row_of ranks (Some told) buffered = issue_row ranks told.rank (issue_mark ranks told buffered)
 
@@ -93,11 +93,11 @@ find_cell ranks from to stroke rank = padded (find_mark from to stroke rank ∷ 
 abbrev pub find_note : ℕ → List ℕ → ℕ → List ℕ
 find_note send link finder = codes "   line " ++ (numeral send ++ (link ++ (numeral finder ++ codes "\n")))
 
-abbrev pub find_row : ℕ → Telling → List ℕ → ℕ → Telling → List ℕ
+abbrev pub find_row : ℕ → Label → List ℕ → ℕ → Label → List ℕ
 find_row ranks send link stroke finder =
     columns (find_cell ranks send.rank finder.rank stroke) ranks ++ find_note send.line link finder.line
 
-abbrev pub find_row_of : ℕ → Option Telling → List ℕ → ℕ → Option Telling → List ℕ
+abbrev pub find_row_of : ℕ → Option Label → List ℕ → ℕ → Option Label → List ℕ
 find_row_of ranks None link stroke finder = codes "\n"
 find_row_of ranks (Some send) link stroke None = codes "\n"
 find_row_of ranks (Some send) link stroke (Some finder) = find_row ranks send link stroke finder
@@ -105,7 +105,7 @@ find_row_of ranks (Some send) link stroke (Some finder) = find_row ranks send li
 -- ---- all rows
 
 -- the row of a step: a match has a stroke of `-`, a see one of `.`
-abbrev pub row_of : ℕ → List Telling → Act → List ℕ
+abbrev pub row_of : ℕ → List Label → Act → List ℕ
 row_of ranks calls (Issue c buffered) = issue_row_of ranks (slice_get calls c) buffered
 row_of ranks calls (Match s t) = find_row_of ranks (slice_get calls s) (codes " -> line ") 45 (slice_get calls t)
 row_of ranks calls (See s f) = find_row_of ranks (slice_get calls s) (codes " seen by line ") 46 (slice_get calls f)
@@ -122,7 +122,7 @@ abbrev pub end_row : MpiProgram → Configuration → List ℕ
 end_row p m = columns (end_cell p m) p.ranks ++ codes "\n"
 
 -- how many steps come before, and a row for each of the others, in order
-abbrev pub rows_of : MpiProgram → List Telling → List Act → List ℕ
+abbrev pub rows_of : MpiProgram → List Label → List Act → List ℕ
 rows_of p calls acts =
     undrawn_line (undrawn p (length acts)) ++ flat_map (row_of p.ranks calls) (drop (undrawn p (length acts)) acts)
 
@@ -130,4 +130,4 @@ rows_of p calls acts =
 abbrev pub chart_of : List ℕ → ProgramText → MpiProgram → List Step → List ℕ
 chart_of text source p steps =
     heading p.ranks
-    ++ (rows_of p (told_calls text source p) (acts_from (opening p) steps) ++ end_row p (after_all (opening p) steps))
+    ++ (rows_of p (call_labels text source p) (acts_from (opening p) steps) ++ end_row p (after_all (opening p) steps))

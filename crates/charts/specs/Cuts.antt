@@ -1,11 +1,8 @@
 -- Which steps of a run are drawn.
-use Rattle.std.specs.Prelude.{codes, ℕ, ◌-◌, ◌==◌, ◌||◌, nat_lt, Bool, if◌then◌else◌, List, [], ◌++◌, length}
+use Rattle.std.specs.Prelude.{codes, ℕ, ◌-◌, ◌==◌, if◌then◌else◌, List, [], ◌++◌}
 use Rattle.plaintext.specs.Plain.{numeral}
 use Rattle.callorder.specs.Programs.{MpiProgram}
-
--- the program has more than 64 ranks, or more than 1,024 calls
-abbrev pub is_large : MpiProgram → Bool
-is_large p = nat_lt 64 p.ranks || nat_lt 1024 (length p.calls)
+use Rattle.scene.specs.Sizes.{is_large}
 
 -- How many of so many steps come before the drawn ones: of a run of a large program the last 400 are drawn, else all.
 abbrev pub undrawn : MpiProgram → ℕ → ℕ

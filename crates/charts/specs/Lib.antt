@@ -1,5 +1,3 @@
-pub mod Calls
-pub mod Acts
 pub mod Lining
 pub mod Cuts
 pub mod Chart

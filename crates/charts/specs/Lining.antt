@@ -6,21 +6,21 @@ use Rattle.calltext.specs.Grammar.{ProgramText}
 use Rattle.callorder.specs.Programs.{MpiProgram}
 use Rattle.semantics.specs.declared.state.Step.{Step}
 use Rattle.semantics.specs.Machine.{opening}
-use Rattle.charts.specs.declared.acts.Act.{Act}
-use Rattle.charts.specs.declared.acts.Act.TheVariants.{Issue, Match, See}
-use Rattle.charts.specs.Acts.{acts_from}
-use Rattle.charts.specs.Calls.{Telling, told_calls}
+use Rattle.scene.specs.declared.acts.Act.{Act}
+use Rattle.scene.specs.declared.acts.Act.TheVariants.{Issue, Match, See}
+use Rattle.scene.specs.Acts.{acts_from}
+use Rattle.scene.specs.Labels.{Label, call_labels}
 
 -- `rank R line L`
-abbrev pub told_place : Telling → List ℕ
+abbrev pub told_place : Label → List ℕ
 told_place told = codes "rank " ++ (numeral told.rank ++ (codes " line " ++ numeral told.line))
 
 -- the rank and the line of a call
-abbrev pub place_words : Option Telling → List ℕ
+abbrev pub place_words : Option Label → List ℕ
 place_words None = []
 place_words (Some told) = told_place told
 
-abbrev pub call_words : Option Telling → List ℕ
+abbrev pub call_words : Option Label → List ℕ
 call_words None = []
 call_words (Some told) = told.words
 
@@ -30,19 +30,19 @@ how_issued false = []
 how_issued true = codes " (buffered)"
 
 -- `rank R line L: WORDS`, with ` (buffered)` behind it where the step buffers a send
-abbrev pub issue_line : Option Telling → Bool → List ℕ
+abbrev pub issue_line : Option Label → Bool → List ℕ
 issue_line told buffered = place_words told ++ (codes ": " ++ (call_words told ++ (how_issued buffered ++ codes "\n")))
 
 -- `message of rank R line L`, what becomes of it, and `rank R line L`
-abbrev pub find_line : Option Telling → List ℕ → Option Telling → List ℕ
+abbrev pub find_line : Option Label → List ℕ → Option Label → List ℕ
 find_line send link finder = codes "message of " ++ (place_words send ++ (link ++ (place_words finder ++ codes "\n")))
 
 -- the line of a step
-abbrev pub act_line : List Telling → Act → List ℕ
+abbrev pub act_line : List Label → Act → List ℕ
 act_line calls (Issue c buffered) = issue_line (slice_get calls c) buffered
 act_line calls (Match s t) = find_line (slice_get calls s) (codes " -> ") (slice_get calls t)
 act_line calls (See s f) = find_line (slice_get calls s) (codes " seen by ") (slice_get calls f)
 
 -- the lines of the steps of a run that ends stuck, and then `stuck`
 abbrev pub lined_run : List ℕ → ProgramText → MpiProgram → List Step → List ℕ
-lined_run text source p steps = flat_map (act_line (told_calls text source p)) (acts_from (opening p) steps) ++ codes "stuck\n"
+lined_run text source p steps = flat_map (act_line (call_labels text source p)) (acts_from (opening p) steps) ++ codes "stuck\n"

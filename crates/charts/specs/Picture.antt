@@ -9,10 +9,10 @@ use Rattle.callorder.specs.Calls.{message_of}
 use Rattle.callorder.specs.Programs.{MpiProgram, call_at}
 use Rattle.semantics.specs.declared.state.Step.{Step}
 use Rattle.semantics.specs.Machine.{Configuration, opening, after_all, is_fetched, is_rank_finished}
-use Rattle.charts.specs.declared.acts.Act.{Act}
-use Rattle.charts.specs.declared.acts.Act.TheVariants.{Issue, Match, See}
-use Rattle.charts.specs.Acts.{acts_from}
-use Rattle.charts.specs.Calls.{Telling, told_calls, shortened}
+use Rattle.scene.specs.declared.acts.Act.{Act}
+use Rattle.scene.specs.declared.acts.Act.TheVariants.{Issue, Match, See}
+use Rattle.scene.specs.Acts.{acts_from}
+use Rattle.scene.specs.Labels.{Label, call_labels, shortened}
 use Rattle.charts.specs.Chart.{columns}
 use Rattle.charts.specs.Cuts.{undrawn, undrawn_text}
 
@@ -49,11 +49,11 @@ abbrev pub said_of : Bool → List ℕ
 said_of false = []
 said_of true = codes " buffered"
 
--- a tick, and the words of the call beside it
+-- a tick, and these words of the call beside it
 abbrev pub label : List ℕ → Bool → List ℕ
-label words buffered =
+label short buffered =
     codes "<path d=\"M0 0H8\" stroke=\""
-    ++ (colour_of buffered ++ (codes "\"/><text x=\"12\" y=\"4\" fill=\"" ++ (colour_of buffered ++ (codes "\">" ++ (short_words 40 words ++ (said_of buffered ++ codes "</text>"))))))
+    ++ (colour_of buffered ++ (codes "\"/><text x=\"12\" y=\"4\" fill=\"" ++ (colour_of buffered ++ (codes "\">" ++ (short ++ (said_of buffered ++ codes "</text>"))))))
 
 abbrev pub is_left_call : MpiProgram → Configuration → ℕ → Option Call → Bool
 is_left_call p m c None = false
@@ -68,15 +68,15 @@ abbrev pub stub : Bool → List ℕ
 stub false = []
 stub true = codes "<path d=\"M0 0H-20M-20 -4V4\" stroke=\"red\"/>"
 
-abbrev pub drawn_issue : ℕ → Telling → Bool → Bool → List ℕ
+abbrev pub drawn_issue : ℕ → Label → Bool → Bool → List ℕ
 drawn_issue y told buffered left =
-    group_head (codes "step") (x_of told.rank) y ++ (label told.words buffered ++ (stub left ++ codes "</g>\n"))
+    group_head (codes "step") (x_of told.rank) y ++ (label (short_words 40 told.words) buffered ++ (stub left ++ codes "</g>\n"))
 
 -- a group with nothing in it, where a call is missing, as of no run
 abbrev pub blank : ℕ → List ℕ
 blank y = group_head (codes "step") 0 y ++ codes "</g>\n"
 
-abbrev pub drawn_issue_of : ℕ → Option Telling → Bool → Bool → List ℕ
+abbrev pub drawn_issue_of : ℕ → Option Label → Bool → Bool → List ℕ
 drawn_issue_of y None buffered left = blank y
 drawn_issue_of y (Some told) buffered left = drawn_issue y told buffered left
 
@@ -111,11 +111,11 @@ abbrev pub lines_note : ℕ → ℕ → Bool → ℕ → List ℕ
 lines_note rank send sees finder =
     codes "<text x=\"" ++ (numeral (x_of rank + 12) ++ (codes "\" y=\"-3\">line " ++ (numeral send ++ (link_of sees ++ (numeral finder ++ codes "</text>")))))
 
-abbrev pub drawn_find : ℕ → Telling → Bool → Telling → List ℕ
+abbrev pub drawn_find : ℕ → Label → Bool → Label → List ℕ
 drawn_find y send sees finder =
     group_head (codes "step") 0 y ++ (arrow send.rank finder.rank sees ++ (lines_note (left_of send.rank finder.rank) send.line sees finder.line ++ codes "</g>\n"))
 
-abbrev pub drawn_find_of : ℕ → Option Telling → Bool → Option Telling → List ℕ
+abbrev pub drawn_find_of : ℕ → Option Label → Bool → Option Label → List ℕ
 drawn_find_of y None sees finder = blank y
 drawn_find_of y (Some send) sees None = blank y
 drawn_find_of y (Some send) sees (Some finder) = drawn_find y send sees finder
@@ -123,17 +123,17 @@ drawn_find_of y (Some send) sees (Some finder) = drawn_find y send sees finder
 -- ---- the groups of all steps
 
 -- the group of a step in the row at y, of a run that ends in this configuration
-abbrev pub drawn : MpiProgram → Configuration → List Telling → ℕ → Act → List ℕ
+abbrev pub drawn : MpiProgram → Configuration → List Label → ℕ → Act → List ℕ
 drawn p m calls y (Issue c buffered) = drawn_issue_of y (slice_get calls c) buffered (is_left p m c)
 drawn p m calls y (Match s t) = drawn_find_of y (slice_get calls s) false (slice_get calls t)
 drawn p m calls y (See s f) = drawn_find_of y (slice_get calls s) true (slice_get calls f)
 
-abbrev pub drawn_of : MpiProgram → Configuration → List Telling → ℕ → Option Act → List ℕ
+abbrev pub drawn_of : MpiProgram → Configuration → List Label → ℕ → Option Act → List ℕ
 drawn_of p m calls y None = []
 drawn_of p m calls y (Some act) = drawn p m calls y act
 
 -- the group of the step at a place
-abbrev pub drawn_at : MpiProgram → Configuration → List Telling → List Act → ℕ → List ℕ
+abbrev pub drawn_at : MpiProgram → Configuration → List Label → List Act → ℕ → List ℕ
 drawn_at p m calls acts place = drawn_of p m calls (y_of place) (slice_get acts place)
 
 -- ---- what stands above and below
@@ -149,28 +149,28 @@ lifeline steps rank =
     group_head (codes "rank") (x_of rank) 0 ++ (codes "<text y=\"20\" text-anchor=\"middle\">rank " ++ (numeral rank ++ (codes "</text><path d=\"M0 30V" ++ (numeral (y_of steps) ++ codes "\" stroke=\"gray\"/></g>\n"))))
 
 -- that a rank waits in a call
-abbrev pub waits_text : Option Telling → List ℕ
+abbrev pub waits_text : Option Label → List ℕ
 waits_text None = []
 waits_text (Some told) =
     codes "<text x=\"-20\" fill=\"red\">waits in line " ++ (numeral told.line ++ (codes ": <tspan x=\"-20\" dy=\"12\">" ++ (short_words 40 told.words ++ codes "</tspan></text>")))
 
 -- where a rank stands at the end: it is done, or waits in the last call that it issued
-abbrev pub end_text : MpiProgram → Configuration → List Telling → ℕ → List ℕ
+abbrev pub end_text : MpiProgram → Configuration → List Label → ℕ → List ℕ
 end_text p m calls rank =
     if is_rank_finished p m rank then codes "<text fill=\"gray\" text-anchor=\"middle\">done</text>" else waits_text (slice_get calls (slice_index m.next rank - 1))
 
-abbrev pub drawn_end : MpiProgram → Configuration → List Telling → ℕ → ℕ → List ℕ
+abbrev pub drawn_end : MpiProgram → Configuration → List Label → ℕ → ℕ → List ℕ
 drawn_end p m calls steps rank = group_head (codes "end") (x_of rank) (y_of steps + 20) ++ (end_text p m calls rank ++ codes "</g>\n")
 
 -- the parts of a picture: the head, how many steps come before the drawn ones, the lifelines, a group for each drawn step, in order, where
 -- each rank stands at the end, and the foot
-abbrev pub picture_behind : MpiProgram → Configuration → List Telling → ℕ → List Act → List ℕ
+abbrev pub picture_behind : MpiProgram → Configuration → List Label → ℕ → List Act → List ℕ
 picture_behind p m calls before acts =
     head p.ranks (length acts) ++ (undrawn_text before ++ (columns (lifeline (length acts)) p.ranks ++ (columns (drawn_at p m calls acts) (length acts) ++ (columns (drawn_end p m calls (length acts)) p.ranks ++ codes "</svg>\n"))))
 
-abbrev pub picture_from : MpiProgram → Configuration → List Telling → List Act → List ℕ
+abbrev pub picture_from : MpiProgram → Configuration → List Label → List Act → List ℕ
 picture_from p m calls acts = picture_behind p m calls (undrawn p (length acts)) (drop (undrawn p (length acts)) acts)
 
 abbrev pub picture_of : List ℕ → ProgramText → MpiProgram → List Step → List ℕ
 picture_of text source p steps =
-    picture_from p (after_all (opening p) steps) (told_calls text source p) (acts_from (opening p) steps)
+    picture_from p (after_all (opening p) steps) (call_labels text source p) (acts_from (opening p) steps)

@@ -1,28 +1,15 @@
 //! Which steps of a run are drawn.
 
 ghost use Rattle.std.specs.Prelude.{◌≡◌, ◌≤◌, ◌++◌, OnOk, length, drop};
-ghost use Rattle.charts.specs.Cuts.{is_large, undrawn, undrawn_line, undrawn_text, undrawn_words};
+ghost use Rattle.charts.specs.Cuts.{undrawn, undrawn_line, undrawn_text, undrawn_words};
 
-use crate::acts::Act;
-use crate::writing::{put_number, put_text};
 use callorder::LongProgram;
+use scene::{Act, is_large};
 use std::alloc::AllocError;
-
-/// The most ranks of a program that isn't large.
-const FEW_RANKS: u32 = 64;
-
-/// The most calls of a program that isn't large.
-const FEW_CALLS: usize = 1_024;
+use writing::{Part, put_parts, put_text};
 
 /// The most steps of a run of a large program that are drawn.
 const MOST_STEPS: usize = 400;
-
-/// Whether a program has many ranks or calls.
-fn is_large(program: &LongProgram) -> bool
-    ensures { result ≡ is_large program.now }
-{
-    FEW_RANKS < program.ranks() || FEW_CALLS < program.calls().len()
-}
 
 /// How many of so many steps come before the drawn ones: of a run of a large program the last 400 are drawn, else all.
 pub fn undrawn(program: &LongProgram, steps: usize) -> usize
@@ -48,8 +35,10 @@ pub fn behind(acts: &[Act], before: usize) -> &[Act]
 fn put_words(out: &mut Vec<u8>, count: usize) -> Result<(), AllocError>
     ensures { OnOk result (out.new.items ≡ out.old.items ++ undrawn_words count) }
 {
-    put_number(out, count as u128)?;
-    put_text(out, " steps before")
+    put_parts(
+        out,
+        &[Part::Number(count as u128), Part::Text(" steps before")],
+    )
 }
 
 /// Writes a line that tells how many steps come before the drawn ones, where some do.

@@ -4,15 +4,10 @@
 //! Ranks count from 0, lines of the program's text from 1. A call is told by its rank, its line, and the words of its line.
 #![tactic(auto)]
 
-mod acts;
-mod calls;
-mod cells;
 mod charting;
 mod cutting;
-mod drawing;
 mod lining;
 mod picturing;
-mod writing;
 
 pub use charting::chart;
 pub use lining::lined_steps;

@@ -5,27 +5,30 @@ ghost use Rattle.std.specs.List.{flat_map};
 ghost use Rattle.semantics.specs.Machine.{IsStuckRun};
 ghost use Rattle.charts.specs.Lining.{act_line, call_words, find_line, how_issued, issue_line, lined_run, place_words, told_place};
 
-use crate::acts::{Act, play};
-use crate::calls::{Told, told_calls};
-use crate::writing::put_number;
 use callorder::LongProgram;
 use calltext::LongSource;
+use scene::{Act, CallLabel, call_labels, play};
 use semantics::Step;
 use std::alloc::{AllocError, Global};
+use writing::{Part, put_parts, put_text};
 
 /// Writes the rank and the line of this call.
-fn put_told(out: &mut Vec<u8>, told: &Told) -> Result<(), AllocError>
+fn put_told(out: &mut Vec<u8>, told: &CallLabel) -> Result<(), AllocError>
     ensures { OnOk result (out.new.items ≡ out.old.items ++ told_place told.now) }
 {
-    out.extend_from_slice(b"rank ")?;
-    put_number(out, told.rank() as u128)?;
-    out.extend_from_slice(b" line ")?;
-    put_number(out, told.line() as u128)?;
-    Ok(())
+    put_parts(
+        out,
+        &[
+            Part::Text("rank "),
+            Part::Number(told.rank() as u128),
+            Part::Text(" line "),
+            Part::Number(told.line() as u128),
+        ],
+    )
 }
 
 /// Writes the rank and the line of a call.
-fn put_place(out: &mut Vec<u8>, calls: &[Told], call: usize) -> Result<(), AllocError>
+fn put_place(out: &mut Vec<u8>, calls: &[CallLabel], call: usize) -> Result<(), AllocError>
     ensures { OnOk result (out.new.items ≡ out.old.items ++ place_words (slice_get calls.now call)) }
 {
     let Some(told) = calls.get(call) else {
@@ -34,14 +37,14 @@ fn put_place(out: &mut Vec<u8>, calls: &[Told], call: usize) -> Result<(), Alloc
     put_told(out, told)
 }
 
-/// Writes the words of a call.
-fn put_words(out: &mut Vec<u8>, calls: &[Told], call: usize) -> Result<(), AllocError>
-    ensures { OnOk result (out.new.items ≡ out.old.items ++ call_words (slice_get calls.now call)) }
+/// The words of a call.
+fn words_of(calls: &[CallLabel], call: usize) -> &[u8]
+    ensures { result.now ≡ call_words (slice_get calls.now call) }
 {
-    let Some(told) = calls.get(call) else {
-        return Ok(());
-    };
-    out.extend_from_slice(told.words())
+    match calls.get(call) {
+        None => b"",
+        Some(told) => told.words(),
+    }
 }
 
 fn how_issued(buffered: bool) -> &'static str
@@ -53,40 +56,43 @@ fn how_issued(buffered: bool) -> &'static str
 /// Writes the line of the issue of a call.
 fn put_issue(
     out: &mut Vec<u8>,
-    calls: &[Told],
+    calls: &[CallLabel],
     call: usize,
     buffered: bool,
 ) -> Result<(), AllocError>
     ensures { OnOk result (out.new.items ≡ out.old.items ++ issue_line (slice_get calls.now call) buffered) }
 {
     put_place(out, calls, call)?;
-    out.extend_from_slice(b": ")?;
-    put_words(out, calls, call)?;
-    out.extend_from_slice(how_issued(buffered).as_bytes())?;
-    out.push(b'\n')?;
-    Ok(())
+    put_parts(
+        out,
+        &[
+            Part::Text(": "),
+            Part::Bytes(words_of(calls, call)),
+            Part::Text(how_issued(buffered)),
+            Part::Text("\n"),
+        ],
+    )
 }
 
 /// Writes the line of a message that is taken or seen.
 fn put_find(
     out: &mut Vec<u8>,
-    calls: &[Told],
+    calls: &[CallLabel],
     send: usize,
     link: &str,
     finder: usize,
 ) -> Result<(), AllocError>
     ensures { OnOk result (out.new.items ≡ out.old.items ++ find_line (slice_get calls.now send) link.now (slice_get calls.now finder)) }
 {
-    out.extend_from_slice(b"message of ")?;
+    put_text(out, "message of ")?;
     put_place(out, calls, send)?;
-    out.extend_from_slice(link.as_bytes())?;
+    put_text(out, link)?;
     put_place(out, calls, finder)?;
-    out.push(b'\n')?;
-    Ok(())
+    put_text(out, "\n")
 }
 
 /// Writes the line of a step.
-fn put_line(out: &mut Vec<u8>, calls: &[Told], act: Act) -> Result<(), AllocError>
+fn put_line(out: &mut Vec<u8>, calls: &[CallLabel], act: Act) -> Result<(), AllocError>
     ensures { OnOk result (out.new.items ≡ out.old.items ++ act_line calls.now act) }
 {
     match act {
@@ -96,7 +102,7 @@ fn put_line(out: &mut Vec<u8>, calls: &[Told], act: Act) -> Result<(), AllocErro
     }
 }
 
-fn put_lines(out: &mut Vec<u8>, calls: &[Told], acts: &[Act]) -> Result<(), AllocError>
+fn put_lines(out: &mut Vec<u8>, calls: &[CallLabel], acts: &[Act]) -> Result<(), AllocError>
     ensures { OnOk result (out.new.items ≡ out.old.items ++ flat_map (act_line calls.now) acts.now) }
 {
     for act in acts {
@@ -119,7 +125,7 @@ pub fn lined_steps(
     requires { IsStuckRun program.now steps.now }
     ensures { IfOk result (λ lines. lines.items ≡ lined_run text.now source.now program.now steps.now) }
 {
-    let calls = told_calls(alloc, text, source, program)?;
+    let calls = call_labels(alloc, text, source, program)?;
     let played = play(alloc, program, steps)?;
     let mut out = Vec::new(alloc);
     put_lines(&mut out, &calls, &played.acts)?;

@@ -1,22 +1,264 @@
 //! The steps of a run as a picture, in SVG.
 
-ghost use Rattle.std.specs.Prelude.{◌≡◌, ◌-◌, ◌++◌, IfOk, OnOk, Some, length, slice_get, slice_index};
+ghost use Rattle.std.specs.Prelude.{◌≡◌, ◌+◌, ◌*◌, ◌++◌, ◌<◌, OnOk, ◌-◌, IfOk, Some, length, slice_get, slice_index};
+ghost use Rattle.std.specs.List.{flat_map};
 ghost use Rattle.semantics.specs.Machine.{IsStuckRun};
 ghost use Rattle.charts.specs.Chart.{columns};
-ghost use Rattle.charts.specs.Picture.{blank, drawn, drawn_at, drawn_end, drawn_find, drawn_find_of, drawn_issue, drawn_issue_of, end_text, is_left, lifeline, picture_behind, picture_from, picture_of, waits_text, y_of};
+ghost use Rattle.charts.specs.Picture.{arrow, blank, circle, colour_of, dash_of, drawn, drawn_at, drawn_end, drawn_find, drawn_find_of, drawn_issue, drawn_issue_of, end_text, escape, group_head, head, is_left, label, left_of, lifeline, lines_note, link_of, picture_behind, picture_from, picture_of, said_of, short_words, straight, stub, waits_text, x_of, y_of};
 
-use crate::acts::{Act, play};
-use crate::calls::{Told, told_calls};
 use crate::cutting::{behind, put_undrawn_text, undrawn};
-use crate::drawing::{
-    MOST_WORDS, left_of, put_arrow, put_group, put_head, put_label, put_lifeline, put_note,
-    put_short, put_stub, x_of, y_of,
-};
-use crate::writing::{put_number, put_text};
 use callorder::LongProgram;
 use calltext::LongSource;
+use scene::{Act, CallLabel, call_labels, play, shortened};
 use semantics::{State, Step};
 use std::alloc::{AllocError, Global};
+use writing::{Part, put_parts, put_text};
+
+/// The most characters of a call's words that a picture has room for.
+const MOST_WORDS: usize = 40;
+
+/// Where a rank's lifeline stands.
+fn x_of(rank: u32) -> u128
+    ensures { result ≡ x_of rank }
+{
+    40 + 280 * rank as u128
+}
+
+/// Where the row of the step at a place stands.
+fn y_of(place: usize) -> u128
+    ensures { result ≡ y_of place }
+{
+    60 + 20 * place as u128
+}
+
+/// Writes what stands for a character.
+fn put_escape(out: &mut Vec<u8>, byte: u8) -> Result<(), AllocError>
+    ensures { OnOk result (out.new.items ≡ out.old.items ++ escape byte) }
+{
+    if byte == b'&' {
+        out.extend_from_slice(b"&amp;")
+    } else if byte == b'<' {
+        out.extend_from_slice(b"&lt;")
+    } else if byte == b'>' {
+        out.extend_from_slice(b"&gt;")
+    } else {
+        out.push(byte)?;
+        Ok(())
+    }
+}
+
+fn put_escaped(out: &mut Vec<u8>, words: &[u8]) -> Result<(), AllocError>
+    ensures { OnOk result (out.new.items ≡ out.old.items ++ flat_map escape words.now) }
+{
+    for byte in words {
+        put_escape(out, *byte)?;
+    }
+    Ok(())
+}
+
+/// The words of a call as a picture has them.
+fn short_words(alloc: Global, words: &[u8]) -> Result<Vec<u8>, AllocError>
+    ensures { IfOk result (λ short. short.items ≡ short_words 40 words.now) }
+{
+    let short = shortened(alloc, words, MOST_WORDS)?;
+    let mut escaped = Vec::new(alloc);
+    put_escaped(&mut escaped, &short)?;
+    Ok(escaped)
+}
+
+/// Writes the beginning of a group of this class that stands there.
+fn put_group(out: &mut Vec<u8>, class: &str, x: u128, y: u128) -> Result<(), AllocError>
+    ensures { OnOk result (out.new.items ≡ out.old.items ++ group_head class.now x y) }
+{
+    put_parts(
+        out,
+        &[
+            Part::Text("<g class=\""),
+            Part::Text(class),
+            Part::Text("\" transform=\"translate("),
+            Part::Number(x),
+            Part::Text(","),
+            Part::Number(y),
+            Part::Text(")\">"),
+        ],
+    )
+}
+
+fn colour_of(buffered: bool) -> &'static str
+    ensures { result.now ≡ colour_of buffered }
+{
+    if buffered { "blue" } else { "black" }
+}
+
+fn said_of(buffered: bool) -> &'static str
+    ensures { result.now ≡ said_of buffered }
+{
+    if buffered { " buffered" } else { "" }
+}
+
+/// Writes a tick, and these words of a call beside it.
+fn put_label(out: &mut Vec<u8>, short: &[u8], buffered: bool) -> Result<(), AllocError>
+    ensures { OnOk result (out.new.items ≡ out.old.items ++ label short.now buffered) }
+{
+    put_parts(
+        out,
+        &[
+            Part::Text("<path d=\"M0 0H8\" stroke=\""),
+            Part::Text(colour_of(buffered)),
+            Part::Text("\"/><text x=\"12\" y=\"4\" fill=\""),
+            Part::Text(colour_of(buffered)),
+            Part::Text("\">"),
+            Part::Bytes(short),
+            Part::Text(said_of(buffered)),
+            Part::Text("</text>"),
+        ],
+    )?;
+    Ok(())
+}
+
+/// The stub at a message that is never received.
+fn stub(left: bool) -> &'static str
+    ensures { result.now ≡ stub left }
+{
+    if left {
+        "<path d=\"M0 0H-20M-20 -4V4\" stroke=\"red\"/>"
+    } else {
+        ""
+    }
+}
+
+fn dash_of(sees: bool) -> &'static str
+    ensures { result.now ≡ dash_of sees }
+{
+    if sees {
+        " stroke-dasharray=\"4 3\""
+    } else {
+        ""
+    }
+}
+
+fn link_of(sees: bool) -> &'static str
+    ensures { result.now ≡ link_of sees }
+{
+    if sees {
+        " seen by line "
+    } else {
+        " -&gt; line "
+    }
+}
+
+fn put_circle(out: &mut Vec<u8>, rank: u32, sees: bool) -> Result<(), AllocError>
+    ensures { OnOk result (out.new.items ≡ out.old.items ++ circle rank sees) }
+{
+    put_parts(
+        out,
+        &[
+            Part::Text("<circle cx=\""),
+            Part::Number(x_of(rank)),
+            Part::Text("\" r=\"4\" fill=\"none\" stroke=\"black\""),
+            Part::Text(dash_of(sees)),
+            Part::Text("/>"),
+        ],
+    )?;
+    Ok(())
+}
+
+fn put_straight(out: &mut Vec<u8>, from: u32, to: u32, sees: bool) -> Result<(), AllocError>
+    ensures { OnOk result (out.new.items ≡ out.old.items ++ straight from to sees) }
+{
+    put_parts(
+        out,
+        &[
+            Part::Text("<line x1=\""),
+            Part::Number(x_of(from)),
+            Part::Text("\" x2=\""),
+            Part::Number(x_of(to)),
+            Part::Text("\" stroke=\"black\" marker-end=\"url(#head)\""),
+            Part::Text(dash_of(sees)),
+            Part::Text("/>"),
+        ],
+    )?;
+    Ok(())
+}
+
+/// Writes an arrow from rank to rank, or a circle where both are one.
+fn put_arrow(out: &mut Vec<u8>, from: u32, to: u32, sees: bool) -> Result<(), AllocError>
+    ensures { OnOk result (out.new.items ≡ out.old.items ++ arrow from to sees) }
+{
+    if from == to {
+        put_circle(out, from, sees)
+    } else {
+        put_straight(out, from, to, sees)
+    }
+}
+
+/// The rank whose lifeline stands further left.
+fn left_of(one: u32, other: u32) -> u32
+    ensures { result ≡ left_of one other }
+{
+    if one < other { one } else { other }
+}
+
+/// Writes the lines of a send and of the call that finds it, beside a rank's lifeline.
+fn put_note(
+    out: &mut Vec<u8>,
+    rank: u32,
+    send: usize,
+    sees: bool,
+    finder: usize,
+) -> Result<(), AllocError>
+    ensures { OnOk result (out.new.items ≡ out.old.items ++ lines_note rank send sees finder) }
+{
+    put_parts(
+        out,
+        &[
+            Part::Text("<text x=\""),
+            Part::Number(x_of(rank) + 12),
+            Part::Text("\" y=\"-3\">line "),
+            Part::Number(send as u128),
+            Part::Text(link_of(sees)),
+            Part::Number(finder as u128),
+            Part::Text("</text>"),
+        ],
+    )?;
+    Ok(())
+}
+
+/// Writes the size, a white ground, and the head of an arrow.
+fn put_head(out: &mut Vec<u8>, ranks: u32, steps: usize) -> Result<(), AllocError>
+    ensures { OnOk result (out.new.items ≡ out.old.items ++ head ranks steps) }
+{
+    put_parts(
+        out,
+        &[
+            Part::Text("<svg xmlns=\"http://www.w3.org/2000/svg\" width=\""),
+            Part::Number(x_of(ranks)),
+            Part::Text("\" height=\""),
+            Part::Number(y_of(steps) + 60),
+            Part::Text(
+                "\" font-family=\"monospace\" font-size=\"10\">\n<rect width=\"100%\" height=\"100%\" fill=\"white\"/>\n<defs><marker id=\"head\" viewBox=\"0 0 8 8\" refX=\"8\" refY=\"4\" markerWidth=\"8\" markerHeight=\"8\" orient=\"auto\"><path d=\"M0 0L8 4L0 8z\"/></marker></defs>\n",
+            ),
+        ],
+    )
+}
+
+/// Writes a rank's name and its lifeline, which ends below so many steps.
+fn put_lifeline(out: &mut Vec<u8>, steps: usize, rank: u32) -> Result<(), AllocError>
+    ensures { OnOk result (out.new.items ≡ out.old.items ++ lifeline steps rank) }
+{
+    put_group(out, "rank", x_of(rank), 0)?;
+    put_parts(
+        out,
+        &[
+            Part::Text("<text y=\"20\" text-anchor=\"middle\">rank "),
+            Part::Number(rank as u128),
+            Part::Text("</text><path d=\"M0 30V"),
+            Part::Number(y_of(steps)),
+            Part::Text("\" stroke=\"gray\"/></g>\n"),
+        ],
+    )?;
+    Ok(())
+}
 
 /// Writes a group with nothing in it.
 fn put_blank(out: &mut Vec<u8>, place: usize) -> Result<(), AllocError>
@@ -42,16 +284,16 @@ fn put_told_issue(
     out: &mut Vec<u8>,
     alloc: Global,
     place: usize,
-    told: &Told,
+    told: &CallLabel,
     buffered: bool,
     left: bool,
 ) -> Result<(), AllocError>
     ensures { OnOk result (out.new.items ≡ out.old.items ++ drawn_issue (y_of place) told.now buffered left) }
 {
+    let short = short_words(alloc, told.words())?;
     put_group(out, "step", x_of(told.rank()), y_of(place))?;
-    put_label(out, alloc, told.words(), buffered)?;
-    put_stub(out, left)?;
-    put_text(out, "</g>\n")?;
+    put_label(out, &short, buffered)?;
+    put_parts(out, &[Part::Text(stub(left)), Part::Text("</g>\n")])?;
     Ok(())
 }
 
@@ -60,7 +302,7 @@ fn put_issue(
     out: &mut Vec<u8>,
     alloc: Global,
     place: usize,
-    calls: &[Told],
+    calls: &[CallLabel],
     call: usize,
     buffered: bool,
     left: bool,
@@ -77,9 +319,9 @@ fn put_issue(
 fn put_told_find(
     out: &mut Vec<u8>,
     place: usize,
-    send: &Told,
+    send: &CallLabel,
     sees: bool,
-    finder: &Told,
+    finder: &CallLabel,
 ) -> Result<(), AllocError>
     ensures { OnOk result (out.new.items ≡ out.old.items ++ drawn_find (y_of place) send.now sees finder.now) }
 {
@@ -95,7 +337,7 @@ fn put_told_find(
 fn put_find(
     out: &mut Vec<u8>,
     place: usize,
-    calls: &[Told],
+    calls: &[CallLabel],
     send: usize,
     sees: bool,
     finder: usize,
@@ -117,7 +359,7 @@ fn put_drawn(
     alloc: Global,
     program: &LongProgram,
     end: &State,
-    calls: &[Told],
+    calls: &[CallLabel],
     place: usize,
     act: Act,
 ) -> Result<(), AllocError>
@@ -139,7 +381,7 @@ fn put_drawn_at(
     alloc: Global,
     program: &LongProgram,
     end: &State,
-    calls: &[Told],
+    calls: &[CallLabel],
     acts: &[Act],
     place: usize,
 ) -> Result<(), AllocError>
@@ -157,7 +399,7 @@ fn put_steps(
     alloc: Global,
     program: &LongProgram,
     end: &State,
-    calls: &[Told],
+    calls: &[CallLabel],
     acts: &[Act],
 ) -> Result<(), AllocError>
     ensures { OnOk result (out.new.items ≡ out.old.items ++ columns (drawn_at program.now end.now calls.now acts.now) (length acts.now)) }
@@ -178,14 +420,20 @@ fn put_lifelines(out: &mut Vec<u8>, steps: usize, ranks: u32) -> Result<(), Allo
 }
 
 /// Writes that a rank waits in this call.
-fn put_waits(out: &mut Vec<u8>, alloc: Global, told: &Told) -> Result<(), AllocError>
+fn put_waits(out: &mut Vec<u8>, alloc: Global, told: &CallLabel) -> Result<(), AllocError>
     ensures { OnOk result (out.new.items ≡ out.old.items ++ waits_text (Some told.now)) }
 {
-    put_text(out, "<text x=\"-20\" fill=\"red\">waits in line ")?;
-    put_number(out, told.line() as u128)?;
-    put_text(out, ": <tspan x=\"-20\" dy=\"12\">")?;
-    put_short(out, alloc, told.words(), MOST_WORDS)?;
-    put_text(out, "</tspan></text>")?;
+    let short = short_words(alloc, told.words())?;
+    put_parts(
+        out,
+        &[
+            Part::Text("<text x=\"-20\" fill=\"red\">waits in line "),
+            Part::Number(told.line() as u128),
+            Part::Text(": <tspan x=\"-20\" dy=\"12\">"),
+            Part::Bytes(&short),
+            Part::Text("</tspan></text>"),
+        ],
+    )?;
     Ok(())
 }
 
@@ -193,7 +441,7 @@ fn put_waits(out: &mut Vec<u8>, alloc: Global, told: &Told) -> Result<(), AllocE
 fn put_waits_at(
     out: &mut Vec<u8>,
     alloc: Global,
-    calls: &[Told],
+    calls: &[CallLabel],
     call: usize,
 ) -> Result<(), AllocError>
     ensures { OnOk result (out.new.items ≡ out.old.items ++ waits_text (slice_get calls.now call)) }
@@ -210,7 +458,7 @@ fn put_end_text(
     alloc: Global,
     program: &LongProgram,
     end: &State,
-    calls: &[Told],
+    calls: &[CallLabel],
     rank: u32,
 ) -> Result<(), AllocError>
     ensures { OnOk result (out.new.items ≡ out.old.items ++ end_text program.now end.now calls.now rank) }
@@ -238,7 +486,7 @@ fn put_drawn_end(
     alloc: Global,
     program: &LongProgram,
     end: &State,
-    calls: &[Told],
+    calls: &[CallLabel],
     steps: usize,
     rank: u32,
 ) -> Result<(), AllocError>
@@ -256,7 +504,7 @@ fn put_ends(
     alloc: Global,
     program: &LongProgram,
     end: &State,
-    calls: &[Told],
+    calls: &[CallLabel],
     steps: usize,
 ) -> Result<(), AllocError>
     ensures { OnOk result (out.new.items ≡ out.old.items ++ columns (drawn_end program.now end.now calls.now steps) program.now.ranks) }
@@ -273,7 +521,7 @@ fn put_picture(
     alloc: Global,
     program: &LongProgram,
     end: &State,
-    calls: &[Told],
+    calls: &[CallLabel],
     before: usize,
     acts: &[Act],
 ) -> Result<(), AllocError>
@@ -294,7 +542,7 @@ fn put_drawn_picture(
     alloc: Global,
     program: &LongProgram,
     end: &State,
-    calls: &[Told],
+    calls: &[CallLabel],
     acts: &[Act],
 ) -> Result<(), AllocError>
     ensures { OnOk result (out.new.items ≡ out.old.items ++ picture_from program.now end.now calls.now acts.now) }
@@ -323,7 +571,7 @@ pub fn picture(
     requires { IsStuckRun program.now steps.now }
     ensures { IfOk result (λ picture. picture.items ≡ picture_of text.now source.now program.now steps.now) }
 {
-    let calls = told_calls(alloc, text, source, program)?;
+    let calls = call_labels(alloc, text, source, program)?;
     let played = play(alloc, program, steps)?;
     let mut out = Vec::new(alloc);
     put_drawn_picture(&mut out, alloc, program, &played.end, &calls, &played.acts)?;

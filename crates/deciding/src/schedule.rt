@@ -6,19 +6,10 @@ ghost use Rattle.plaintext.specs.Plain.{numeral};
 ghost use Rattle.prooflog.specs.Steps.{find_step, step_line, written};
 ghost use Rattle.deciding.specs.Schedules.{issue_step, schedule_text};
 
-use itoa::Buffer;
 use prooflog::find_word;
 use semantics::Step;
 use std::alloc::{AllocError, Global};
-
-/// Writes the number's numeral.
-pub(crate) fn put_number(out: &mut Vec<u8>, number: u128) -> Result<(), AllocError>
-    ensures { OnOk result (out.new.items ≡ out.old.items ++ numeral number) }
-{
-    let mut buffer = Buffer::new();
-    out.extend_from_slice(buffer.format(number).as_bytes())?;
-    Ok(())
-}
+use writing::put_number;
 
 /// Writes the number of a call, which is its place, from 0, plus 1.
 fn put_call(out: &mut Vec<u8>, place: usize) -> Result<(), AllocError>

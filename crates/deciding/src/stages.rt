@@ -11,7 +11,6 @@ ghost use Rattle.deciding.specs.Stages.{TellsStages, stage_line};
 ghost use Rattle.files.specs.Contents.{AppendsPart};
 
 use crate::decision::{Decision, judge_run};
-use crate::schedule::put_number;
 use crate::texts::{Undecided, program_of};
 use callorder::LongProgram;
 use files::store;
@@ -19,6 +18,7 @@ use leastrun::least_buffered_run;
 use semantics::{State, Step};
 use std::alloc::{AllocError, Global};
 use std::io::Write;
+use writing::put_number;
 
 /// How far a decision is.
 #[derive(Clone, Copy, Debug, PartialEq, Eq)]

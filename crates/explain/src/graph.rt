@@ -2,17 +2,15 @@
 
 ghost use Rattle.semantics.specs.Machine.{IsStuckRun};
 
-use crate::cause::lacks;
-use crate::links::{cycle_of, followers};
-use crate::missing::{MOST_MISSES, likely_misses};
-use crate::placing::{Scene, are_in_one_line, put_line};
-use crate::scene::scene_of;
+use crate::needing::MOST_MISSES;
+use crate::wording::{are_in_one_line, put_line};
 use callorder::LongProgram;
 use calltext::LongSource;
-use misses::{Part, misses_in};
+use misses::misses_in;
+use scene::{Scene, part_word, scene_of};
 use semantics::Step;
 use std::alloc::{AllocError, Global};
-use waits::{Need, Standing, need_of, operation_of, standing_of};
+use waits::{Need, Standing, need_of, operation_of};
 
 /// The most ranks that are laid out in layers.
 const MOST_LAYERED: u32 = 16;
@@ -26,11 +24,11 @@ fn put_layout(out: &mut String, ranks: u32) -> Result<(), AllocError> {
 }
 
 /// How the node of a rank is drawn that waits: red where it is on the cycle, with a double border where nothing can come.
-fn node_style(program: &LongProgram, scene: &Scene, rank: u32, next: Option<u32>) -> &'static str {
+fn node_style(scene: &Scene<'_>, rank: u32, next: Option<u32>) -> &'static str {
     if next.is_some() {
         return ", color=red";
     }
-    if lacks(program, scene, rank) {
+    if scene.lacks(rank) {
         ", peripheries=2"
     } else {
         ""
@@ -39,23 +37,18 @@ fn node_style(program: &LongProgram, scene: &Scene, rank: u32, next: Option<u32>
 
 /// Adds the lines of a node's label: that of the call that its rank waits in, and that of the operation that this waits for, where it
 /// stands in another line.
-fn put_label(
-    out: &mut String,
-    program: &LongProgram,
-    scene: &Scene,
-    call: usize,
-) -> Result<(), AllocError> {
-    put_line(out, &scene.calls, call)?;
-    let operation = operation_of(program, call);
-    if are_in_one_line(&scene.calls, call, operation) {
+fn put_label(out: &mut String, scene: &Scene<'_>, call: usize) -> Result<(), AllocError> {
+    put_line(out, scene, call)?;
+    let operation = operation_of(scene.program, call);
+    if are_in_one_line(scene, call, operation) {
         return Ok(());
     }
     out.push_str("\\nfor ")?;
-    put_line(out, &scene.calls, operation)
+    put_line(out, scene, operation)
 }
 
 /// Adds for how many ranks a rank waits, where not all edges are drawn.
-fn put_count(out: &mut String, scene: &Scene, rank: u32) -> Result<(), AllocError> {
+fn put_count(out: &mut String, scene: &Scene<'_>, rank: u32) -> Result<(), AllocError> {
     let count = scene.awaited_by(rank).len();
     if count <= scene.most_of_large() {
         return Ok(());
@@ -66,20 +59,19 @@ fn put_count(out: &mut String, scene: &Scene, rank: u32) -> Result<(), AllocErro
 /// Adds the node of a rank: a box where it is finished, else with the call that it waits in.
 fn put_node(
     out: &mut String,
-    program: &LongProgram,
-    scene: &Scene,
+    scene: &Scene<'_>,
     rank: u32,
     next: Option<u32>,
 ) -> Result<(), AllocError> {
-    let Standing::Waits { call } = standing_of(program, &scene.state, rank) else {
+    let Standing::Waits { call } = scene.standing(rank) else {
         write!(out, "  r{rank} [shape=box, label=\"rank {rank}\\n")?;
         return out.push_str("finished\"];\n");
     };
     write!(out, "  r{rank} [label=\"rank {rank}\\n")?;
-    put_label(out, program, scene, call)?;
+    put_label(out, scene, call)?;
     put_count(out, scene, rank)?;
     out.push('"')?;
-    out.push_str(node_style(program, scene, rank, next))?;
+    out.push_str(node_style(scene, rank, next))?;
     out.push_str("];\n")
 }
 
@@ -96,7 +88,7 @@ fn edge_style(is_one_of_several: bool, is_on_cycle: bool) -> &'static str {
 /// Adds the edges from a rank; in large programs the first ones, and that of the cycle.
 fn put_edges(
     out: &mut String,
-    scene: &Scene,
+    scene: &Scene<'_>,
     rank: u32,
     next: Option<u32>,
 ) -> Result<(), AllocError> {
@@ -112,31 +104,22 @@ fn put_edges(
     Ok(())
 }
 
-/// What is another one than it would have to be, in words.
-fn part_word(part: Part) -> &'static str {
-    match part {
-        Part::Destination => "destination",
-        Part::Communicator => "communicator",
-        Part::Source => "source",
-        Part::Tag => "tag",
-    }
-}
-
 /// Adds the edge from a rank to that of a call that misses an operation.
 fn put_near_miss(
     out: &mut String,
-    program: &LongProgram,
-    scene: &Scene,
+    scene: &Scene<'_>,
     rank: u32,
     operation: usize,
     other: usize,
 ) -> Result<(), AllocError> {
-    let (Some(part), Some(written)) = (misses_in(program, operation, other), scene.calls.get(other))
-    else {
+    let (Some(part), Some(label)) = (
+        misses_in(scene.program, operation, other),
+        scene.labels.get(other),
+    ) else {
         return Ok(());
     };
-    let owner = written.rank;
-    let line = written.line;
+    let owner = label.rank();
+    let line = label.line();
     write!(out, "  r{rank} -> r{owner} [style=dashed, color=gray, ")?;
     write!(out, "label=\"line {line}: other ")?;
     out.push_str(part_word(part))?;
@@ -147,37 +130,47 @@ fn put_near_miss(
 fn put_near_misses(
     out: &mut String,
     alloc: Global,
-    program: &LongProgram,
-    scene: &Scene,
+    scene: &Scene<'_>,
     rank: u32,
 ) -> Result<(), AllocError> {
-    let Standing::Waits { call } = standing_of(program, &scene.state, rank) else {
+    let Standing::Waits { call } = scene.standing(rank) else {
         return Ok(());
     };
-    let operation = operation_of(program, call);
-    let Some(Need::Match) = need_of(program, &scene.state, operation) else {
+    let operation = operation_of(scene.program, call);
+    let Some(Need::Match) = need_of(scene.program, &scene.state, operation) else {
         return Ok(());
     };
-    let likely = likely_misses(alloc, program, scene, operation)?;
+    let likely = scene.likely_misses(alloc, operation)?;
     for other in likely.iter().take(MOST_MISSES) {
-        put_near_miss(out, program, scene, rank, operation, *other)?;
+        put_near_miss(out, scene, rank, operation, *other)?;
     }
     Ok(())
+}
+
+/// For each rank the rank of the cycle that it waits for, where it is on it.
+fn followers(alloc: Global, scene: &Scene<'_>) -> Result<Vec<Option<u32>>, AllocError> {
+    let mut next = vec![in alloc; None; scene.program.ranks() as usize]?;
+    for (place, rank) in scene.cycle.iter().enumerate() {
+        let rank = *rank as usize;
+        if rank < next.len() {
+            next[rank] = scene.next_at(place);
+        }
+    }
+    Ok(next)
 }
 
 /// Adds the nodes of all ranks, and the edges from them.
 fn put_ranks(
     out: &mut String,
     alloc: Global,
-    program: &LongProgram,
-    scene: &Scene,
+    scene: &Scene<'_>,
     followers: &[Option<u32>],
 ) -> Result<(), AllocError> {
-    for rank in 0..program.ranks() {
+    for rank in 0..scene.program.ranks() {
         let next = followers.get(rank as usize).copied().unwrap_or(None);
-        put_node(out, program, scene, rank, next)?;
+        put_node(out, scene, rank, next)?;
         put_edges(out, scene, rank, next)?;
-        put_near_misses(out, alloc, program, scene, rank)?;
+        put_near_misses(out, alloc, scene, rank)?;
     }
     Ok(())
 }
@@ -197,11 +190,10 @@ pub fn wait_graph(
     requires { IsStuckRun program.now steps.now }
 {
     let scene = scene_of(alloc, text, source, program, steps, false)?;
-    let cycle = cycle_of(alloc, &scene)?;
-    let followers = followers(alloc, program.ranks(), &cycle)?;
+    let followers = followers(alloc, &scene)?;
     let mut out = String::from_str(alloc, "digraph waits {\n")?;
     put_layout(&mut out, program.ranks())?;
-    put_ranks(&mut out, alloc, program, &scene, &followers)?;
+    put_ranks(&mut out, alloc, &scene, &followers)?;
     out.push_str("}\n")?;
     Ok(out.into_bytes())
 }

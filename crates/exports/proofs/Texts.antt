@@ -1,17 +1,12 @@
 -- What the writer's parts make, one after another.
-use Rattle.std.proofs.Common.{◌≡◌, ℕ, zero, suc, ◌+◌, ◌/◌, ◌%◌, ◌^◌, ◌<◌, ◌≤◌, List, [], ◌∷◌, ◌++◌, length, take, map, refl, sym, ap, ◌∙◌, append_assoc, add-one, arith}
+use Rattle.std.proofs.Common.{◌≡◌, ℕ, suc, ◌+◌, ◌<◌, List, [], ◌∷◌, ◌++◌, length, take, map, refl, sym, ap, ◌∙◌, append_assoc, add-one, arith}
 use Rattle.std.specs.Prelude.{codes, Some, slice_get}
-use Rattle.std.specs.Fmt.{decimal}
 use Rattle.std.specs.List.{flat_map, join_with_byte}
-use Rattle.std.specs.Int.Digits.{digits_of}
-use Rattle.std.proofs.lemmas.Int.Digits.{digits_of_step}
-use Rattle.std.proofs.lemmas.Fmt.{decimal_by_steps_wide, decimal_digit}
-use Rattle.std.proofs.lemmas.List.{append-nil, length-take, map_push, take_more}
+use Rattle.std.proofs.lemmas.List.{append-nil, length-take, take_more}
 use Rattle.std.proofs.lemmas.List.Concat.{flat_map-cons}
 use Rattle.std.proofs.lemmas.Option.{get_or_from_slice_get, slice_get_within}
 use Rattle.callorder.specs.Programs.{MpiProgram}
-use Rattle.plaintext.specs.Plain.{numeral, line_of, spaced}
-use Rattle.plaintext.proofs.Numerals.{decimal-numeral}
+use Rattle.plaintext.specs.Plain.{line_of, spaced}
 use Rattle.plaintext.proofs.Spaced.{spaced-append, spaced-join}
 use Rattle.clauses.specs.Clauses.{Literal}
 use Rattle.formulas.specs.declared.facts.Meaning.{Meaning}

@@ -3,17 +3,16 @@
 ghost use Rattle.std.specs.Prelude.{◌≡◌, ◌≤◌, ◌+◌, ◌^◌, ◌++◌, IfOk, OnOk};
 ghost use Rattle.exports.specs.Lrat.{lrat_line, lrat_text};
 
-use itoa::Buffer;
 use prooflog::{put_hints, put_literals};
 use refutations::Line;
 use std::alloc::{AllocError, Global};
+use writing::put_number;
 
 /// Writes the line of a proof line whose clause has this number. A `u128` holds the sum of numbers of clauses and of lines.
 fn put_line(out: &mut Vec<u8>, number: u128, line: &Line) -> Result<(), AllocError>
     ensures { OnOk result (out.new.items ≡ out.old.items ++ lrat_line number line.now) }
 {
-    let mut buffer = Buffer::new();
-    out.extend_from_slice(buffer.format(number).as_bytes())?;
+    put_number(out, number)?;
     put_literals(out, line.literals())?;
     out.extend_from_slice(b" 0")?;
     put_hints(out, line.hints())?;

@@ -3,7 +3,6 @@
 ghost use Rattle.std.specs.Prelude.{◌≡◌, ◌++◌, ◌∷◌, [], OnOk};
 ghost use Rattle.plaintext.specs.Plain.{numeral, spaced};
 
-use itoa::Buffer;
 use std::alloc::AllocError;
 
 /// Writes a space and the word at the end.
@@ -19,8 +18,7 @@ pub fn put_word(out: &mut Vec<u8>, word: &str) -> Result<(), AllocError>
 pub fn put_number(out: &mut Vec<u8>, number: u128) -> Result<(), AllocError>
     ensures { OnOk result (out.new.items ≡ out.old.items ++ spaced (numeral number ∷ [])) }
 {
-    let mut buffer = Buffer::new();
     out.push(b' ')?;
-    out.extend_from_slice(buffer.format(number).as_bytes())?;
+    writing::put_number(out, number)?;
     Ok(())
 }

@@ -3,8 +3,6 @@
 //! Numbers of calls count from 1 over the program after expansion, ranks from 0, lines of the program's text from 1.
 #![tactic(auto)]
 
-mod choices;
 mod object;
-mod ranks;
 
 pub use object::object_text;

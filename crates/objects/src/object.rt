@@ -2,15 +2,16 @@
 
 ghost use Rattle.semantics.specs.Machine.{IsStuckRun};
 
-use crate::choices::{Choice, choices_of};
-use crate::ranks::{Rank, ranks_of};
 use callorder::LongProgram;
 use calltext::LongSource;
-use explain::{Scene, Written, cycle_of, is_unreceived, scene_of};
+use misses::misses_in;
+use scene::{CallLabel, Choice, Scene, choices_of, part_word, scene_of};
 use semantics::Step;
 use serde::Serialize;
 use serde_json::to_string;
 use std::alloc::{AllocError, Global};
+use waits::{Fate, Standing, fate_of, fitting, operation_of};
+use writing::put_characters;
 
 /// A call as the program's text has it.
 #[derive(Drop, Serialize)]
@@ -19,6 +20,44 @@ struct Line {
     rank: u32,
     line: usize,
     words: String,
+}
+
+/// A call that fits, and what became of it.
+#[derive(Clone, Copy, Serialize)]
+struct Fit {
+    call: usize,
+    fate: &'static str,
+    with: Option<usize>,
+}
+
+/// A call that misses in one part alone.
+#[derive(Clone, Copy, Serialize)]
+struct Miss {
+    call: usize,
+    part: &'static str,
+}
+
+/// Where a rank stands.
+#[derive(Drop, Serialize)]
+struct Rank {
+    rank: u32,
+    finished: bool,
+    call: Option<usize>,
+    operation: Option<usize>,
+    waits_for: Vec<u32>,
+    fits: Vec<Fit>,
+    near_misses: Vec<Miss>,
+}
+
+/// A choice: a send that was buffered though the policy leaves that open, or which message a wildcard took, or a probe saw, where others
+/// fitted too.
+#[derive(Drop, Serialize)]
+struct Decision {
+    step: usize,
+    kind: &'static str,
+    call: usize,
+    of: Option<usize>,
+    others: Vec<usize>,
 }
 
 /// What is told of a deadlock.
@@ -31,41 +70,175 @@ struct Deadlock<'a> {
     ranks: Vec<Rank>,
     cycle: Vec<u32>,
     decided: Vec<&'a str>,
-    choices: Vec<Choice>,
+    choices: Vec<Decision>,
     unreceived: Vec<usize>,
 }
 
+/// The number of a call, or of a step, by its place.
+fn number_of(place: usize) -> usize {
+    place.saturating_add(1)
+}
+
 /// The line of a call.
-fn line_of(alloc: Global, written: &Written) -> Result<Line, AllocError> {
+fn line_of(alloc: Global, label: &CallLabel) -> Result<Line, AllocError> {
     let mut words = String::new(alloc);
-    written.put_words(&mut words)?;
+    put_characters(&mut words, label.words())?;
     Ok(Line {
-        call: written.number,
-        rank: written.rank,
-        line: written.line,
+        call: label.number(),
+        rank: label.rank(),
+        line: label.line(),
         words,
     })
 }
 
 /// The lines of all calls, in their order.
-fn lines_of(alloc: Global, scene: &Scene) -> Result<Vec<Line>, AllocError> {
+fn lines_of(alloc: Global, scene: &Scene<'_>) -> Result<Vec<Line>, AllocError> {
     let mut lines = Vec::new(alloc);
-    for written in &scene.calls {
-        lines.push(line_of(alloc, written)?)?;
+    for label in &scene.labels {
+        lines.push(line_of(alloc, label)?)?;
     }
     Ok(lines)
 }
 
-/// The numbers of the sends whose message was sent and that nobody received.
-fn unreceived_of(
+/// What became of a call that fits.
+fn fit_of(scene: &Scene<'_>, call: usize) -> Fit {
+    let (fate, with) = match fate_of(scene.program, &scene.state, call) {
+        Fate::Taken(other) => ("taken", Some(number_of(other))),
+        Fate::NotIssued => ("not reached", None),
+        Fate::Open => ("not matched", None),
+    };
+    Fit {
+        call: number_of(call),
+        fate,
+        with,
+    }
+}
+
+/// The calls that fit with an operation.
+fn fits_of(alloc: Global, scene: &Scene<'_>, operation: usize) -> Result<Vec<Fit>, AllocError> {
+    let calls = fitting(alloc, scene.program, operation)?;
+    calls.iter().map(|call| fit_of(scene, *call)).collect(alloc)
+}
+
+/// In which part a call misses an operation.
+fn miss_of(scene: &Scene<'_>, operation: usize, call: usize) -> Miss {
+    let part = match misses_in(scene.program, operation, call) {
+        None => "none",
+        Some(part) => part_word(part),
+    };
+    Miss {
+        call: number_of(call),
+        part,
+    }
+}
+
+/// The near misses of an operation.
+fn misses_of(alloc: Global, scene: &Scene<'_>, operation: usize) -> Result<Vec<Miss>, AllocError> {
+    let likely = scene.likely_misses(alloc, operation)?;
+    likely
+        .iter()
+        .map(|call| miss_of(scene, operation, *call))
+        .collect(alloc)
+}
+
+/// A rank that waits for nothing, or is finished.
+fn resting(alloc: Global, rank: u32, finished: bool) -> Rank {
+    Rank {
+        rank,
+        finished,
+        call: None,
+        operation: None,
+        waits_for: Vec::new(alloc),
+        fits: Vec::new(alloc),
+        near_misses: Vec::new(alloc),
+    }
+}
+
+/// A rank that waits in a call.
+fn waiting(alloc: Global, scene: &Scene<'_>, rank: u32, call: usize) -> Result<Rank, AllocError> {
+    let operation = operation_of(scene.program, call);
+    Ok(Rank {
+        rank,
+        finished: false,
+        call: Some(number_of(call)),
+        operation: Some(number_of(operation)),
+        waits_for: Vec::from_slice(alloc, scene.awaited_by(rank))?,
+        fits: fits_of(alloc, scene, operation)?,
+        near_misses: misses_of(alloc, scene, operation)?,
+    })
+}
+
+/// Where a rank stands.
+fn rank_of(alloc: Global, scene: &Scene<'_>, rank: u32) -> Result<Rank, AllocError> {
+    match scene.standing(rank) {
+        Standing::Finished => Ok(resting(alloc, rank, true)),
+        Standing::Ready => Ok(resting(alloc, rank, false)),
+        Standing::Waits { call } => waiting(alloc, scene, rank, call),
+    }
+}
+
+/// Where the ranks stand, in their order.
+fn ranks_of(alloc: Global, scene: &Scene<'_>) -> Result<Vec<Rank>, AllocError> {
+    let mut ranks = Vec::new(alloc);
+    for rank in 0..scene.program.ranks() {
+        ranks.push(rank_of(alloc, scene, rank)?)?;
+    }
+    Ok(ranks)
+}
+
+/// The numbers of calls by their places.
+fn numbers_of(alloc: Global, places: &[usize]) -> Result<Vec<usize>, AllocError> {
+    places.iter().map(|place| number_of(*place)).collect(alloc)
+}
+
+/// A choice of a run.
+fn decision_of(alloc: Global, scene: &Scene<'_>, choice: &Choice) -> Result<Decision, AllocError> {
+    match choice {
+        Choice::Buffered { step, send } => Ok(Decision {
+            step: number_of(*step),
+            kind: "buffered",
+            call: number_of(*send),
+            of: None,
+            others: Vec::new(alloc),
+        }),
+        Choice::Found {
+            step,
+            send,
+            finder,
+            rivals,
+        } => Ok(Decision {
+            step: number_of(*step),
+            kind: if scene.program.is_probe(*finder) {
+                "saw"
+            } else {
+                "took"
+            },
+            call: number_of(*finder),
+            of: Some(number_of(*send)),
+            others: numbers_of(alloc, rivals)?,
+        }),
+    }
+}
+
+/// The choices of a run, in the order of its steps.
+fn decisions_of(
     alloc: Global,
-    program: &LongProgram,
-    scene: &Scene,
-) -> Result<Vec<usize>, AllocError> {
+    scene: &Scene<'_>,
+    choices: &[Choice],
+) -> Result<Vec<Decision>, AllocError> {
+    let mut decisions = Vec::new(alloc);
+    for choice in choices {
+        decisions.push(decision_of(alloc, scene, choice)?)?;
+    }
+    Ok(decisions)
+}
+
+/// The numbers of the sends whose message was sent and that nobody received.
+fn unreceived_of(alloc: Global, scene: &Scene<'_>) -> Result<Vec<usize>, AllocError> {
     let mut numbers = Vec::new(alloc);
-    for (place, written) in scene.calls.iter().enumerate() {
-        if is_unreceived(program, scene, place) {
-            numbers.push(written.number)?;
+    for place in 0..scene.labels.len() {
+        if scene.is_unreceived(place) {
+            numbers.push(number_of(place))?;
         }
     }
     Ok(numbers)
@@ -82,23 +255,21 @@ fn texts_of(alloc: Global, text: &str) -> Result<Vec<&str>, AllocError> {
 /// What is told of the end of a run.
 fn deadlock_of<'a>(
     alloc: Global,
-    program: &LongProgram,
-    scene: &Scene,
-    steps: &[Step],
+    scene: &Scene<'_>,
+    steps: usize,
+    choices: &[Choice],
     decided: &'a str,
-) -> Result<Deadlock<'a>, AllocError>
-    requires { IsStuckRun program.now steps.now }
-{
+) -> Result<Deadlock<'a>, AllocError> {
     Ok(Deadlock {
         answer: "deadlock",
         status: 1,
-        steps: steps.len(),
+        steps,
         calls: lines_of(alloc, scene)?,
-        ranks: ranks_of(alloc, program, scene)?,
-        cycle: cycle_of(alloc, scene)?,
+        ranks: ranks_of(alloc, scene)?,
+        cycle: Vec::from_slice(alloc, &scene.cycle)?,
         decided: texts_of(alloc, decided)?,
-        choices: choices_of(alloc, program, steps)?,
-        unreceived: unreceived_of(alloc, program, scene)?,
+        choices: decisions_of(alloc, scene, choices)?,
+        unreceived: unreceived_of(alloc, scene)?,
     })
 }
 
@@ -128,7 +299,8 @@ pub fn object_text(
     requires { IsStuckRun program.now steps.now }
 {
     let scene = scene_of(alloc, text, source, program, steps, true)?;
-    let deadlock = deadlock_of(alloc, program, &scene, steps, decided)?;
+    let choices = choices_of(alloc, program, steps)?;
+    let deadlock = deadlock_of(alloc, &scene, steps.len(), &choices, decided)?;
     let text = text_of(alloc, &deadlock)?;
     Ok(text.into_bytes())
 }

@@ -1,5 +1,4 @@
 pub mod Answering
 pub mod Elements
 pub mod Stations
-pub mod Tellings
 pub mod Walks

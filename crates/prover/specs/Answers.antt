@@ -1,51 +1,16 @@
 -- What the prover's answers say of a program's text.
-use Rattle.std.specs.Prelude.{◌≡◌, ◌≢◌, ◌⊎◌, ◌<◌, ◌||◌, ℕ, Bool, true, false, IsTrue, List}
-use Rattle.calltext.specs.Grammar.{IsText, ProgramText}
+use Rattle.std.specs.Prelude.{◌≡◌, ◌≢◌, ◌⊎◌, ◌<◌, ◌||◌, ℕ, IsTrue, List}
 use Rattle.callorder.specs.Programs.{MpiProgram}
 use Rattle.callorder.specs.Resolving.{IsTextOf}
 use Rattle.pool.specs.declared.why.Why.TheVariants as whys
 use Rattle.semantics.specs.declared.state.Step.{Step}
 use Rattle.semantics.specs.Machine.{IsFinishedRun, IsStuckRun}
-use Rattle.formulas.specs.Numbering.{formula_of}
-use Rattle.prooflog.specs.FormulaText.{formula_text}
-use Rattle.exports.specs.Dimacs.{dimacs_text}
 use Rattle.checker.specs.declared.reason.Reason.{Reason}
 use Rattle.checker.specs.declared.reason.Reason.TheVariants as reasons
-use Rattle.checker.specs.Verdicts.{IsNeverStuck, Refutes, Shows, HasFormula, HasNoFormula, IsARefutation, IsReason, IsProgramReason, is_of_refutation}
+use Rattle.checker.specs.Verdicts.{IsNeverStuck, Refutes, Shows, HasFormula, HasNoFormula, IsProgramReason}
 use Rattle.prover.specs.declared.answer.Answer.{Answer}
 use Rattle.prover.specs.declared.answer.Answer.TheVariants as answers
 use Rattle.prover.specs.declared.ends.WalkEnds.{WalkEnds}
-use Rattle.charts.specs.Lining.{lined_run}
-use Rattle.prover.specs.Telling.{told_run}
-use Rattle.prover.specs.declared.steps.Replayed.{Replayed}
-use Rattle.prover.specs.declared.steps.Replayed.TheVariants as replays
-
--- the text tells the steps of a run of the program of a text, by the numbers of its calls, or by the lines that they stand in
-abbrev pub TellsRun : Bool → List ℕ → MpiProgram → List Step → List ℕ → Type 0
-TellsRun false program p steps text = text ≡ told_run p steps
-TellsRun true program p steps text = (source : ProgramText) × IsText program source × (text ≡ lined_run program source p steps)
-
--- A replay that ends stuck is one of a schedule that shows a deadlock, and tells its steps. Else it is told that the
--- evidence is no schedule, or the first reason why it shows none.
-abbrev pub Replays : Bool → List ℕ → List ℕ → Replayed → Type 0
-Replays lines program evidence (replays.Stuck text) =
-    (shown : Shows program evidence) × TellsRun lines program shown.p shown.steps text.items
-Replays lines program evidence (replays.Refused reason) = IsReason program evidence reason × (is_of_refutation reason ≡ false)
-Replays lines program evidence replays.NotASchedule = IsARefutation program evidence
-
--- the text has a program, whose formula is within the limits, and this is that formula's text
-pub record HasFormulaText (program text : List ℕ) : Type 0 where
-  pub p : MpiProgram
-  pub is_text : IsTextOf program p
-  pub within : HasFormula p
-  pub text_is : text ≡ formula_text (formula_of p)
-
--- the same, of the formula's text in the DIMACS format
-pub record HasDimacsText (program text : List ℕ) : Type 0 where
-  pub p : MpiProgram
-  pub is_text : IsTextOf program p
-  pub within : HasFormula p
-  pub text_is : text ≡ dimacs_text p
 
 -- why a program's text has no formula's text: it is refused, or its program has no formula within the limits
 abbrev pub HasNoFormulaText : List ℕ → Reason → Type 0

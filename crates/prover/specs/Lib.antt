@@ -1,5 +1,4 @@
 pub mod Answers
 pub mod Ends
 pub mod Searches
-pub mod Telling
 pub mod Walks

@@ -1,3 +1,4 @@
 pub mod Counted
 pub mod Shorter
 pub mod Drawn
+pub mod Tellings

@@ -3,3 +3,6 @@ pub mod Exports
 pub mod Sizes
 pub mod Trimming
 pub mod Numbers
+pub mod FormulaTexts
+pub mod Replays
+pub mod Telling

@@ -6,13 +6,17 @@ mod counts;
 mod decided;
 mod explained;
 mod exported;
+mod formula;
 mod laws;
 mod sizes;
+mod steps;
 mod telling;
 mod trimmed;
 
 pub use decided::{explain_run, explain_sizes};
 pub use explained::{Explained, explain_evidence};
 pub use exported::export_evidence;
+pub use formula::{dimacs_formula, formula_text};
 pub use laws::shortened_refute;
+pub use steps::{Replayed, replay};
 pub use trimmed::{Shortened, Untrimmed, trim_evidence};

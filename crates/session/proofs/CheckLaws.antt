@@ -6,9 +6,9 @@ use Rattle.checker.specs.declared.reason.Reason.{Reason}
 use Rattle.checker.specs.declared.reason.Verdict.{Verdict}
 use Rattle.checker.specs.declared.reason.Verdict.TheVariants as verdicts
 use Rattle.checker.proofs.OneVerdicts.{kinds_differ, right_or_memory}
-use Rattle.prover.specs.Answers.{Replays, TellsRun}
-use Rattle.prover.specs.declared.steps.Replayed.{Replayed}
-use Rattle.prover.specs.declared.steps.Replayed.TheVariants as replays
+use Rattle.reports.specs.Replays.{Replays, TellsRun}
+use Rattle.reports.specs.declared.steps.Replayed.{Replayed}
+use Rattle.reports.specs.declared.steps.Replayed.TheVariants as replays
 use Rattle.session.specs.CheckLaws.{CheckedDeadlockIsPrinted, CheckedDeadlockIsShown, CheckedSafetyIsPrinted, CheckedSafetyIsTrue, EncodedFormulaIsPrinted, ReadFilesAreNotBlamed, RefutedIsChecked, ReplayedDeadlockIsShown, ReplayedRunIsPrinted, ShownDeadlockIsChecked, ShownDeadlockIsReplayed}
 use Rattle.session.specs.Lines.{IsLine, deadlock_line, no_deadlock_line, told_of_verdict, told_status}
 use Rattle.session.specs.Pages.{HasTextOfFormula, IsChecked, IsEither, IsEncoded, IsReplayPage, IsReplayed}

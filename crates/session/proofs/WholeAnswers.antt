@@ -2,11 +2,12 @@
 use Rattle.std.proofs.Common.{ℕ, Bool, true, false, List, inl, inr}
 use Rattle.settings.specs.declared.form.Form.{Form}
 use Rattle.checker.specs.declared.reason.Reason.{Reason}
-use Rattle.prover.specs.Answers.{Answers, CanFinish, FinishesIfUnknown, HasNoFormulaText, Replays}
+use Rattle.prover.specs.Answers.{Answers, CanFinish, FinishesIfUnknown, HasNoFormulaText}
+use Rattle.reports.specs.Replays.{Replays}
 use Rattle.prover.specs.declared.answer.Answer.{Answer}
 use Rattle.prover.specs.declared.answer.Answer.TheVariants as answers
-use Rattle.prover.specs.declared.steps.Replayed.{Replayed}
-use Rattle.prover.specs.declared.steps.Replayed.TheVariants as replays
+use Rattle.reports.specs.declared.steps.Replayed.{Replayed}
+use Rattle.reports.specs.declared.steps.Replayed.TheVariants as replays
 use Rattle.prooflog.specs.declared.evidence.Evidence.TheVariants.{Schedule, Refutation}
 use Rattle.reports.specs.Explanations.{Explains}
 use Rattle.reports.specs.Exports.{Exports}

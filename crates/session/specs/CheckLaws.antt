@@ -2,7 +2,7 @@
 use Rattle.std.specs.Prelude.{◌≡◌, ◌≢◌, ◌⊎◌, ℕ, Bool, List, Some, IsTrue}
 use Rattle.clap.specs.Words.{Text}
 use Rattle.checker.specs.Verdicts.{IsNeverStuck, Refutes, Shows}
-use Rattle.prover.specs.Answers.{TellsRun}
+use Rattle.reports.specs.Replays.{TellsRun}
 use Rattle.command_line.specs.Requests.{AskFor, to_encode}
 use Rattle.session.specs.Asking.{AskToCheck, AskToReplay, DeadlockIsShown, ShownIsTold, TellsSafety}
 use Rattle.session.specs.Endings.{SessionEnds}

@@ -2,7 +2,7 @@
 use Rattle.std.specs.Prelude.{ℕ, Bool, true, false, List, ◌++◌, codes, decimal, map, slice_index}
 use Rattle.calltext.specs.Grammar.{ProgramText}
 use Rattle.callorder.specs.Expansion.{parts_of_text}
-use Rattle.explain.specs.Lines.{line_of_part}
+use Rattle.scene.specs.Lines.{line_of_part}
 use Rattle.deciding.specs.declared.decision.Caller.{Caller}
 use Rattle.deciding.specs.declared.decision.Race.{Race}
 use Rattle.session.specs.Lines.{object_with}

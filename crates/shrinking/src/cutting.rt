@@ -1,8 +1,9 @@
 //! Texts without some of their call lines.
 
-use crate::lines::{is_call, is_rank, lines_of, put_line};
+use crate::lines::{is_call, is_rank, lines_of};
 use crate::pairing::FOLLOWS;
 use std::alloc::{AllocError, Global};
+use writing::put_line;
 
 /// The numbers of units, each once, in the order of their first lines.
 pub fn numbers_of(alloc: Global, units: &[usize]) -> Result<Vec<usize>, AllocError> {

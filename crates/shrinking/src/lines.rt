@@ -53,21 +53,3 @@ pub fn count_calls(words: &[&[u8]]) -> usize {
         _ => 1,
     }
 }
-
-/// Adds a line.
-pub fn put_line(out: &mut Vec<u8>, line: &[u8]) -> Result<(), AllocError> {
-    out.extend_from_slice(line)?;
-    out.push(b'\n')?;
-    Ok(())
-}
-
-/// Adds words, parted by a space each, without an LF.
-pub fn put_words(out: &mut Vec<u8>, words: &[&[u8]]) -> Result<(), AllocError> {
-    for (place, word) in words.iter().enumerate() {
-        if place > 0 {
-            out.push(b' ')?;
-        }
-        out.extend_from_slice(word)?;
-    }
-    Ok(())
-}

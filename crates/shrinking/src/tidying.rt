@@ -1,9 +1,10 @@
 //! Texts in which each request is started and waited for, and each handle made and received on.
 
-use crate::lines::{is_call, is_rank, lines_of, put_line, put_words, verb_of};
+use crate::lines::{is_call, is_rank, lines_of, verb_of};
 use calltext::Verb;
 use plaintext::words_of;
 use std::alloc::{AllocError, Global};
+use writing::{put_line, put_words};
 
 /// The request or the handle that a line makes.
 fn made<'a>(words: &[&'a [u8]]) -> Option<&'a [u8]> {

@@ -3,8 +3,8 @@ mod lrat;
 
 use checker::{PieceGate, Reason, Verdict};
 use lrat::{Cnf, ProofLine, read_cnf, read_proof, refutes};
-use prover::{Answer, Gate, Options, dimacs_formula, prove};
-use reports::export_evidence;
+use prover::{Answer, Gate, Options, prove};
+use reports::{dimacs_formula, export_evidence};
 use std::alloc::Global;
 use std::sync::Wait;
 use std::test::Fail;

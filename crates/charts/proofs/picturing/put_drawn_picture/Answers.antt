@@ -1,5 +1,5 @@
 use Rattle.std.proofs.Common.{◌≡◌, ◌++◌, ℕ, List, drop, subst}
-use Rattle.charts.specs.declared.acts.Act.{Act}
+use Rattle.scene.specs.declared.acts.Act.{Act}
 use Rattle.charts.specs.Picture.{picture_behind}
 use Rattle.charts.proofs.picturing.put_drawn_picture.Goals as goal
 

@@ -1,5 +1,5 @@
-use Rattle.std.proofs.Common.{refl, append_assoc}
+use Rattle.std.proofs.Common.{refl}
 use Rattle.charts.proofs.picturing.put_waits.Goals as goal
 
 pub returns : goal.returns
-returns c = simp (append_assoc, c.in_ok-put_text-3.ensures, c.in_ok-put_short.ensures, c.in_ok-put_text-2.ensures, c.in_ok-put_number.ensures, c.in_ok-put_text.ensures, c.line.ensures, c.words.ensures) refl
+returns c = simp (c.in_ok-put_parts.ensures, c.line.ensures, c.deref.ensures.value, c.in_ok-short.ensures, c.words.ensures) refl

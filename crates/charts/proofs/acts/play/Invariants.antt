@@ -1,8 +1,0 @@
-use Rattle.std.proofs.Common.{◌≡◌, take}
-use Rattle.semantics.specs.Machine.{opening}
-use Rattle.charts.specs.Acts.{acts_from}
-use Rattle.charts.proofs.Replayed.{HasTaken}
-use Rattle.charts.proofs.acts.play.Given as goal
-
-abbrev pub invariant-loop-step : goal.invariant-loop-step
-invariant-loop-step l = record { taken : HasTaken l.program l.steps l.step-index l.end; told : l.acts.items ≡ acts_from (opening l.program) (take l.step-index l.steps) }

@@ -1,5 +1,0 @@
-use Rattle.std.proofs.Common.{refl, append_assoc}
-use Rattle.charts.proofs.drawing.put_head.Goals as goal
-
-pub returns : goal.returns
-returns c = simp (append_assoc, c.in_ok-put_text-3.ensures, c.in_ok-put_number.ensures, c.in_ok-put_text-2.ensures, c.in_ok-put_x.ensures, c.in_ok-put_text.ensures, c.y_of.ensures) refl

@@ -1,3 +1,0 @@
-pub mod Replayed
-pub mod LineNumbers
-pub mod CallsWritten

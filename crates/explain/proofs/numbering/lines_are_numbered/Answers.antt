@@ -1,5 +1,0 @@
-use Rattle.explain.proofs.LineNumbers as numbers
-use Rattle.explain.proofs.numbering.lines_are_numbered.Goals as goal
-
-pub returns : goal.returns
-returns c = numbers.lines_are_numbered

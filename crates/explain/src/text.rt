@@ -1,0 +1,500 @@
+//! The text that explains a deadlock.
+
+ghost use Rattle.semantics.specs.Machine.{IsStuckRun};
+
+use crate::needing::put_need;
+use crate::wording::{are_in_one_line, put_call, put_call_of, put_line, put_number_of};
+use callorder::LongProgram;
+use calltext::LongSource;
+use scene::{Choice, MOST_OF_LARGE, Scene, choices_of, needed, scene_of};
+use semantics::Step;
+use std::alloc::{AllocError, Global};
+use waits::{Standing, fitting, operation_of};
+
+/// The most ranks, and the most messages, that a list tells.
+pub const MOST_TOLD: usize = 8;
+
+/// The most messages that are named where a wildcard took another one.
+const MOST_RIVALS: usize = 3;
+
+/// Tells how many there are beyond those that a list tells at most, if there are more.
+fn put_more(out: &mut String, most: usize, count: usize) -> Result<(), AllocError> {
+    let more = count.saturating_sub(most);
+    if more == 0 {
+        return Ok(());
+    }
+    writeln!(out, "  and {more} more")
+}
+
+/// Tells, behind a list on one line, how many there are beyond those that it tells at most, if there are more.
+fn put_more_behind(out: &mut String, most: usize, count: usize) -> Result<(), AllocError> {
+    let more = count.saturating_sub(most);
+    if more == 0 {
+        return Ok(());
+    }
+    write!(out, " and {more} more")
+}
+
+/// Tells which call of the next rank would end what a rank of a cycle waits for.
+fn put_needed(
+    out: &mut String,
+    scene: &Scene<'_>,
+    rank: u32,
+    operation: usize,
+    next: u32,
+) -> Result<(), AllocError> {
+    let Some(needed) = needed(scene.program, &scene.state, operation, next) else {
+        return Ok(());
+    };
+    out.push_str(if scene.awaited_by(rank).len() > 1 {
+        ", which needs one of several, as "
+    } else {
+        ", which needs "
+    })?;
+    put_line(out, scene, needed)?;
+    write!(out, " of rank {next}; not reached")
+}
+
+/// Tells in which call a rank of a cycle waits, and what that needs of the next rank.
+fn put_link(out: &mut String, scene: &Scene<'_>, rank: u32, next: u32) -> Result<(), AllocError> {
+    let Standing::Waits { call } = scene.standing(rank) else {
+        return Ok(());
+    };
+    let operation = operation_of(scene.program, call);
+    write!(out, "rank {rank} waits in ")?;
+    put_line(out, scene, call)?;
+    if !are_in_one_line(scene, call, operation) {
+        out.push_str(" for ")?;
+        put_line(out, scene, operation)?;
+    }
+    put_needed(out, scene, rank, operation, next)?;
+    out.push('\n')
+}
+
+/// Tells the links of the cycle from one place up to another, in a line for each.
+fn put_links(
+    out: &mut String,
+    scene: &Scene<'_>,
+    from: usize,
+    to: usize,
+) -> Result<(), AllocError> {
+    let ranks = &scene.cycle;
+    for place in from..to.min(ranks.len()) {
+        let rank = ranks[place];
+        out.push_str(if place == 0 { "cycle: " } else { "       " })?;
+        put_link(out, scene, rank, scene.next_at(place).unwrap_or(rank))?;
+    }
+    Ok(())
+}
+
+/// Tells the cycle of a large program: whole where it is short, else its first links and its last ones.
+fn put_long_cycle(out: &mut String, scene: &Scene<'_>) -> Result<(), AllocError> {
+    let count = scene.cycle.len();
+    if count <= MOST_OF_LARGE {
+        return put_links(out, scene, 0, count);
+    }
+    put_links(out, scene, 0, MOST_TOLD)?;
+    let more = count.saturating_sub(MOST_OF_LARGE);
+    writeln!(out, "       and {more} more ranks")?;
+    put_links(out, scene, count.saturating_sub(MOST_TOLD), count)
+}
+
+/// Tells a cycle of ranks that wait for one another, if there is one, in a line for each of its ranks.
+fn put_cycle(out: &mut String, scene: &Scene<'_>) -> Result<(), AllocError> {
+    if scene.large && !scene.whole {
+        return put_long_cycle(out, scene);
+    }
+    let most = scene.most(MOST_TOLD);
+    put_links(out, scene, 0, most)?;
+    put_more(out, most, scene.cycle.len())
+}
+
+/// Tells calls by their numbers, parted by commas, and of many how many more there are.
+fn put_rivals(out: &mut String, scene: &Scene<'_>, rivals: &[usize]) -> Result<(), AllocError> {
+    let most = scene.most(MOST_RIVALS);
+    for (place, rival) in rivals.iter().take(most).enumerate() {
+        if place > 0 {
+            out.push_str(", ")?;
+        }
+        put_number_of(out, scene, *rival)?;
+    }
+    put_more_behind(out, most, rivals.len())
+}
+
+/// Tells that a receive or matched probe took the message of a send, or that a probe saw it, and begins a line below.
+fn put_finding(
+    out: &mut String,
+    scene: &Scene<'_>,
+    finder: usize,
+    send: usize,
+) -> Result<(), AllocError> {
+    out.push_str("  ")?;
+    put_call_of(out, scene, finder)?;
+    out.push_str(if scene.program.is_probe(finder) {
+        " saw the message of "
+    } else {
+        " took the message of "
+    })?;
+    put_call_of(out, scene, send)?;
+    out.push_str("\n    ")
+}
+
+/// Tells a choice.
+fn put_choice(out: &mut String, scene: &Scene<'_>, choice: &Choice) -> Result<(), AllocError> {
+    match choice {
+        Choice::Buffered { send, .. } => {
+            out.push_str("  ")?;
+            put_call_of(out, scene, *send)?;
+            out.push_str(" was buffered\n")
+        }
+        Choice::Found {
+            send,
+            finder,
+            rivals,
+            ..
+        } => {
+            put_finding(out, scene, *finder, *send)?;
+            put_rivals(out, scene, rivals)?;
+            out.push_str(" fitted too\n")
+        }
+    }
+}
+
+/// Tells what the steps decided, in their order.
+fn choices_text(
+    alloc: Global,
+    scene: &Scene<'_>,
+    choices: &[Choice],
+) -> Result<String, AllocError> {
+    let mut out = String::new(alloc);
+    let most = scene.most_of_large();
+    for choice in choices.iter().take(most) {
+        put_choice(&mut out, scene, choice)?;
+    }
+    put_more(&mut out, most, choices.len())?;
+    Ok(out)
+}
+
+/// The first receive or matched probe behind a probe, in its rank, that the send fits, if there is one.
+fn next_taker(program: &LongProgram, send: usize, probe: usize) -> Option<usize> {
+    for call in probe..program.calls().len() {
+        if !program.are_of_one_rank(call, probe) {
+            return None;
+        }
+        if program.takes(send, call) {
+            return Some(call);
+        }
+    }
+    None
+}
+
+/// The send whose message a probe saw, and the receive or matched probe that stands behind it to take that message, with the send of the
+/// other message that it took.
+fn exchange_of(scene: &Scene<'_>, probe: usize) -> Option<(usize, usize, usize)> {
+    if !scene.program.is_probe(probe) {
+        return None;
+    }
+    let send = scene.state.partner(probe)?;
+    let taker = next_taker(scene.program, send, probe)?;
+    let other = scene.state.partner(taker)?;
+    if other == send {
+        None
+    } else {
+        Some((send, taker, other))
+    }
+}
+
+/// Tells that a receive or matched probe took another message than the one that a probe before it saw.
+fn put_exchange(
+    out: &mut String,
+    scene: &Scene<'_>,
+    probe: usize,
+    exchange: (usize, usize, usize),
+) -> Result<(), AllocError> {
+    let (send, taker, other) = exchange;
+    put_finding(out, scene, taker, other)?;
+    put_number_of(out, scene, probe)?;
+    out.push_str(" had seen the message of ")?;
+    put_number_of(out, scene, send)?;
+    out.push('\n')
+}
+
+/// Tells the receives and matched probes that took another message than the one that a probe right before them, among the calls of
+/// their rank that the message fits, had seen.
+fn exchanges(alloc: Global, scene: &Scene<'_>) -> Result<String, AllocError> {
+    let mut out = String::new(alloc);
+    let most = scene.most_of_large();
+    let mut told: usize = 0;
+    for place in 0..scene.labels.len() {
+        if let Some(exchange) = exchange_of(scene, place) {
+            if told < most {
+                put_exchange(&mut out, scene, place, exchange)?;
+            }
+            told = told.saturating_add(1);
+        }
+    }
+    put_more(&mut out, most, told)?;
+    Ok(out)
+}
+
+/// Tells in which call a rank waits, the operation that it waits for, where that is another call's, and what this needs.
+fn put_waiting(
+    out: &mut String,
+    alloc: Global,
+    scene: &Scene<'_>,
+    rank: u32,
+    call: usize,
+) -> Result<(), AllocError> {
+    write!(out, "  rank {rank} waits in ")?;
+    put_call(out, scene, call)?;
+    let operation = operation_of(scene.program, call);
+    if operation != call {
+        out.push_str(" for ")?;
+        put_call(out, scene, operation)?;
+    }
+    out.push('\n')?;
+    put_need(out, alloc, scene, call)
+}
+
+/// Tells where a rank stands that isn't finished, and for what it waits.
+fn put_standing(
+    out: &mut String,
+    alloc: Global,
+    scene: &Scene<'_>,
+    rank: u32,
+) -> Result<(), AllocError> {
+    match scene.standing(rank) {
+        Standing::Finished => Ok(()),
+        Standing::Ready => writeln!(out, "  rank {rank} could go on"),
+        Standing::Waits { call } => put_waiting(out, alloc, scene, rank, call),
+    }
+}
+
+/// Tells where the ranks stand that aren't finished, of those that wait for nobody, or of the others.
+fn standings(alloc: Global, scene: &Scene<'_>, lack: bool) -> Result<String, AllocError> {
+    let mut out = String::new(alloc);
+    let most = scene.most(MOST_TOLD);
+    let mut told: usize = 0;
+    for rank in 0..scene.program.ranks() {
+        if scene.standing(rank) != Standing::Finished && scene.lacks(rank) == lack {
+            if told < most {
+                put_standing(&mut out, alloc, scene, rank)?;
+            }
+            told = told.saturating_add(1);
+        }
+    }
+    put_more(&mut out, most, told)?;
+    Ok(out)
+}
+
+/// Tells the ranks that are finished, on one line.
+fn put_finished(out: &mut String, scene: &Scene<'_>) -> Result<(), AllocError> {
+    let most = scene.most_of_large();
+    let mut before = "  finished: ";
+    let mut count: usize = 0;
+    for rank in 0..scene.program.ranks() {
+        if scene.standing(rank) == Standing::Finished {
+            if count < most {
+                write!(out, "{before}rank {rank}")?;
+                before = ", ";
+            }
+            count = count.saturating_add(1);
+        }
+    }
+    put_more_behind(out, most, count)?;
+    if count > 0 {
+        out.push('\n')?;
+    }
+    Ok(())
+}
+
+/// Tells why a rank that waits in this call waits for nobody.
+fn put_nobody(
+    out: &mut String,
+    alloc: Global,
+    scene: &Scene<'_>,
+    call: usize,
+) -> Result<(), AllocError> {
+    let candidates = fitting(alloc, scene.program, operation_of(scene.program, call))?;
+    out.push_str(if candidates.is_empty() {
+        "nobody: nothing fits"
+    } else {
+        "nobody: all that fitted is gone"
+    })
+}
+
+/// Tells a rank for which this one waits.
+fn put_rank(out: &mut String, rank: u32, waiting: u32) -> Result<(), AllocError> {
+    if rank == waiting {
+        out.push_str("itself")
+    } else {
+        write!(out, "rank {rank}")
+    }
+}
+
+/// Tells the ranks, parted by commas, for which this one waits; any of several is enough.
+fn put_ranks(out: &mut String, scene: &Scene<'_>, waiting: u32) -> Result<(), AllocError> {
+    let ranks = scene.awaited_by(waiting);
+    let most = scene.most_of_large();
+    if ranks.len() > 1 {
+        out.push_str("any of ")?;
+    }
+    for (place, rank) in ranks.iter().take(most).enumerate() {
+        if place > 0 {
+            out.push_str(", ")?;
+        }
+        put_rank(out, *rank, waiting)?;
+    }
+    put_more_behind(out, most, ranks.len())
+}
+
+/// Tells for whom a rank waits that waits in this call.
+fn put_awaited(
+    out: &mut String,
+    alloc: Global,
+    scene: &Scene<'_>,
+    rank: u32,
+    call: usize,
+) -> Result<(), AllocError> {
+    write!(out, "  rank {rank} waits for ")?;
+    if scene.awaited_by(rank).is_empty() {
+        put_nobody(out, alloc, scene, call)?;
+    } else {
+        put_ranks(out, scene, rank)?;
+    }
+    out.push('\n')
+}
+
+/// Tells for whom each rank waits.
+fn waiters(alloc: Global, scene: &Scene<'_>) -> Result<String, AllocError> {
+    let mut out = String::new(alloc);
+    let most = scene.most(MOST_TOLD);
+    let mut told: usize = 0;
+    for rank in 0..scene.program.ranks() {
+        if let Standing::Waits { call } = scene.standing(rank) {
+            if told < most {
+                put_awaited(&mut out, alloc, scene, rank, call)?;
+            }
+            told = told.saturating_add(1);
+        }
+    }
+    put_more(&mut out, most, told)?;
+    Ok(out)
+}
+
+/// Tells a send whose message nobody received, and the matched probe that found it, if one did.
+fn put_message(out: &mut String, scene: &Scene<'_>, send: usize) -> Result<(), AllocError> {
+    out.push_str("  ")?;
+    put_call_of(out, scene, send)?;
+    if let Some(probe) = scene.state.partner(send) {
+        out.push_str(", found by ")?;
+        put_number_of(out, scene, probe)?;
+    }
+    out.push('\n')
+}
+
+/// Tells the messages that are sent and that nobody received.
+fn messages(alloc: Global, scene: &Scene<'_>) -> Result<String, AllocError> {
+    let mut out = String::new(alloc);
+    let most = scene.most(MOST_TOLD);
+    let mut told: usize = 0;
+    for place in 0..scene.labels.len() {
+        if scene.is_unreceived(place) {
+            if told < most {
+                put_message(&mut out, scene, place)?;
+            }
+            told = told.saturating_add(1);
+        }
+    }
+    put_more(&mut out, most, told)?;
+    Ok(out)
+}
+
+/// Adds a part below its heading, if there is something to tell.
+fn put_part(out: &mut String, heading: &str, part: &String) -> Result<(), AllocError> {
+    if part.is_empty() {
+        return Ok(());
+    }
+    out.push_str(heading)?;
+    out.push('\n')?;
+    out.push_str(part.as_str())
+}
+
+/// Tells what the deadlock comes from, and then `decided`, a text on what decided it, and what the steps decided.
+fn put_cause(
+    out: &mut String,
+    alloc: Global,
+    scene: &Scene<'_>,
+    lacks: &String,
+    decided: &str,
+    choices: &[Choice],
+) -> Result<(), AllocError> {
+    put_cycle(out, scene)?;
+    put_part(out, "what can't come:", lacks)?;
+    out.push_str(decided)?;
+    put_part(
+        out,
+        "choices on the way:",
+        &choices_text(alloc, scene, choices)?,
+    )
+}
+
+/// Tells what is known of the end of the run; `other` is whether some ranks are told before.
+fn put_end(
+    out: &mut String,
+    alloc: Global,
+    scene: &Scene<'_>,
+    other: bool,
+) -> Result<(), AllocError> {
+    let heading = "receives that took another message than a probe saw:";
+    put_part(out, heading, &exchanges(alloc, scene)?)?;
+    let heading = if other {
+        "where the other ranks stand:"
+    } else {
+        "where each rank stands:"
+    };
+    let mut standings = standings(alloc, scene, false)?;
+    put_finished(&mut standings, scene)?;
+    put_part(out, heading, &standings)?;
+    put_part(out, "who waits for whom:", &waiters(alloc, scene)?)?;
+    let heading = "messages that nobody received:";
+    put_part(out, heading, &messages(alloc, scene)?)
+}
+
+/// Tells all of the end of a run but the first line.
+fn put_all(
+    out: &mut String,
+    alloc: Global,
+    scene: &Scene<'_>,
+    decided: &str,
+    choices: &[Choice],
+) -> Result<(), AllocError> {
+    let lacks = standings(alloc, scene, true)?;
+    put_cause(out, alloc, scene, &lacks, decided, choices)?;
+    put_end(out, alloc, scene, !lacks.is_empty())
+}
+
+/// The text, in plain ASCII, that explains a run of a program that ends stuck: a cycle of ranks that wait for one another, and the
+/// ranks for which nothing can come; then `decided`, a text on what decided it; the choices on the way; receives that took another
+/// message than a probe before them saw; where the other ranks stand and for what they wait; who waits for whom; and which messages
+/// nobody received. Long lists are cut, and told by their number, unless each is wanted whole. `text` is the program's text, `source`
+/// what it says, and `program` its calls. The only error is want of memory.
+pub fn explanation(
+    alloc: Global,
+    text: &[u8],
+    source: &LongSource,
+    program: &LongProgram,
+    steps: &[Step],
+    decided: &str,
+    whole: bool,
+) -> Result<Vec<u8>, AllocError>
+    requires { IsStuckRun program.now steps.now }
+{
+    let scene = scene_of(alloc, text, source, program, steps, whole)?;
+    let choices = choices_of(alloc, program, steps)?;
+    let count = steps.len();
+    let noun = if count == 1 { "step" } else { "steps" };
+    let mut out = format!(in alloc; "deadlock after {count} {noun}\n")?;
+    put_all(&mut out, alloc, &scene, decided, &choices)?;
+    Ok(out.into_bytes())
+}

@@ -1,0 +1,4 @@
+pub mod LineNumbers
+mod Listed
+mod Replayed
+mod Ends
