@@ -22,6 +22,8 @@ SECONDS = 10
 SHOWN = 3
 DECIDED = 3
 BEFORE = b'what stood here before\n'
+# The new file that is written beside the one after --out.
+BESIDE = 'out.0.part'
 SEEDS = 300
 FOREIGN = {b'\xff': rb'\xff', b'prog\xc3.mpi': rb'prog\xc3.mpi', b'\xed\xa0\x80\'': rb"\xed\xa0\x80\'"}
 
@@ -328,6 +330,8 @@ def fault_told(row, got):
 def is_told_fault(trial, row, got, call, path, how, answer):
     """What may come of a fault of a file, or of an output. Where all writes fail, standard error does too."""
     plain = trial.plain_outcome(row)
+    is_beside = path == BESIDE
+    path = 'out' if is_beside else path
     if path == 'standard output':
         return (got.status, fault_told(row, got)) == (5, b'') and plain.printed.startswith(got.printed) and trial.has_whole_file(row, got)
     if path == 'standard error' and how == 'on' and (got.status, plain.status) in ((5, 0), (5, 1)):
@@ -336,18 +340,19 @@ def is_told_fault(trial, row, got, call, path, how, answer):
         return (got.status, got.printed) == (plain.status, plain.printed) and trial.has_whole_file(row, got)
     if answer == errno.ENOMEM and is_want_of_memory(row, got):
         return True
-    may_be_cut = path == 'out' and call != 'open'
+    may_be_cut = path == 'out' and call != 'open' and not is_beside
     is_told = fault_told(row, got) == b'file %s\n' % path.encode() or (call == 'write' and how == 'on' and fault_told(row, got) == b'')
     return (got.status, got.printed) == (5, b'') and is_told and (may_be_cut or got.out == BEFORE)
 
 
 def judge_file_run(trial, row, got, settings, how, answer):
-    """A fault of a close loses nothing: a file that was written was brought to the disk before, and a fault of that is told."""
+    """A fault of a close loses nothing: a file that was written was brought to the disk before, and a fault of that is told.
+    Where no file can be opened beside, the file is written in its place."""
     refusal = trial.first_refusal()
     own = trial.is_own_answer(row, got)
     if refusal is None or answer in HARMLESS:
         right = own
-    elif refusal[0] == 'close' and own:
+    elif own and (refusal[0] == 'close' or refusal == ['open', BESIDE]):
         right = True
     else:
         right = is_told_fault(trial, row, got, *refusal, how, answer)
