@@ -166,7 +166,8 @@ fn drop_choices(
     Ok(())
 }
 
-/// Choices that suffice, of all: first many at once are dropped, and at the end each in turn.
+/// Choices that suffice, of all: first many at once are dropped, and at the end each in turn, the last ones before the first, since a
+/// cycle is told from its lowest rank on.
 fn least(
     alloc: Global,
     text: &[u8],
@@ -182,6 +183,7 @@ fn least(
             drop_choices(alloc, text, choices, &mut kept, size, left)?;
         }
     }
+    kept.reverse();
     Ok(Sufficient {
         extent: Extent::Whenever,
         kept,
@@ -208,7 +210,7 @@ pub fn choose(
     if always_hangs(alloc, text, left)? {
         return Ok(no_choices(alloc, Extent::Always));
     }
-    let all: Vec<usize> = (0..choices.len()).collect(alloc)?;
+    let all: Vec<usize> = (0..choices.len()).rev().collect(alloc)?;
     let pinned = text_with(alloc, text, choices, &all)?;
     if !always_hangs(alloc, &pinned, left)? {
         return Ok(no_choices(alloc, Extent::NotFound));

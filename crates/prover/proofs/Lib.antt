@@ -1,4 +1,5 @@
 pub mod Answering
 pub mod Elements
+pub mod Rotated
 pub mod Stations
 pub mod Walks

@@ -17,6 +17,9 @@ pub struct Manner {
     pub highest_rank: bool,
     /// A rank that issues only where nothing else is enabled.
     pub held_back: Option<u32>,
+    /// From where on a match or see is looked for first: this many sends and finders behind the first, over
+    /// and over; another number in each step, but 0 stays 0.
+    pub chance: u64,
 }
 
 /// Sees where it can, then issues where it can, of the lowest rank first, and else matches; buffers only what it must.
@@ -27,6 +30,7 @@ const PLAIN: Manner = Manner {
     sees_last: false,
     highest_rank: false,
     held_back: None,
+    chance: 0,
 };
 
 /// Sees and matches where it can, and else issues; buffers what it may.
@@ -73,4 +77,24 @@ pub fn manner_at(turn: u32) -> Manner {
         held_back: Some(turn.saturating_sub(FIRST.len() as u32)),
         ..PLAIN
     }
+}
+
+/// How many manners there are in which the matches are chosen by chance.
+pub const CHANCES: u64 = 48;
+
+/// A manner in which the matches are chosen by chance, for each number from 1.
+pub fn by_chance(number: u64) -> Manner {
+    Manner {
+        buffers: number % 4 != 0,
+        matches_first: number % 2 == 0,
+        chance: number.wrapping_mul(0x9e37_79b9_7f4a_7c15),
+        ..PLAIN
+    }
+}
+
+/// What chance is in the next step: 0 stays 0.
+pub fn next_chance(chance: u64) -> u64 {
+    let first = chance ^ (chance << 13);
+    let second = first ^ (first >> 7);
+    second ^ (second << 17)
 }

@@ -6,7 +6,7 @@ ghost use Rattle.semantics.specs.Machine.{IsConfigurationOf, IsEnabled};
 ghost use Rattle.histories.specs.Places.{find_step};
 ghost use Rattle.prover.specs.Walks.{IsWalk, NothingButSees, NothingEnabled, NoFindBy, NoIssueOf, finds, is_open_finder, is_open_send, is_other};
 
-use crate::manner::Manner;
+use crate::manner::{Manner, next_chance};
 use callorder::{Kind, LongProgram};
 use semantics::{State, Step};
 use std::alloc::{AllocError, Global};
@@ -19,6 +19,25 @@ fn in_turn<T>(mut list: Vec<T>, last_first: bool) -> Vec<T>
         list.reverse();
     }
     list
+}
+
+/// The list from this place on, and then what stands before it; the place counts over and over.
+fn from_place<T>(mut list: Vec<T>, place: u64) -> Vec<T>
+    ensures { IsPermutation list.items result.items }
+{
+    if list.is_empty() {
+        return list;
+    }
+    let first = (place % list.len() as u64) as usize;
+    list.rotate_left(first);
+    list
+}
+
+/// The list as this manner goes through it.
+fn arranged<T>(list: Vec<T>, manner: Manner) -> Vec<T>
+    ensures { IsPermutation list.items result.items }
+{
+    in_turn(from_place(list, manner.chance), manner.last_match)
 }
 
 /// The ranks but the one that is held back.
@@ -182,22 +201,22 @@ fn find_of(
 }
 
 /// An enabled step by which a probe sees a message, or by which a taker is matched, where there is one: by send, then by
-/// finder, the first or the last. It looks only at sends that are not matched and finders that have found nothing.
+/// finder, as the manner goes through them. It looks only at sends that are not matched and finders that have found nothing.
 fn next_find(
     alloc: Global,
     program: &LongProgram,
     state: &State,
     sees: bool,
-    last_first: bool,
+    manner: Manner,
 ) -> Result<Option<Step>, AllocError>
     ensures some { IfOk result (λ found. IfSome found (IsEnabled program.now state.now)) }
     ensures none { IfOk result (λ found. IfNone found (NoFindBy program.now state.now sees)) }
 {
-    let finders = in_turn(open_finders(alloc, program, state, sees)?, last_first);
+    let finders = arranged(open_finders(alloc, program, state, sees)?, manner);
     if finders.is_empty() {
         return Ok(None);
     }
-    let sends = in_turn(open_sends(alloc, program, state)?, last_first);
+    let sends = arranged(open_sends(alloc, program, state)?, manner);
     Ok(find_of(program, state, sees, &sends, &finders))
 }
 
@@ -220,7 +239,7 @@ fn next_issue_or_match(
             return Ok(issue);
         }
     }
-    let matching = next_find(alloc, program, state, false, manner.last_match)?;
+    let matching = next_find(alloc, program, state, false, manner)?;
     if matching.is_some() {
         return Ok(matching);
     }
@@ -248,7 +267,7 @@ fn next_step(
     ensures none { IfOk result (λ found. IfNone found (NothingEnabled program.now state.now)) }
 {
     if !manner.sees_last {
-        let seeing = next_find(alloc, program, state, true, manner.last_match)?;
+        let seeing = next_find(alloc, program, state, true, manner)?;
         if seeing.is_some() {
             return Ok(seeing);
         }
@@ -257,7 +276,7 @@ fn next_step(
     if step.is_some() {
         return Ok(step);
     }
-    let seeing = next_find(alloc, program, state, true, manner.last_match)?;
+    let seeing = next_find(alloc, program, state, true, manner)?;
     Ok(seeing)
 }
 
@@ -270,12 +289,15 @@ pub fn walk(alloc: Global, program: &LongProgram, manner: Manner) -> Result<Vec<
     let ranks = in_turn(others, manner.highest_rank);
     let mut state = State::start(alloc, program)?;
     let mut steps = Vec::new(alloc);
+    let mut chance = manner.chance;
     for turn in 0..2 * program.calls().len() + 1 {
-        let Some(step) = next_step(alloc, program, &state, &ranks, manner)? else {
+        let now = Manner { chance, ..manner };
+        let Some(step) = next_step(alloc, program, &state, &ranks, now)? else {
             return Ok(steps);
         };
         steps.push(step)?;
         state.apply(program, step);
+        chance = next_chance(chance);
     }
     Ok(steps)
 }
