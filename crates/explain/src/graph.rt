@@ -2,8 +2,9 @@
 
 ghost use Rattle.semantics.specs.Machine.{IsStuckRun};
 
+use crate::circles::{Circles, components_of};
 use crate::needing::MOST_MISSES;
-use crate::wording::{are_in_one_line, put_line};
+use crate::wording::put_line;
 use callorder::LongProgram;
 use calltext::LongSource;
 use misses::misses_in;
@@ -23,9 +24,9 @@ fn put_layout(out: &mut String, ranks: u32) -> Result<(), AllocError> {
     out.push_str("  layout=circo;\n")
 }
 
-/// How the node of a rank is drawn that waits: red where it is on the cycle, with a double border where nothing can come.
-fn node_style(scene: &Scene<'_>, rank: u32, next: Option<u32>) -> &'static str {
-    if next.is_some() {
+/// How the node of a rank is drawn that waits: red where it is on a cycle, with a double border where nothing can come.
+fn node_style(scene: &Scene<'_>, circles: &Circles, rank: u32) -> &'static str {
+    if circles.has_rank(rank, scene.awaited_by(rank)) {
         return ", color=red";
     }
     if scene.lacks(rank) {
@@ -40,7 +41,7 @@ fn node_style(scene: &Scene<'_>, rank: u32, next: Option<u32>) -> &'static str {
 fn put_label(out: &mut String, scene: &Scene<'_>, call: usize) -> Result<(), AllocError> {
     put_line(out, scene, call)?;
     let operation = operation_of(scene.program, call);
-    if are_in_one_line(scene, call, operation) {
+    if scene.are_in_one_line(call, operation) {
         return Ok(());
     }
     out.push_str("\\nfor ")?;
@@ -60,8 +61,8 @@ fn put_count(out: &mut String, scene: &Scene<'_>, rank: u32) -> Result<(), Alloc
 fn put_node(
     out: &mut String,
     scene: &Scene<'_>,
+    circles: &Circles,
     rank: u32,
-    next: Option<u32>,
 ) -> Result<(), AllocError> {
     let Standing::Waits { call } = scene.standing(rank) else {
         write!(out, "  r{rank} [shape=box, label=\"rank {rank}\\n")?;
@@ -71,11 +72,11 @@ fn put_node(
     put_label(out, scene, call)?;
     put_count(out, scene, rank)?;
     out.push('"')?;
-    out.push_str(node_style(scene, rank, next))?;
+    out.push_str(node_style(scene, circles, rank))?;
     out.push_str("];\n")
 }
 
-/// How an edge is drawn: dashed where it is one of several, red where it is on the cycle.
+/// How an edge is drawn: dashed where it is one of several, red where it is on a cycle.
 fn edge_style(is_one_of_several: bool, is_on_cycle: bool) -> &'static str {
     match (is_one_of_several, is_on_cycle) {
         (false, false) => "",
@@ -85,20 +86,23 @@ fn edge_style(is_one_of_several: bool, is_on_cycle: bool) -> &'static str {
     }
 }
 
-/// Adds the edges from a rank; in large programs the first ones, and that of the cycle.
+/// Adds the edges from a rank; in large programs the first ones, and one that is on a cycle, if there is one.
 fn put_edges(
     out: &mut String,
     scene: &Scene<'_>,
+    circles: &Circles,
     rank: u32,
-    next: Option<u32>,
 ) -> Result<(), AllocError> {
     let awaited = scene.awaited_by(rank);
     let are_several = awaited.len() > 1;
+    let most = scene.most_of_large();
+    let mut some_on_cycle = false;
     for (place, other) in awaited.iter().enumerate() {
-        let is_on_cycle = next == Some(*other);
-        if place < scene.most_of_large() || is_on_cycle {
+        let is_on_cycle = circles.has_edge(rank, *other);
+        if place < most || (is_on_cycle && !some_on_cycle) {
             let style = edge_style(are_several, is_on_cycle);
             writeln!(out, "  r{rank} -> r{other}{style};")?;
+            some_on_cycle |= is_on_cycle;
         }
     }
     Ok(())
@@ -147,29 +151,16 @@ fn put_near_misses(
     Ok(())
 }
 
-/// For each rank the rank of the cycle that it waits for, where it is on it.
-fn followers(alloc: Global, scene: &Scene<'_>) -> Result<Vec<Option<u32>>, AllocError> {
-    let mut next = vec![in alloc; None; scene.program.ranks() as usize]?;
-    for (place, rank) in scene.cycle.iter().enumerate() {
-        let rank = *rank as usize;
-        if rank < next.len() {
-            next[rank] = scene.next_at(place);
-        }
-    }
-    Ok(next)
-}
-
 /// Adds the nodes of all ranks, and the edges from them.
 fn put_ranks(
     out: &mut String,
     alloc: Global,
     scene: &Scene<'_>,
-    followers: &[Option<u32>],
+    circles: &Circles,
 ) -> Result<(), AllocError> {
     for rank in 0..scene.program.ranks() {
-        let next = followers.get(rank as usize).copied().unwrap_or(None);
-        put_node(out, scene, rank, next)?;
-        put_edges(out, scene, rank, next)?;
+        put_node(out, scene, circles, rank)?;
+        put_edges(out, scene, circles, rank)?;
         put_near_misses(out, alloc, scene, rank)?;
     }
     Ok(())
@@ -177,8 +168,8 @@ fn put_ranks(
 
 /// The graph of who waits for whom at the end of a run that ends stuck, in the language of Graphviz: a node for each rank with the line
 /// and the words of the call that it waits in, a box where it is finished, and with a double border where nothing can come; an edge for
-/// each rank that is waited for, solid where that rank is needed and dashed where any of several is enough; the nodes and the edges of a
-/// cycle in red; and dashed grey edges to near misses. More than 16 ranks are laid out on a circle. `text` is the program's text, `source`
+/// each rank that is waited for, solid where that rank is needed and dashed where any of several is enough; the nodes and the edges of all
+/// cycles in red; and dashed grey edges to near misses. More than 16 ranks are laid out on a circle. `text` is the program's text, `source`
 /// what it says, and `program` its calls. The only error is want of memory.
 pub fn wait_graph(
     alloc: Global,
@@ -190,10 +181,10 @@ pub fn wait_graph(
     requires { IsStuckRun program.now steps.now }
 {
     let scene = scene_of(alloc, text, source, program, steps, false)?;
-    let followers = followers(alloc, &scene)?;
+    let circles = components_of(alloc, &scene.awaited)?;
     let mut out = String::from_str(alloc, "digraph waits {\n")?;
     put_layout(&mut out, program.ranks())?;
-    put_ranks(&mut out, alloc, &scene, &followers)?;
+    put_ranks(&mut out, alloc, &scene, &circles)?;
     out.push_str("}\n")?;
     Ok(out.into_bytes())
 }

@@ -1,7 +1,7 @@
 //! What a rank that waits needs, as a text tells it: the calls that could end its wait, what became of them, and near misses.
 
 use crate::text::MOST_TOLD;
-use crate::wording::{put_call, put_call_of, put_number_of};
+use crate::wording::{put_call_of, put_line, put_number_of};
 use callorder::{LongProgram, Message, Pattern};
 use misses::{Part, misses_in};
 use scene::Scene;
@@ -31,8 +31,11 @@ fn put_where(out: &mut String, scene: &Scene<'_>, call: usize) -> Result<(), All
     let Standing::Waits { call } = scene.standing(rank) else {
         return Ok(());
     };
-    let number = call.saturating_add(1);
-    write!(out, "rank {rank} waits in call {number}")
+    let Some(label) = scene.labels.get(call) else {
+        return Ok(());
+    };
+    let line = label.line();
+    write!(out, "rank {rank} waits in line {line}")
 }
 
 /// Tells by which call a call that fits is taken, or which message it took.
@@ -280,6 +283,21 @@ fn put_miss(
     out.push('\n')
 }
 
+/// Whether the two calls were told as a near miss before: both are waited for, and the other one by an
+/// earlier rank, of which nothing else is told than of this one.
+fn is_told_before(scene: &Scene<'_>, operation: usize, other: usize) -> bool {
+    let (Some(own), Some(label)) = (scene.labels.get(operation), scene.labels.get(other)) else {
+        return false;
+    };
+    if label.rank() >= own.rank() || scene.lacks(label.rank()) != scene.lacks(own.rank()) {
+        return false;
+    }
+    match scene.standing(label.rank()) {
+        Standing::Waits { call } => operation_of(scene.program, call) == other,
+        Standing::Finished | Standing::Ready => false,
+    }
+}
+
 /// Tells the first near misses of an operation, if there are any.
 fn put_misses(
     out: &mut String,
@@ -289,7 +307,9 @@ fn put_misses(
 ) -> Result<(), AllocError> {
     let likely = scene.likely_misses(alloc, operation)?;
     for other in likely.iter().take(scene.most(MOST_MISSES)) {
-        put_miss(out, scene, operation, *other)?;
+        if !is_told_before(scene, operation, *other) {
+            put_miss(out, scene, operation, *other)?;
+        }
     }
     Ok(())
 }
@@ -307,7 +327,7 @@ fn put_fetch(
     out.push_str("    matched with ")?;
     put_call_of(out, scene, probe)?;
     out.push_str("\n    whose receive, ")?;
-    put_call(out, scene, receive)?;
+    put_line(out, scene, receive)?;
     out.push_str(", is not reached: ")?;
     put_where(out, scene, receive)?;
     out.push('\n')

@@ -1,18 +1,33 @@
 //! The text that explains a deadlock.
 
+ghost use Rattle.std.specs.Prelude.{◌≡◌, IfOk};
 ghost use Rattle.semantics.specs.Machine.{IsStuckRun};
+ghost use Rattle.frequency.specs.Frequencies.{IsFrequency};
+ghost use Rattle.explain.specs.Often.{BeginsWith, often_line};
 
+use crate::alike::{Group, groups_of};
+use crate::balancing::{Calls, put_balance};
 use crate::needing::put_need;
-use crate::wording::{are_in_one_line, put_call, put_call_of, put_line, put_number_of};
+use crate::wording::{put_call_of, put_line, put_number_of, put_numbers};
 use callorder::LongProgram;
 use calltext::LongSource;
-use scene::{Choice, MOST_OF_LARGE, Scene, choices_of, needed, scene_of};
+use frequency::Frequency;
+use scene::{Choice, MOST_OF_LARGE, Parting, Scene, choices_of, needed, parting_of, scene_of};
 use semantics::Step;
 use std::alloc::{AllocError, Global};
 use waits::{Standing, fitting, operation_of};
 
+/// The heading of channels that don't balance.
+const BALANCE: &str = "sends and receives that differ in number:";
+
 /// The most ranks, and the most messages, that a list tells.
 pub const MOST_TOLD: usize = 8;
+
+/// The most ranks that wait alike and are told each.
+const MOST_ALIKE: usize = 3;
+
+/// The most parts of a list of ranks: a rank, or a row of them.
+const MOST_PARTS: usize = 6;
 
 /// The most messages that are named where a wildcard took another one.
 const MOST_RIVALS: usize = 3;
@@ -63,7 +78,7 @@ fn put_link(out: &mut String, scene: &Scene<'_>, rank: u32, next: u32) -> Result
     let operation = operation_of(scene.program, call);
     write!(out, "rank {rank} waits in ")?;
     put_line(out, scene, call)?;
-    if !are_in_one_line(scene, call, operation) {
+    if !scene.are_in_one_line(call, operation) {
         out.push_str(" for ")?;
         put_line(out, scene, operation)?;
     }
@@ -246,11 +261,11 @@ fn put_waiting(
     call: usize,
 ) -> Result<(), AllocError> {
     write!(out, "  rank {rank} waits in ")?;
-    put_call(out, scene, call)?;
+    put_line(out, scene, call)?;
     let operation = operation_of(scene.program, call);
-    if operation != call {
+    if !scene.are_in_one_line(call, operation) {
         out.push_str(" for ")?;
-        put_call(out, scene, operation)?;
+        put_line(out, scene, operation)?;
     }
     out.push('\n')?;
     put_need(out, alloc, scene, call)
@@ -270,20 +285,42 @@ fn put_standing(
     }
 }
 
-/// Tells where the ranks stand that aren't finished, of those that wait for nobody, or of the others.
+/// Tells where ranks stand that wait alike: each, where they are few, and else the first one.
+fn put_group(
+    out: &mut String,
+    alloc: Global,
+    scene: &Scene<'_>,
+    group: &Group,
+) -> Result<(), AllocError> {
+    let count = group.ranks.len();
+    if count > scene.most(MOST_ALIKE) {
+        write!(out, "  {count} ranks (")?;
+        put_numbers(out, &group.ranks, MOST_PARTS)?;
+        out.push_str(") wait in the same way; the first:\n")?;
+        return put_standing(out, alloc, scene, group.first);
+    }
+    for rank in &group.ranks {
+        put_standing(out, alloc, scene, *rank)?;
+    }
+    Ok(())
+}
+
+/// Tells where the ranks stand that aren't finished, of those that wait for nobody, or of the others;
+/// those that wait alike together.
 fn standings(alloc: Global, scene: &Scene<'_>, lack: bool) -> Result<String, AllocError> {
     let mut out = String::new(alloc);
     let most = scene.most(MOST_TOLD);
-    let mut told: usize = 0;
-    for rank in 0..scene.program.ranks() {
-        if scene.standing(rank) != Standing::Finished && scene.lacks(rank) == lack {
-            if told < most {
-                put_standing(&mut out, alloc, scene, rank)?;
-            }
-            told = told.saturating_add(1);
-        }
+    let groups = groups_of(alloc, scene, lack)?;
+    for group in groups.iter().take(most) {
+        put_group(&mut out, alloc, scene, group)?;
     }
-    put_more(&mut out, most, told)?;
+    let mut more: usize = 0;
+    for group in groups.iter().skip(most) {
+        more = more.saturating_add(group.ranks.len());
+    }
+    if more > 0 {
+        writeln!(out, "  and {more} more ranks")?;
+    }
     Ok(out)
 }
 
@@ -420,6 +457,24 @@ fn put_part(out: &mut String, heading: &str, part: &String) -> Result<(), AllocE
     out.push_str(part.as_str())
 }
 
+/// Tells the channels whose messages and receives differ in number: those of which a rank waits for a
+/// call, or the others.
+fn balance(alloc: Global, scene: &Scene<'_>, awaited: bool) -> Result<String, AllocError> {
+    let mut out = String::new(alloc);
+    let most = scene.most(MOST_TOLD);
+    let mut told: usize = 0;
+    for sides in &scene.imbalances {
+        if scene.is_awaited(sides) == awaited {
+            if told < most {
+                put_balance(&mut out, Calls::of(scene), sides)?;
+            }
+            told = told.saturating_add(1);
+        }
+    }
+    put_more(&mut out, most, told)?;
+    Ok(out)
+}
+
 /// Tells what the deadlock comes from, and then `decided`, a text on what decided it, and what the steps decided.
 fn put_cause(
     out: &mut String,
@@ -429,6 +484,7 @@ fn put_cause(
     decided: &str,
     choices: &[Choice],
 ) -> Result<(), AllocError> {
+    put_part(out, BALANCE, &balance(alloc, scene, true)?)?;
     put_cycle(out, scene)?;
     put_part(out, "what can't come:", lacks)?;
     out.push_str(decided)?;
@@ -458,7 +514,8 @@ fn put_end(
     put_part(out, heading, &standings)?;
     put_part(out, "who waits for whom:", &waiters(alloc, scene)?)?;
     let heading = "messages that nobody received:";
-    put_part(out, heading, &messages(alloc, scene)?)
+    put_part(out, heading, &messages(alloc, scene)?)?;
+    put_part(out, BALANCE, &balance(alloc, scene, false)?)
 }
 
 /// Tells all of the end of a run but the first line.
@@ -474,27 +531,124 @@ fn put_all(
     put_end(out, alloc, scene, !lacks.is_empty())
 }
 
-/// The text, in plain ASCII, that explains a run of a program that ends stuck: a cycle of ranks that wait for one another, and the
-/// ranks for which nothing can come; then `decided`, a text on what decided it; the choices on the way; receives that took another
-/// message than a probe before them saw; where the other ranks stand and for what they wait; who waits for whom; and which messages
-/// nobody received. Long lists are cut, and told by their number, unless each is wanted whole. `text` is the program's text, `source`
-/// what it says, and `program` its calls. The only error is want of memory.
+/// The first line of a text on a deadlock, which says whether it comes in every run.
+fn often_line(frequency: &Frequency) -> &'static str
+    ensures { result.now ≡ often_line frequency.now }
+{
+    match frequency {
+        Frequency::Always => "deadlock in every run (proved)\n",
+        Frequency::Sometimes(_) => "deadlock in some runs; others end well\n",
+        Frequency::Unknown => {
+            "deadlock in every run that was tried; whether others end well isn't known\n"
+        }
+    }
+}
+
+/// A text below the line that says whether the deadlock comes in every run.
+fn below_often(alloc: Global, frequency: &Frequency, rest: &str) -> Result<Vec<u8>, AllocError>
+    ensures { IfOk result (λ told. BeginsWith (often_line frequency.now) told.items) }
+{
+    let often = often_line(frequency);
+    let mut told = Vec::from_slice(alloc, often.as_bytes())?;
+    told.extend_from_slice(rest.as_bytes())?;
+    Ok(told)
+}
+
+/// Tells where the run parts from one that ends well.
+fn put_parting(
+    out: &mut String,
+    scene: &Scene<'_>,
+    parting: Option<Parting>,
+) -> Result<(), AllocError> {
+    out.push_str("where they part first:\n  ")?;
+    match parting {
+        None => out.push_str("the order of the steps alone\n"),
+        Some(Parting::Buffered { send, first }) => {
+            put_call_of(out, scene, send)?;
+            out.push_str(if first {
+                " is buffered here, and not in a run that ends well\n"
+            } else {
+                " isn't buffered here, and is in a run that ends well\n"
+            })
+        }
+        Some(
+            Parting::Found {
+                finder,
+                send,
+                other,
+            },
+        ) => {
+            put_call_of(out, scene, finder)?;
+            out.push_str(" finds the message of ")?;
+            put_call_of(out, scene, send)?;
+            out.push_str("\n    and that of ")?;
+            put_call_of(out, scene, other)?;
+            out.push_str(" in a run that ends well\n")
+        }
+    }
+}
+
+/// Tells where the run first parts from one that ends well, where there is such a one.
+fn put_parting_from(
+    out: &mut String,
+    alloc: Global,
+    scene: &Scene<'_>,
+    program: &LongProgram,
+    steps: &[Step],
+    frequency: &Frequency,
+) -> Result<(), AllocError>
+    requires stuck { IsStuckRun program.now steps.now }
+    requires frequency { IsFrequency program.now frequency.now }
+{
+    let Frequency::Sometimes(others) = frequency else {
+        return Ok(());
+    };
+    let parting = parting_of(alloc, scene, program, steps, others)?;
+    put_parting(out, scene, parting)
+}
+
+/// The text below the first line.
+fn rest_of(
+    alloc: Global,
+    scene: &Scene<'_>,
+    program: &LongProgram,
+    steps: &[Step],
+    frequency: &Frequency,
+    decided: &str,
+) -> Result<String, AllocError>
+    requires stuck { IsStuckRun program.now steps.now }
+    requires frequency { IsFrequency program.now frequency.now }
+{
+    let choices = choices_of(alloc, program, steps)?;
+    let count = steps.len();
+    let noun = if count == 1 { "step" } else { "steps" };
+    let mut out = format!(in alloc; "deadlock after {count} {noun}\n")?;
+    put_parting_from(&mut out, alloc, scene, program, steps, frequency)?;
+    put_all(&mut out, alloc, scene, decided, &choices)?;
+    Ok(out)
+}
+
+/// The text, in plain ASCII, that explains a run of a program that ends stuck: whether every run does, as `frequency` tells, and where
+/// some end well, where the run first parts from such a one; channels whose sends and receives differ in number; a cycle of ranks that wait
+/// for one another, and the ranks for which nothing can come; then `decided`, a text on what decided it; the choices on the way; receives
+/// that took another message than a probe before them saw; where the other ranks stand and for what they wait; who waits for whom; and
+/// which messages nobody received. Long lists are cut, and told by their number, unless each is wanted whole. `text` is the program's text,
+/// `source` what it says, and `program` its calls. The only error is want of memory.
 pub fn explanation(
     alloc: Global,
     text: &[u8],
     source: &LongSource,
     program: &LongProgram,
     steps: &[Step],
+    frequency: &Frequency,
     decided: &str,
     whole: bool,
 ) -> Result<Vec<u8>, AllocError>
-    requires { IsStuckRun program.now steps.now }
+    requires stuck { IsStuckRun program.now steps.now }
+    requires frequency { IsFrequency program.now frequency.now }
+    ensures { IfOk result (λ told. BeginsWith (often_line frequency.now) told.items) }
 {
     let scene = scene_of(alloc, text, source, program, steps, whole)?;
-    let choices = choices_of(alloc, program, steps)?;
-    let count = steps.len();
-    let noun = if count == 1 { "step" } else { "steps" };
-    let mut out = format!(in alloc; "deadlock after {count} {noun}\n")?;
-    put_all(&mut out, alloc, &scene, decided, &choices)?;
-    Ok(out.into_bytes())
+    let rest = rest_of(alloc, &scene, program, steps, frequency, decided)?;
+    below_often(alloc, frequency, &rest)
 }

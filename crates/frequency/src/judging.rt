@@ -1,14 +1,14 @@
 //! What the run that buffers as much as the policy allows tells of all runs.
 
-ghost use Rattle.std.specs.Prelude.{◌≡◌, IfOk};
-ghost use Rattle.semantics.specs.Machine.{opening, after_all};
+ghost use Rattle.std.specs.Prelude.{◌≡◌, IfNone, IfOk, IfSome};
+ghost use Rattle.semantics.specs.Machine.{opening, after_all, IsFinishedRun};
 ghost use Rattle.races.specs.Races.{NamesSources};
 ghost use Rattle.leastrun.specs.LeastBuffered.{IsMostBufferedRun};
-ghost use Rattle.frequency.specs.Frequencies.{IsFrequency};
+ghost use Rattle.frequency.specs.Frequencies.{IsFrequency, LeastSticks};
 
 use callorder::LongProgram;
 use clocks::shows_no_race;
-use leastrun::{most_buffered_run, names_sources};
+use leastrun::{least_buffered_run, most_buffered_run, names_sources};
 use semantics::{State, Step};
 use std::alloc::{AllocError, Global};
 
@@ -19,8 +19,23 @@ pub enum Frequency {
     Always,
     /// Some run finishes: these steps are one.
     Sometimes(Vec<Step>),
-    /// Neither is known: the run that buffers all it may gets stuck, and messages may race in it.
+    /// Neither is known: the runs that buffer all they may, and as little as they may, get stuck, and
+    /// messages may race in the former.
     Unknown,
+}
+
+/// The run that buffers as little as the policy allows, if it finishes. The only error is want of
+/// memory.
+fn finished_least_run(alloc: Global, program: &LongProgram) -> Result<Option<Vec<Step>>, AllocError>
+    ensures some { IfOk result (λ least. IfSome least (λ steps. IsFinishedRun program.now steps.items)) }
+    ensures none { IfOk result (λ least. IfNone least (LeastSticks program.now)) }
+{
+    let (steps, state) = least_buffered_run(alloc, program)?;
+    let _calls = program.calls();
+    match state.unfinished(program) {
+        None => Ok(Some(steps)),
+        Some(_rank) => Ok(None),
+    }
 }
 
 /// What a run that buffers all it may, and the state at its end, tell of all runs. The only error is
@@ -44,10 +59,13 @@ fn judge_run(
         return Ok(Frequency::Always);
     }
     let is_shown = shows_no_race(alloc, program, state, &steps)?;
-    if !is_shown {
-        return Ok(Frequency::Unknown);
+    if is_shown {
+        return Ok(Frequency::Always);
     }
-    Ok(Frequency::Always)
+    match finished_least_run(alloc, program)? {
+        Some(least) => Ok(Frequency::Sometimes(least)),
+        None => Ok(Frequency::Unknown),
+    }
 }
 
 /// How often the runs of a program get stuck, by one run, the one that buffers as much as the policy

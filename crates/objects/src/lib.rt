@@ -5,4 +5,4 @@
 
 mod object;
 
-pub use object::object_text;
+pub use object::{Decider, Deciders, object_text};

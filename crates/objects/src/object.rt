@@ -1,11 +1,13 @@
 //! The JSON object that explains a run which ends stuck.
 
 ghost use Rattle.semantics.specs.Machine.{IsStuckRun};
+ghost use Rattle.frequency.specs.Frequencies.{IsFrequency};
 
 use callorder::LongProgram;
 use calltext::LongSource;
+use frequency::Frequency;
 use misses::misses_in;
-use scene::{CallLabel, Choice, Scene, choices_of, part_word, scene_of};
+use scene::{CallLabel, Choice, Parting, Scene, choices_of, part_word, parting_of, scene_of};
 use semantics::Step;
 use serde::Serialize;
 use serde_json::to_string;
@@ -60,18 +62,65 @@ struct Decision {
     others: Vec<usize>,
 }
 
+/// What decided a run: a send that was buffered, or not, or a call that found a message.
+#[derive(Drop, Serialize)]
+pub struct Decider {
+    /// `buffered`, `not buffered` or `finds`.
+    pub kind: &'static str,
+    /// The number of the call, from 1.
+    pub call: usize,
+    /// Its rank, from 0.
+    pub rank: u32,
+    /// Its line, from 1.
+    pub line: usize,
+    /// The rank whose message it finds.
+    pub source: Option<u32>,
+    /// The tag of that message.
+    pub tag: Option<u32>,
+    /// What is known of runs that do otherwise.
+    pub verdict: &'static str,
+}
+
+/// All that decided a run.
+#[derive(Drop)]
+pub struct Deciders {
+    /// What is known of them together.
+    pub extent: &'static str,
+    pub choices: Vec<Decider>,
+}
+
+/// The numbers of the sends and the receives of a channel, which differ in how many they are.
+#[derive(Drop, Serialize)]
+struct Unbalanced {
+    sends: Vec<usize>,
+    receives: Vec<usize>,
+}
+
+/// Where the run first parts from one that ends well.
+#[derive(Clone, Copy, Serialize)]
+struct Part {
+    kind: &'static str,
+    call: usize,
+    of: Option<usize>,
+    other: Option<usize>,
+}
+
 /// What is told of a deadlock.
 #[derive(Drop, Serialize)]
 struct Deadlock<'a> {
     answer: &'a str,
     status: u8,
+    runs: &'a str,
     steps: usize,
     calls: Vec<Line>,
     ranks: Vec<Rank>,
     cycle: Vec<u32>,
-    decided: Vec<&'a str>,
+    extent: &'a str,
+    decided: &'a Vec<Decider>,
     choices: Vec<Decision>,
+    parting: Option<Part>,
     unreceived: Vec<usize>,
+    unbalanced: Vec<Unbalanced>,
 }
 
 /// The number of a call, or of a step, by its place.
@@ -244,32 +293,94 @@ fn unreceived_of(alloc: Global, scene: &Scene<'_>) -> Result<Vec<usize>, AllocEr
     Ok(numbers)
 }
 
-/// The lines of a text below its first one, which is a heading.
-fn texts_of(alloc: Global, text: &str) -> Result<Vec<&str>, AllocError> {
-    text.lines()
-        .skip(1)
-        .map(|line| line.trim_start())
-        .collect(alloc)
+/// The channels whose sends and receives differ in number.
+fn unbalanced_of(alloc: Global, scene: &Scene<'_>) -> Result<Vec<Unbalanced>, AllocError> {
+    let mut unbalanced = Vec::new(alloc);
+    for sides in &scene.imbalances {
+        unbalanced.push(Unbalanced {
+            sends: numbers_of(alloc, &sides.sends)?,
+            receives: numbers_of(alloc, &sides.takers)?,
+        })?;
+    }
+    Ok(unbalanced)
+}
+
+/// In which runs the program gets stuck.
+fn runs_word(frequency: &Frequency) -> &'static str {
+    match frequency {
+        Frequency::Always => "every",
+        Frequency::Sometimes(_) => "some",
+        Frequency::Unknown => "unknown",
+    }
+}
+
+/// Where a run parts from another one.
+fn part_of(parting: Parting) -> Part {
+    match parting {
+        Parting::Buffered { send, first } => Part {
+            kind: if first { "buffered" } else { "not buffered" },
+            call: number_of(send),
+            of: None,
+            other: None,
+        },
+        Parting::Found {
+            finder,
+            send,
+            other,
+        } => Part {
+            kind: "finds",
+            call: number_of(finder),
+            of: Some(number_of(send)),
+            other: Some(number_of(other)),
+        },
+    }
+}
+
+/// Where a run first parts from one that ends well, where there is such a one.
+fn parting_from(
+    alloc: Global,
+    scene: &Scene<'_>,
+    program: &LongProgram,
+    steps: &[Step],
+    frequency: &Frequency,
+) -> Result<Option<Part>, AllocError>
+    requires stuck { IsStuckRun program.now steps.now }
+    requires frequency { IsFrequency program.now frequency.now }
+{
+    let Frequency::Sometimes(others) = frequency else {
+        return Ok(None);
+    };
+    let parting = parting_of(alloc, scene, program, steps, others)?;
+    Ok(parting.map(part_of))
 }
 
 /// What is told of the end of a run.
 fn deadlock_of<'a>(
     alloc: Global,
     scene: &Scene<'_>,
-    steps: usize,
-    choices: &[Choice],
-    decided: &'a str,
-) -> Result<Deadlock<'a>, AllocError> {
+    program: &LongProgram,
+    steps: &[Step],
+    frequency: &Frequency,
+    deciders: &'a Deciders,
+) -> Result<Deadlock<'a>, AllocError>
+    requires stuck { IsStuckRun program.now steps.now }
+    requires frequency { IsFrequency program.now frequency.now }
+{
+    let choices = choices_of(alloc, program, steps)?;
     Ok(Deadlock {
         answer: "deadlock",
         status: 1,
-        steps,
+        runs: runs_word(frequency),
+        steps: steps.len(),
         calls: lines_of(alloc, scene)?,
         ranks: ranks_of(alloc, scene)?,
         cycle: Vec::from_slice(alloc, &scene.cycle)?,
-        decided: texts_of(alloc, decided)?,
-        choices: decisions_of(alloc, scene, choices)?,
+        extent: deciders.extent,
+        decided: &deciders.choices,
+        choices: decisions_of(alloc, scene, &choices)?,
+        parting: parting_from(alloc, scene, program, steps, frequency)?,
         unreceived: unreceived_of(alloc, scene)?,
+        unbalanced: unbalanced_of(alloc, scene)?,
     })
 }
 
@@ -283,24 +394,26 @@ fn text_of(alloc: Global, deadlock: &Deadlock<'_>) -> Result<String, AllocError>
     Ok(text)
 }
 
-/// The JSON object, on one line, that explains a run of a program that ends stuck: its calls with their lines and words; for each rank whether
-/// it is finished, the call that it waits in, the operation that this waits for, the ranks that it waits for, the calls that fit and what became
-/// of each, and near misses; a cycle of ranks; the lines of `decided` below its heading, on what decided it; the choices on the way; and which messages nobody received.
-/// All but the first list names calls by their numbers. `text` is the program's text, `source` what it says, and `program` its calls. The only
-/// error is want of memory.
+/// The JSON object, on one line, that explains a run of a program that ends stuck: whether every run does; its calls with their lines
+/// and words; for each rank whether it is finished, the call that it waits in, the operation that this waits for, the ranks that it waits
+/// for, the calls that fit and what became of each, and near misses; a cycle of ranks; what decided it, with what is known of each; the
+/// choices on the way; where the run first parts from one that ends well; which messages nobody received; and channels whose sends and
+/// receives differ in number. All but the first list, and what decided it, name calls by their numbers alone. `text` is the program's
+/// text, `source` what it says, and `program` its calls. The only error is want of memory.
 pub fn object_text(
     alloc: Global,
     text: &[u8],
     source: &LongSource,
     program: &LongProgram,
     steps: &[Step],
-    decided: &str,
+    frequency: &Frequency,
+    deciders: &Deciders,
 ) -> Result<Vec<u8>, AllocError>
-    requires { IsStuckRun program.now steps.now }
+    requires stuck { IsStuckRun program.now steps.now }
+    requires frequency { IsFrequency program.now frequency.now }
 {
     let scene = scene_of(alloc, text, source, program, steps, true)?;
-    let choices = choices_of(alloc, program, steps)?;
-    let deadlock = deadlock_of(alloc, &scene, steps.len(), &choices, decided)?;
+    let deadlock = deadlock_of(alloc, &scene, program, steps, frequency, deciders)?;
     let text = text_of(alloc, &deadlock)?;
     Ok(text.into_bytes())
 }

@@ -9,7 +9,10 @@ use Rattle.callorder.specs.Resolving.{IsTextOfWithin}
 use Rattle.semantics.specs.Machine.{IsStuckRun}
 use Rattle.semantics.specs.declared.state.Step.{Step}
 use Rattle.settings.specs.declared.form.Form.{Form}
-use Rattle.reports.specs.Explanations.{IsDrawnFrom, IsRunDrawn, TellsSizes, marks_of, sizes_text}
+use Rattle.explain.specs.Often.{BeginsWith, often_line}
+use Rattle.frequency.specs.declared.judging.Frequency.{Frequency}
+use Rattle.frequency.specs.Frequencies.{IsFrequency}
+use Rattle.reports.specs.Explanations.{IsDrawnFrom, IsNumbered, IsRunDrawn, SaysHowOften, TellsSizes, marks_of, sizes_text}
 
 pub run_drawn : (r : Result (Vec ℕ) AllocError) (form : Form) (text : List ℕ) (source : ProgramText) (p : MpiProgram) (steps : List Step) → IsTextOfWithin long text p
     → IsStuckRun p steps → IsTextWithin long text source → IfOk r (λ told. IsDrawnFrom form text source p steps told.items)
@@ -18,6 +21,12 @@ run_drawn (Ok told) form text source p steps of stuck is told_is = (p, of, stuck
 run_drawn (Err e) form text source p steps of stuck is told_is = told_is
 
 pub sizes_told : (r : Result (Vec ℕ) AllocError) (form : Form) (text : List ℕ) (p : MpiProgram) → IsTextOfWithin long text p
-    → IfOk r (λ told. told.items ≡ sizes_text (marks_of form) p) → IfOk r (λ told. TellsSizes form text told.items)
+    → IfOk r (λ told. IsNumbered form p (sizes_text (marks_of form) p) told.items) → IfOk r (λ told. TellsSizes form text told.items)
 sizes_told (Ok told) form text p of is = (p, of, is)
 sizes_told (Err e) form text p of is = is
+
+-- a text that begins with the line of how often the program gets stuck says that
+pub says_how_often : (r : Result (Vec ℕ) AllocError) (p : MpiProgram) (often : Frequency) → IsFrequency p often
+    → IfOk r (λ told. BeginsWith (often_line often) told.items) → IfOk r (λ told. SaysHowOften p told.items)
+says_how_often (Ok told) p often is begins = (often, is, begins)
+says_how_often (Err e) p often is begins = begins

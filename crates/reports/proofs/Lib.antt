@@ -1,4 +1,5 @@
 pub mod Counted
 pub mod Shorter
 pub mod Drawn
+pub mod Losses
 pub mod Tellings

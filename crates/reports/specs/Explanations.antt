@@ -11,6 +11,10 @@ use Rattle.callorder.specs.Resolving.{IsTextOf, IsTextOfWithin}
 use Rattle.semantics.specs.Machine.{IsStuckRun}
 use Rattle.semantics.specs.declared.state.Step.{Step}
 use Rattle.charts.specs.Chart.{chart_of}
+use Rattle.explain.specs.Losing.{TellsLosses}
+use Rattle.explain.specs.Often.{BeginsWith, often_line}
+use Rattle.frequency.specs.declared.judging.Frequency.{Frequency}
+use Rattle.frequency.specs.Frequencies.{IsFrequency}
 use Rattle.charts.specs.Picture.{picture_of}
 use Rattle.refutations.specs.declared.tree.Node.{Node}
 use Rattle.refutations.specs.declared.tree.Node.TheVariants.{Split, Leaf}
@@ -109,12 +113,17 @@ numbers_text m p claim = m.begin ++ (size_lines m p ++ (choice_lines m p ++ (cla
 abbrev pub counts_text : Form → MpiProgram → ClaimedRefutation → List ℕ
 counts_text form = numbers_text (marks_of form)
 
--- the text draws the run of these steps, as a chart or as a picture, where the form is one of these
+-- the text begins with how often the program gets stuck, which is so
+abbrev pub SaysHowOften : MpiProgram → List ℕ → Type 0
+SaysHowOften p text = (often : Frequency) × IsFrequency p often × BeginsWith (often_line often) text
+
+-- the text draws the run of these steps, as a chart or as a picture, where the form is one of these, and as a text says how often the
+-- program gets stuck
 abbrev pub IsDrawnFrom : Form → List ℕ → ProgramText → MpiProgram → List Step → List ℕ → Type 0
 IsDrawnFrom forms.Chart program source p steps text = text ≡ chart_of program source p steps
 IsDrawnFrom forms.Picture program source p steps text = text ≡ picture_of program source p steps
-IsDrawnFrom forms.Brief program source p steps text = Unit {0}
-IsDrawnFrom forms.Whole program source p steps text = Unit {0}
+IsDrawnFrom forms.Brief program source p steps text = SaysHowOften p text
+IsDrawnFrom forms.Whole program source p steps text = SaysHowOften p text
 IsDrawnFrom forms.Graph program source p steps text = Unit {0}
 IsDrawnFrom forms.Object program source p steps text = Unit {0}
 
@@ -138,15 +147,28 @@ wildcard_line m p =
 abbrev pub sizes_text : Marks → MpiProgram → List ℕ
 sizes_text m p = m.begin ++ (size_lines m p ++ (wildcard_line m p ++ (open_line m p ++ m.foot)))
 
+-- what a form adds below the numbers of a program, none of whose runs gets stuck: a text tells the messages that no receive takes
+abbrev pub IsAdded : Form → MpiProgram → List ℕ → Type 0
+IsAdded forms.Brief p added = TellsLosses p added
+IsAdded forms.Whole p added = TellsLosses p added
+IsAdded forms.Chart p added = added ≡ []
+IsAdded forms.Graph p added = added ≡ []
+IsAdded forms.Picture p added = added ≡ []
+IsAdded forms.Object p added = added ≡ []
+
+-- the text tells these numbers, and below them what the form adds
+abbrev pub IsNumbered : Form → MpiProgram → List ℕ → List ℕ → Type 0
+IsNumbered form p numbers text = (added : List ℕ) × IsAdded form p added × (text ≡ numbers ++ added)
+
 -- the text tells the numbers of the program of a text of any length
 abbrev pub TellsSizes : Form → List ℕ → List ℕ → Type 0
-TellsSizes form program text = (p : MpiProgram) × IsTextOfWithin long program p × (text ≡ sizes_text (marks_of form) p)
+TellsSizes form program text = (p : MpiProgram) × IsTextOfWithin long program p × IsNumbered form p (sizes_text (marks_of form) p) text
 
 -- A text that tells sizes comes where the evidence refutes the program, and tells those of the program that the one text is of and of the
 -- refutation that the other is of; a text on a deadlock where the evidence shows one, whose run a chart and a picture draw; and a refusal has a
 -- verdict's reason.
 abbrev pub Explains : Form → List ℕ → List ℕ → Explained → Type 0
 Explains form program evidence (told.NoDeadlock text) =
-    Refutes program evidence × ((p : MpiProgram) × (claim : ClaimedRefutation) × IsTextOf program p × IsEvidenceText evidence (Refutation claim) × (text.items ≡ counts_text form p claim))
+    Refutes program evidence × ((p : MpiProgram) × (claim : ClaimedRefutation) × IsTextOf program p × IsEvidenceText evidence (Refutation claim) × IsNumbered form p (counts_text form p claim) text.items)
 Explains form program evidence (told.Deadlock text) = (shown : Shows program evidence) × IsDrawn form program shown.p shown.steps text.items
 Explains form program evidence (told.Refused reason) = IsReason program evidence reason

@@ -7,8 +7,9 @@ ghost use Rattle.callorder.specs.Resolving.{IsTextOfWithin};
 ghost use Rattle.semantics.specs.Headline.{IsNeverStuckWithin, IsStuckRunWithin};
 ghost use Rattle.reports.specs.Explanations.{IsRunDrawn, TellsSizes};
 
+use crate::added::numbered;
 use crate::counts::sizes_text;
-use crate::telling::{decided_if_short, run_text};
+use crate::telling::{ask_if_short, run_text};
 use callorder::LongProgram;
 use calltext::{LongSource, read_long};
 use semantics::Step;
@@ -18,7 +19,7 @@ use std::sync::Wait;
 use std::thread::Threads;
 
 /// What the text of a program says. The only error is want of memory.
-fn source_of(alloc: Global, text: &[u8]) -> Result<LongSource, AllocError>
+pub fn source_of(alloc: Global, text: &[u8]) -> Result<LongSource, AllocError>
     ensures { IfOk result (IsTextWithin long text.now) }
 {
     match read_long(alloc, text) {
@@ -55,17 +56,19 @@ pub fn explain_run<R: Threads + Wait + Sync>(
 {
     let program = program_of(alloc, text)?;
     let source = source_of(alloc, text)?;
-    let decided = decided_if_short(rt, alloc, text, schedule, form)?;
-    run_text(alloc, text, &source, &program, steps, &decided, form)
+    let asked = ask_if_short(rt, alloc, text, schedule, form)?;
+    run_text(alloc, text, &source, &program, steps, &asked, form)
 }
 
 /// Tells that no run of the program of a text of any length ends stuck, and the program's numbers: of ranks, calls, messages and
 /// wildcards, and of sends that the policy leaves open. Of at most 1,024 calls it is told how many wildcards have a choice, of more how
-/// many there are. In a graph these are comments, in a chart lines. The only error is want of memory.
+/// many there are. In a graph these are comments, in a chart lines. Below them a text tells the messages that no receive takes. The only
+/// error is want of memory.
 pub fn explain_sizes(alloc: Global, text: &[u8], form: Form) -> Result<Vec<u8>, AllocError>
     requires { IsNeverStuckWithin long text.now }
     ensures { IfOk result (λ told. TellsSizes form text.now told.items) }
 {
     let program = program_of(alloc, text)?;
-    sizes_text(alloc, &program, form)
+    let numbers = sizes_text(alloc, &program, form)?;
+    numbered(alloc, text, &program, form, numbers)
 }

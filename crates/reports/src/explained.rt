@@ -4,10 +4,11 @@ ghost use Rattle.std.specs.Prelude.{◌<◌, ◌≡◌, ◌≤◌, IfOk, Ok};
 ghost use Rattle.callorder.specs.Resolving.{IsTextOf};
 ghost use Rattle.semantics.specs.Machine.{IsStuckRun};
 ghost use Rattle.checker.specs.Verdicts.{AreShown, IsJudged};
-ghost use Rattle.reports.specs.Explanations.{Explains, IsDrawnFrom};
+ghost use Rattle.reports.specs.Explanations.{Explains, IsDrawnFrom, IsNumbered, counts_text};
 
+use crate::added::numbered;
 use crate::counts::counts_text;
-use crate::telling::{decided_text, run_text};
+use crate::telling::{ask, run_text};
 use callorder::LongProgram;
 use checker::{Judged, PieceGate, Reason, Refuted, StuckRun, judge};
 use settings::Form;
@@ -40,8 +41,8 @@ fn deadlock_text<R: Threads + Wait + Sync>(
 {
     let program: &LongProgram = &run.program;
     let steps = run.schedule.steps();
-    let decided = decided_text(rt, alloc, text, program, steps, form)?;
-    run_text(alloc, text, &run.source, program, steps, &decided, form)
+    let asked = ask(rt, alloc, text, program, steps, form)?;
+    run_text(alloc, text, &run.source, program, steps, &asked, form)
 }
 
 /// The text on the run that an evidence shows of a program.
@@ -62,6 +63,20 @@ fn deadlock<R: Threads + Wait + Sync>(
     }
 }
 
+/// The text on the program of this text, which is refuted.
+fn refuted_text(
+    alloc: Global,
+    text: &[u8],
+    refuted: &Refuted,
+    form: Form,
+) -> Result<Vec<u8>, AllocError>
+    ensures { IfOk result (λ told. IsNumbered form refuted.now.program (counts_text form refuted.now.program refuted.now.refutation) told.items) }
+{
+    let program: &LongProgram = &refuted.program;
+    let numbers = counts_text(alloc, &refuted.program, &refuted.refutation, form)?;
+    numbered(alloc, text, program, form, numbers)
+}
+
 /// The text on the program of a text that is refuted.
 fn no_deadlock(
     alloc: Global,
@@ -73,7 +88,7 @@ fn no_deadlock(
     requires { IsJudged program.now evidence.now (Ok (Judged.Refuted refuted.now)) }
     ensures { Explains form program.now evidence.now result }
 {
-    match counts_text(alloc, &refuted.program, &refuted.refutation, form) {
+    match refuted_text(alloc, program, refuted, form) {
         Ok(text) => Explained::NoDeadlock(text),
         Err(AllocError) => Explained::Refused(Reason::Memory),
     }
@@ -83,7 +98,7 @@ fn no_deadlock(
 /// stands and who waits for whom, as a text or as a JSON object; by who waits for whom alone, as a graph in Graphviz's language; or by a
 /// chart of its steps, as a text or as a picture. A refutation is explained by the program's numbers of ranks, calls, messages, wildcards
 /// with a choice and sends that the policy leaves open, and its own numbers of variables, clauses, lines and leaves: in a graph as a comment,
-/// in a chart as lines. It is refused where `verdict` refuses it, for the same reasons.
+/// in a chart as lines; below them a text tells the messages that no receive takes. It is refused where `verdict` refuses it, for the same reasons.
 /// A refutation's lines are checked in so many pieces, 1 to 64.
 ///
 /// What the checker hands out of the two texts is explained, and neither is read again, so that the checker alone stands between an evidence

@@ -2,8 +2,10 @@
 //! evidence's text to that of the evidence without lines that aren't needed. What one run decides of a text of any length is told likewise.
 #![tactic(auto)]
 
+mod added;
 mod counts;
 mod decided;
+mod deciders;
 mod explained;
 mod exported;
 mod formula;

@@ -3,20 +3,27 @@
 ghost use Rattle.std.specs.Prelude.{IfOk};
 ghost use Rattle.callorder.specs.Resolving.{IsTextOf};
 ghost use Rattle.semantics.specs.Machine.{IsStuckRun};
-ghost use Rattle.reports.specs.Explanations.{IsDrawnFrom};
+ghost use Rattle.frequency.specs.Frequencies.{IsFrequency};
+ghost use Rattle.reports.specs.Explanations.{IsDrawnFrom, SaysHowOften};
 
+use crate::deciders::deciders_of;
 use callorder::LongProgram;
 use calltext::LongSource;
 use charts::{chart, picture};
 use checker::{NoRun, Reason};
-use choices::{Limits, decide, decide_run, told};
+use choices::{Decided, Limits, decide, decide_run, told};
 use explain::{explanation, wait_graph};
+use frequency::{Frequency, frequency_of};
 use objects::object_text;
+use prover::finished_walk;
 use semantics::Step;
 use settings::{Form, Options};
 use std::alloc::{AllocError, Global};
 use std::sync::Wait;
 use std::thread::Threads;
+
+/// The most calls of a program of which runs by chance are tried.
+const FEW_CALLS: usize = 1_024;
 
 /// How much is asked about what decided a run.
 fn limits() -> Limits {
@@ -35,45 +42,127 @@ fn tells_choices(form: Form) -> bool {
     }
 }
 
-/// The text on what decided a run of the program of a text, which ends stuck, where the form tells it.
-pub fn decided_text<R: Threads + Wait + Sync>(
+/// What is known of what decided a run.
+#[derive(Drop)]
+pub enum Asked {
+    /// The form doesn't tell it.
+    NotTold,
+    /// The program is larger than the formula takes.
+    TooLarge,
+    /// It was asked.
+    Known(Decided),
+}
+
+/// What decided a run of the program of a text, which ends stuck, where the form tells it.
+pub fn ask<R: Threads + Wait + Sync>(
     rt: &R,
     alloc: Global,
     text: &[u8],
     program: &LongProgram,
     steps: &[Step],
     form: Form,
-) -> Result<String, AllocError>
+) -> Result<Asked, AllocError>
     requires stuck { IsStuckRun program.now steps.now }
     requires program { IsTextOf text.now program.now }
 {
     if !tells_choices(form) {
-        return Ok(String::new(alloc));
+        return Ok(Asked::NotTold);
     }
     let decided = decide_run(rt, alloc, text, program, steps, limits())?;
-    told(alloc, text, &decided)
+    Ok(Asked::Known(decided))
 }
 
 /// The same of a program of any length, by the text of the steps as an evidence: it is asked only of a program that `prove` takes.
-pub fn decided_if_short<R: Threads + Wait + Sync>(
+pub fn ask_if_short<R: Threads + Wait + Sync>(
     rt: &R,
     alloc: Global,
     program: &[u8],
     evidence: &[u8],
     form: Form,
-) -> Result<String, AllocError> {
+) -> Result<Asked, AllocError> {
     if !tells_choices(form) {
-        return Ok(String::new(alloc));
+        return Ok(Asked::NotTold);
     }
     match decide(rt, alloc, program, evidence, limits()) {
-        Ok(decided) => told(alloc, program, &decided),
+        Ok(decided) => Ok(Asked::Known(decided)),
         Err(NoRun::Refused(Reason::Memory)) => Err(AllocError),
         // The program is larger than the formula takes, since the evidence shows a run.
-        Err(_refused) => String::from_str(
+        Err(_refused) => Ok(Asked::TooLarge),
+    }
+}
+
+/// The text on what decided a run.
+fn asked_text(alloc: Global, text: &[u8], asked: &Asked) -> Result<String, AllocError> {
+    match asked {
+        Asked::NotTold => Ok(String::new(alloc)),
+        Asked::TooLarge => String::from_str(
             alloc,
             "what decided it:\n  asked only of programs that prove takes\n",
         ),
+        Asked::Known(decided) => told(alloc, text, decided),
     }
+}
+
+/// How often the runs of a program get stuck, where its runs that buffer most and least don't tell it:
+/// of a program of at most 1,024 calls, runs by chance are tried.
+fn often_by_chance(alloc: Global, program: &LongProgram) -> Result<Frequency, AllocError>
+    requires { IsFrequency program.now Frequency.Unknown }
+    ensures { IfOk result (IsFrequency program.now) }
+{
+    if program.calls().len() > FEW_CALLS {
+        return Ok(Frequency::Unknown);
+    }
+    match finished_walk(alloc, program)? {
+        Some(steps) => Ok(Frequency::Sometimes(steps)),
+        None => Ok(Frequency::Unknown),
+    }
+}
+
+/// How often the runs of a program get stuck.
+fn often(alloc: Global, program: &LongProgram) -> Result<Frequency, AllocError>
+    ensures { IfOk result (IsFrequency program.now) }
+{
+    match frequency_of(alloc, program)? {
+        Frequency::Always => Ok(Frequency::Always),
+        Frequency::Sometimes(steps) => Ok(Frequency::Sometimes(steps)),
+        Frequency::Unknown => often_by_chance(alloc, program),
+    }
+}
+
+/// The text that explains a run of the program of this text, with all lists whole or not.
+fn explained_text(
+    alloc: Global,
+    text: &[u8],
+    source: &LongSource,
+    program: &LongProgram,
+    steps: &[Step],
+    asked: &Asked,
+    whole: bool,
+) -> Result<Vec<u8>, AllocError>
+    requires { IsStuckRun program.now steps.now }
+    ensures { IfOk result (λ told. SaysHowOften program.now told.items) }
+{
+    let frequency = often(alloc, program)?;
+    let decided = asked_text(alloc, text, asked)?;
+    explanation(
+        alloc, text, source, program, steps, &frequency, &decided, whole,
+    )
+}
+
+/// The object that explains a run of the program of this text.
+fn explained_object(
+    alloc: Global,
+    text: &[u8],
+    source: &LongSource,
+    program: &LongProgram,
+    steps: &[Step],
+    asked: &Asked,
+) -> Result<Vec<u8>, AllocError>
+    requires { IsStuckRun program.now steps.now }
+{
+    let frequency = often(alloc, program)?;
+    let deciders = deciders_of(alloc, asked)?;
+    object_text(alloc, text, source, program, steps, &frequency, &deciders)
 }
 
 /// The text, in this form, on a run of the program of this text that ends stuck.
@@ -83,7 +172,7 @@ pub fn run_text(
     source: &LongSource,
     program: &LongProgram,
     steps: &[Step],
-    decided: &str,
+    asked: &Asked,
     form: Form,
 ) -> Result<Vec<u8>, AllocError>
     requires { IsStuckRun program.now steps.now }
@@ -93,8 +182,8 @@ pub fn run_text(
         Form::Graph => wait_graph(alloc, text, source, program, steps),
         Form::Chart => chart(alloc, text, source, program, steps),
         Form::Picture => picture(alloc, text, source, program, steps),
-        Form::Object => object_text(alloc, text, source, program, steps, decided),
-        Form::Brief => explanation(alloc, text, source, program, steps, decided, false),
-        Form::Whole => explanation(alloc, text, source, program, steps, decided, true),
+        Form::Object => explained_object(alloc, text, source, program, steps, asked),
+        Form::Brief => explained_text(alloc, text, source, program, steps, asked, false),
+        Form::Whole => explained_text(alloc, text, source, program, steps, asked, true),
     }
 }

@@ -2,3 +2,4 @@ pub mod LineNumbers
 mod Listed
 mod Replayed
 mod Ends
+pub mod Edges

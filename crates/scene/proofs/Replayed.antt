@@ -3,7 +3,7 @@ use Rattle.std.proofs.Common.{◌≡◌, ℕ, ◌<◌, List, length, get_or, tak
 use Rattle.std.proofs.lemmas.Option.{slice_get-get_or}
 use Rattle.callorder.specs.Programs.{MpiProgram}
 use Rattle.semantics.specs.declared.state.Step.{Step}
-use Rattle.semantics.specs.Machine.{Configuration, IsConfigurationOf, IsEnabled, IsStuckRun, after_all, opening}
+use Rattle.semantics.specs.Machine.{Configuration, IsConfigurationOf, IsEnabled, IsRun, after_all, opening}
 use Rattle.semantics.proofs.Runs.{IsRun-at}
 
 -- the state after so many of the steps
@@ -12,6 +12,6 @@ pub record HasTaken (p : MpiProgram) (steps : List Step) (count : ℕ) (m : Conf
   pub now : m ≡ after_all (opening p) (take count steps)
 
 -- the next step is enabled there
-pub next_enabled : (p : MpiProgram) (steps : List Step) (count : ℕ) (m : Configuration) (d : Step) → IsStuckRun p steps → count < length steps → HasTaken p steps count m → IsEnabled p m (get_or steps count d)
-next_enabled p steps count m d stuck more taken =
-    subst (λ (n : Configuration). IsEnabled p n (get_or steps count d)) (sym taken.now) (IsRun-at p (opening p) steps count (get_or steps count d) stuck.run (slice_get-get_or steps count d more))
+pub next_enabled : (p : MpiProgram) (steps : List Step) (count : ℕ) (m : Configuration) (d : Step) → IsRun p (opening p) steps → count < length steps → HasTaken p steps count m → IsEnabled p m (get_or steps count d)
+next_enabled p steps count m d run more taken =
+    subst (λ (n : Configuration). IsEnabled p n (get_or steps count d)) (sym taken.now) (IsRun-at p (opening p) steps count (get_or steps count d) run (slice_get-get_or steps count d more))

@@ -1,7 +1,7 @@
 //! What the steps of a run do, with the calls that they are about.
 
 ghost use Rattle.std.specs.Prelude.{◌≡◌, IfOk};
-ghost use Rattle.semantics.specs.Machine.{IsStuckRun, after_all, opening};
+ghost use Rattle.semantics.specs.Machine.{IsRun, after_all, opening};
 ghost use Rattle.scene.specs.Acts.{act_of, acts_from};
 
 use callorder::LongProgram;
@@ -40,9 +40,9 @@ fn act_of(state: &State, step: Step) -> Act
     }
 }
 
-/// Takes the steps of a run that ends stuck.
+/// Takes the steps of a run.
 pub fn play(alloc: Global, program: &LongProgram, steps: &[Step]) -> Result<Played, AllocError>
-    requires { IsStuckRun program.now steps.now }
+    requires { IsRun program.now (opening program.now) steps.now }
     ensures acts { IfOk result (λ played. played.acts.items ≡ acts_from (opening program.now) steps.now) }
     ensures end { IfOk result (λ played. played.end ≡ after_all (opening program.now) steps.now) }
 {

@@ -9,13 +9,15 @@ ghost use Rattle.scene.specs.Labels.{call_labels};
 
 use crate::acts::play;
 use crate::labels::{CallLabel, call_labels};
+use crate::lasting::lasting_edges;
 use crate::sizes::is_large;
+use balance::{Imbalance, imbalances};
 use callorder::LongProgram;
 use calltext::LongSource;
-use misses::near_misses;
+use misses::{Part, misses_in, near_misses};
 use semantics::{State, Step};
 use std::alloc::{AllocError, Global};
-use waits::{Standing, cycle, edges, standing_of};
+use waits::{Standing, cycle, edges, fitting, operation_of, standing_of};
 
 /// The most entries of a list that is cut in large programs alone.
 pub const MOST_OF_LARGE: usize = 16;
@@ -32,6 +34,10 @@ pub struct Scene<'a> {
     pub awaited: Vec<Vec<u32>>,
     /// The ranks of a cycle, each of which waits for the next one and the last for the first; none where there is no cycle.
     pub cycle: Vec<u32>,
+    /// Channels whose sends and takers differ in number.
+    pub imbalances: Vec<Imbalance>,
+    /// Of each call whether it is of such a channel.
+    unbalanced: Vec<bool>,
     /// Whether each list is told whole.
     pub whole: bool,
     /// Whether the program has more than 64 ranks, or more than 1,024 calls.
@@ -97,17 +103,98 @@ impl Scene<'_> {
         }
     }
 
-    /// The near misses of an operation: those whose ranks have come to them, or all, where no rank has.
+    /// Whether the call is a send or a taker of a channel whose sends and takers differ in number.
+    pub fn is_unbalanced(&self, call: usize) -> bool {
+        self.unbalanced.get(call).copied().unwrap_or(false)
+    }
+
+    /// Whether a rank waits for a call of this channel.
+    pub fn is_awaited(&self, sides: &Imbalance) -> bool {
+        sides
+            .sends
+            .iter()
+            .chain(sides.takers.iter())
+            .any(|call| self.is_waited_for(*call))
+    }
+
+    /// Whether the call is of a rank of the cycle.
+    pub fn is_on_cycle(&self, call: usize) -> bool {
+        match self.labels.get(call) {
+            None => false,
+            Some(label) => self.cycle.iter().any(|rank| *rank == label.rank()),
+        }
+    }
+
+    /// Whether the rank of a call waits for it.
+    pub fn is_waited_for(&self, operation: usize) -> bool {
+        let Some(label) = self.labels.get(operation) else {
+            return false;
+        };
+        match self.standing(label.rank()) {
+            Standing::Waits { call } => operation_of(self.program, call) == operation,
+            Standing::Finished | Standing::Ready => false,
+        }
+    }
+
+    /// Whether two calls stand in one line.
+    pub fn are_in_one_line(&self, one: usize, other: usize) -> bool {
+        match (self.labels.get(one), self.labels.get(other)) {
+            (Some(one), Some(other)) => one.line() == other.line(),
+            _ => false,
+        }
+    }
+
+    /// Whether the call may be the one that was meant: one of another line, of a channel that doesn't
+    /// balance.
+    fn may_be_meant(&self, operation: usize, other: usize) -> bool {
+        self.is_unbalanced(other) && !self.are_in_one_line(operation, other)
+    }
+
+    /// Whether the calls are of the ranks that name each other, and miss in their tag or communicator.
+    fn is_of_peer(&self, operation: usize, other: usize) -> bool {
+        matches!(
+            misses_in(self.program, operation, other),
+            Some(Part::Tag) | Some(Part::Communicator)
+        )
+    }
+
+    /// The near misses of an operation that no call of the program fits, or whose channel has sends and
+    /// takers that differ in number, among calls of such channels; those of the ranks that name each
+    /// other first. None where it isn't such an operation.
     pub fn likely_misses(&self, alloc: Global, operation: usize) -> Result<Vec<usize>, AllocError> {
+        if !self.is_unbalanced(operation) && !fitting(alloc, self.program, operation)?.is_empty() {
+            return Ok(Vec::new(alloc));
+        }
         let all = near_misses(alloc, self.program, &self.state, operation)?;
-        let mut reached = Vec::new(alloc);
-        for other in &all {
-            if self.state.is_issued(self.program, *other) {
-                reached.push(*other)?;
+        let mut likely = Vec::new(alloc);
+        for of_peer in [true, false] {
+            for other in &all {
+                if self.is_of_peer(operation, *other) == of_peer
+                    && self.may_be_meant(operation, *other)
+                {
+                    likely.push(*other)?;
+                }
             }
         }
-        Ok(if reached.is_empty() { all } else { reached })
+        Ok(likely)
     }
+}
+
+/// Of each call whether it is of one of these channels.
+fn unbalanced_of(
+    alloc: Global,
+    program: &LongProgram,
+    imbalances: &[Imbalance],
+) -> Result<Vec<bool>, AllocError> {
+    let mut unbalanced = vec![in alloc; false; program.calls().len()]?;
+    for sides in imbalances {
+        for call in sides.sends.iter().chain(sides.takers.iter()) {
+            if let Some(is) = unbalanced.get_mut(*call) {
+                *is = true;
+            }
+        }
+    }
+    Ok(unbalanced)
 }
 
 /// Where each rank stands.
@@ -126,12 +213,28 @@ fn standings_of(
 }
 
 /// The ranks of a cycle; none where there is no cycle.
-fn cycle_of(alloc: Global, awaited: &[Vec<u32>]) -> Result<Vec<u32>, AllocError>
+fn any_cycle(alloc: Global, awaited: &[Vec<u32>]) -> Result<Vec<u32>, AllocError>
     ensures { IfOk result (λ ranks. IsCycleOrNone awaited.now ranks.items) }
 {
     let found = cycle(alloc, awaited)?;
     match found {
         None => Ok(Vec::new(alloc)),
+        Some(ranks) => Ok(ranks),
+    }
+}
+
+/// The same; one whose edges last comes before others.
+fn cycle_of(
+    alloc: Global,
+    awaited: &[Vec<u32>],
+    lasting: &[Vec<u32>],
+) -> Result<Vec<u32>, AllocError>
+    requires { (from to : ℕ) → HasEdge lasting.now from to → HasEdge awaited.now from to }
+    ensures { IfOk result (λ ranks. IsCycleOrNone awaited.now ranks.items) }
+{
+    let found = cycle(alloc, lasting)?;
+    match found {
+        None => any_cycle(alloc, awaited),
         Some(ranks) => Ok(ranks),
     }
 }
@@ -157,7 +260,10 @@ pub fn scene_of<'a>(
     let state = play(alloc, program, steps)?.end;
     let standings = standings_of(alloc, program, &state)?;
     let awaited = edges(alloc, program, &state)?;
-    let cycle = cycle_of(alloc, &awaited)?;
+    let lasting = lasting_edges(alloc, program, &standings, &awaited)?;
+    let cycle = cycle_of(alloc, &awaited, &lasting)?;
+    let imbalances = imbalances(alloc, program)?;
+    let unbalanced = unbalanced_of(alloc, program, &imbalances)?;
     Ok(Scene {
         program,
         labels,
@@ -165,6 +271,8 @@ pub fn scene_of<'a>(
         standings,
         awaited,
         cycle,
+        imbalances,
+        unbalanced,
         whole,
         large: is_large(program),
     })

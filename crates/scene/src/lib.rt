@@ -9,8 +9,10 @@ mod acts;
 mod choices;
 mod ending;
 mod labels;
+mod lasting;
 mod needs;
 mod numbering;
+mod parting;
 mod sizes;
 mod words;
 
@@ -20,5 +22,6 @@ pub use ending::{MOST_OF_LARGE, Scene, scene_of};
 pub use labels::{CallLabel, call_labels, shortened};
 pub use needs::needed;
 pub use numbering::{line_numbers, lines_are_numbered};
+pub use parting::{Parting, parting_of};
 pub use sizes::is_large;
 pub use words::part_word;

@@ -10,7 +10,7 @@ returns-then-names_sources-clause-frequency c =
     each_sticks c.args.program.now c.args.steps.items c.args.state.now c.in-Some._rank c.calls-calls.ensures.kept c.requires.run c.requires.end c.in-Some.ensures.some
     (c.names_sources.ensures.0 c.if-names_sources.true)
 
-pub returns-clause-frequency : goal.returns-clause-frequency
-returns-clause-frequency c =
+pub returns-then-is_shown-clause-frequency : goal.returns-then-is_shown-clause-frequency
+returns-then-is_shown-clause-frequency c =
     each_sticks_if_shown c.args.program.now c.args.steps.items c.args.state.now c.in-Some._rank c.calls-calls.ensures.kept c.requires.run c.requires.end c.in-Some.ensures.some
-    (c.shows_no_race.ensures (c.in_ok-is_shown.was ∙ ap Ok c.if-not-is_shown.false))
+    (c.shows_no_race.ensures (c.in_ok-is_shown.was ∙ ap Ok c.if-is_shown.true))

@@ -1,0 +1,2 @@
+pub mod Often
+pub mod Losing

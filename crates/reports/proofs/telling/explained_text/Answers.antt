@@ -1,0 +1,6 @@
+use Rattle.reports.proofs.Drawn.{says_how_often}
+use Rattle.reports.proofs.telling.explained_text.Goals as goal
+
+pub returns : goal.returns
+returns c =
+    says_how_often c.explanation.result c.args.program.now c.in_ok-frequency.frequency c.in_ok-frequency.ensures c.explanation.ensures
