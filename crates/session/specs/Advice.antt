@@ -1,4 +1,4 @@
--- What is said of a search that found no answer.
+-- What is said beside the answer of a search.
 use Rattle.std.specs.Prelude.{◌≡◌, ◌⊎◌, ℕ, List, Option, codes}
 use Rattle.pool.specs.declared.why.Why.{Why}
 use Rattle.pool.specs.declared.why.Why.TheVariants as whys
@@ -13,12 +13,17 @@ advice_line whys.Full = codes "progress: the log is full: only a smaller program
 advice_line whys.Left = codes "progress: a part of the search was left open: try again\n"
 advice_line whys.Memory = codes "progress: memory ran out: fewer --workers or a smaller program may help\n"
 
--- where there is no answer that line is told, or a beginning of it where the output failed; else nothing
+-- the line that says where to go on from a deadlock
+abbrev pub next_line : List ℕ
+next_line = codes "progress: mpiprove explain PROGRAM tells where it gets stuck, and why\n"
+
+-- where there is no answer the one line is told, after a deadlock the other one, below a refusal what helps, or a beginning of it where the output
+-- failed, or nothing, where memory ran out; and else nothing
 abbrev pub IsAdvisedOn : Answer → Option (List ℕ) → Option (List ℕ) → Type 0
 IsAdvisedOn (answers.Unknown why) told_old told_new = IsTold told_old told_new (advice_line why)
 IsAdvisedOn (answers.NoDeadlock evidence) told_old told_new = told_new ≡ told_old
-IsAdvisedOn (answers.Deadlock evidence) told_old told_new = told_new ≡ told_old
-IsAdvisedOn (answers.Refused reason) told_old told_new = told_new ≡ told_old
+IsAdvisedOn (answers.Deadlock evidence) told_old told_new = IsTold told_old told_new next_line
+IsAdvisedOn (answers.Refused reason) told_old told_new = (told_new ≡ told_old) ⊎ ((help : List ℕ) × IsTold told_old told_new help)
 
 -- the same of some answer, or nothing is told
 abbrev pub IsAdvised : Option (List ℕ) → Option (List ℕ) → Type 0

@@ -1,12 +1,22 @@
-//! What is said of a search that found no answer.
+//! What is said beside the answer of a search.
 
-ghost use Rattle.std.specs.Prelude.{◌≡◌};
+ghost use Rattle.std.specs.Prelude.{◌≡◌, ◌⊎◌, List, ℕ};
 ghost use Rattle.progress.specs.Telling.{IsTold};
-ghost use Rattle.session.specs.Advice.{IsAdvisedOn, advice_line};
+ghost use Rattle.session.specs.Advice.{IsAdvisedOn, advice_line, next_line};
 
+use calltext::Limits;
 use files::store;
-use prover::{Answer, Why};
+use helping::help;
+use prover::{Answer, Reason, Why};
+use std::alloc::{AllocError, Global};
 use std::io::Write;
+
+/// The line that says where to go on from a deadlock.
+fn next_line() -> &'static str
+    ensures { result.now ≡ next_line }
+{
+    "progress: mpiprove explain PROGRAM tells where it gets stuck, and why\n"
+}
 
 /// The line that says what is used up, and what may help.
 fn advice_line(why: Why) -> &'static str
@@ -22,24 +32,36 @@ fn advice_line(why: Why) -> &'static str
     }
 }
 
-/// Tells that line. Where the output fails, no more is told: the answer doesn't depend on it.
-fn tell_advice<E: Write>(why: Why, err: &mut E)
-    ensures { IsTold (E.contents err.old) (E.contents err.new) (advice_line why) }
+/// Tells a text. Where the output fails, no more is told: the answer doesn't depend on it.
+fn tell<E: Write>(text: &[u8], err: &mut E)
+    ensures { IsTold (E.contents err.old) (E.contents err.new) text.now }
 {
-    match store(err, advice_line(why).as_bytes()) {
+    match store(err, text) {
         Ok(()) => {}
         Err(_fault) => {}
     }
 }
 
-/// Says what is used up, and what may help, where there is no answer.
-pub fn advise<E: Write>(answer: &Answer, err: &mut E)
+/// Tells what helps where a program is refused, as `explain` does. Where memory runs out, nothing is
+/// told: the answer doesn't depend on it.
+fn tell_help<E: Write>(alloc: Global, program: &[u8], reason: Reason, err: &mut E)
+    ensures { (E.contents err.new ≡ E.contents err.old) ⊎ ((help : List ℕ) × IsTold (E.contents err.old) (E.contents err.new) help) }
+{
+    match help(alloc, Limits::short(), program, None, reason) {
+        Ok(text) => tell(&text, err),
+        Err(AllocError) => {}
+    }
+}
+
+/// Says what is used up, and what may help, where there is no answer; where to go on from a deadlock;
+/// and what helps where the program is refused.
+pub fn advise<E: Write>(alloc: Global, program: &[u8], answer: &Answer, err: &mut E)
     ensures { IsAdvisedOn answer.now (E.contents err.old) (E.contents err.new) }
 {
     match answer {
-        Answer::Unknown(why) => tell_advice(*why, err),
+        Answer::Unknown(why) => tell(advice_line(*why).as_bytes(), err),
         Answer::NoDeadlock(_evidence) => {}
-        Answer::Deadlock(_evidence) => {}
-        Answer::Refused(_reason) => {}
+        Answer::Deadlock(_evidence) => tell(next_line().as_bytes(), err),
+        Answer::Refused(reason) => tell_help(alloc, program, *reason, err),
     }
 }
