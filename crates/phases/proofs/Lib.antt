@@ -1,0 +1,9 @@
+pub mod Parts
+pub mod Walks
+pub mod Waiting
+pub mod Counting
+pub mod Clean
+pub mod Envelopes
+pub mod Joined
+pub mod Joining
+pub mod ManyPhases

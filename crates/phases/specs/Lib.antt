@@ -1,0 +1,6 @@
+pub mod Parts
+pub mod Cuts
+pub mod Joining
+pub mod Conditions
+pub mod Order
+pub mod Laws

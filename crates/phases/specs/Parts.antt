@@ -1,0 +1,44 @@
+-- Parts of a program: where its calls stand in the whole.
+use Rattle.std.specs.Prelude.{◌≡◌, ℕ, ◌+◌, ◌<◌, Some}
+use Rattle.callorder.specs.declared.calls.Call.{Call}
+use Rattle.callorder.specs.declared.calls.Kind.{Kind}
+use Rattle.callorder.specs.declared.calls.Kind.TheVariants.{Send, Receive, MatchedProbe, Probe, MatchedReceive, Wait}
+use Rattle.callorder.specs.Calls.{operation_of, is_start, receive_of, is_matched_receive}
+use Rattle.callorder.specs.Programs.{MpiProgram, HasRanksBelow, IsPairing, call_at}
+use Rattle.histories.specs.Laws.{IsInRankOrder}
+
+-- What each program keeps, but for the limits on its ranks and calls, and for the order of a
+-- matched probe and its receive.
+pub record IsWellFormed (p : MpiProgram) : Type 0 where
+  pub rank_order : IsInRankOrder p
+  pub in_range : (c : ℕ) (call : Call) → call_at p c ≡ Some call → HasRanksBelow p.ranks call
+  pub waits : IsPairing p.calls operation_of is_start
+  pub waits_later : (c o : ℕ) (call : Call) → call_at p c ≡ Some call → operation_of call.kind ≡ Some o → o < c
+  pub probes : IsPairing p.calls receive_of is_matched_receive
+
+-- what a call does where all calls of its rank stand so many places further on: the calls that it
+-- names stand there too
+abbrev pub moved_kind : ℕ → Kind → Kind
+moved_kind by (Send mode blocking message) = Send mode blocking message
+moved_kind by (Receive blocking pattern) = Receive blocking pattern
+moved_kind by (MatchedProbe pattern receive) = MatchedProbe pattern (receive + by)
+moved_kind by (Probe pattern) = Probe pattern
+moved_kind by (MatchedReceive blocking) = MatchedReceive blocking
+moved_kind by (Wait operation) = Wait (operation + by)
+
+abbrev pub moved_call : ℕ → Call → Call
+moved_call by call = record { rank = call.rank; kind = moved_kind by call.kind }
+
+-- Each call of the part is one of the whole; those of a rank stand all the same number of places
+-- further on there.
+pub record IsPart (whole part : MpiProgram) (moved : ℕ → ℕ) : Type 0 where
+  pub policy : part.policy ≡ whole.policy
+  pub ranks : part.ranks ≡ whole.ranks
+  pub calls : (c : ℕ) (call : Call) → call_at part c ≡ Some call → call_at whole (c + moved call.rank) ≡ Some (moved_call (moved call.rank) call)
+
+-- the call of the whole at this place is one of the part's
+pub record IsFrom (part : MpiProgram) (moved : ℕ → ℕ) (c : ℕ) : Type 0 where
+  pub place : ℕ
+  pub call : Call
+  pub there : call_at part place ≡ Some call
+  pub is : c ≡ place + moved call.rank
