@@ -2,6 +2,8 @@
 
 use crate::lines::{is_call, is_rank, lines_of};
 use crate::pairing::FOLLOWS;
+use crate::ranks::names;
+use plaintext::words_of;
 use std::alloc::{AllocError, Global};
 use writing::put_line;
 
@@ -16,12 +18,28 @@ pub fn numbers_of(alloc: Global, units: &[usize]) -> Result<Vec<usize>, AllocErr
     Ok(numbers)
 }
 
-/// The text without the call lines of these units.
+/// Marks a unit, if it is one of a line's own.
+fn mark_unit(marks: &mut [bool], unit: usize) {
+    if let Some(mark) = marks.get_mut(unit) {
+        *mark = true;
+    }
+}
+
+/// Of each unit by its number, below a bound, whether it is one of these.
+pub fn marks_of(alloc: Global, bound: usize, numbers: &[usize]) -> Result<Vec<bool>, AllocError> {
+    let mut marks = vec![in alloc; false; bound]?;
+    for number in numbers {
+        mark_unit(&mut marks, *number);
+    }
+    Ok(marks)
+}
+
+/// The text without the call lines of the units that are marked.
 pub fn without_units(
     alloc: Global,
     text: &[u8],
     units: &[usize],
-    left_out: &[usize],
+    left_out: &[bool],
 ) -> Result<Vec<u8>, AllocError> {
     let lines = lines_of(alloc, text)?;
     let mut out = Vec::with_capacity(alloc, text.len())?;
@@ -30,7 +48,7 @@ pub fn without_units(
         let mut stays = !line.is_empty();
         if is_call(line) {
             let unit = units.get(place).copied().unwrap_or(FOLLOWS);
-            stays = unit == FOLLOWS || !left_out.contains(&unit);
+            stays = !left_out.get(unit).copied().unwrap_or(false);
             place = place.saturating_add(1);
         }
         if stays {
@@ -40,27 +58,28 @@ pub fn without_units(
     Ok(out)
 }
 
-/// The numbers of the units that have a line of the rank, from 0.
-pub fn numbers_of_rank(
+/// Of each unit by its number whether it has a line of the rank, from 0, or one that names it.
+pub fn marks_of_rank(
     alloc: Global,
     text: &[u8],
     units: &[usize],
-    rank: usize,
-) -> Result<Vec<usize>, AllocError> {
+    rank: u32,
+) -> Result<Vec<bool>, AllocError> {
     let lines = lines_of(alloc, text)?;
-    let mut numbers = Vec::new(alloc);
+    let mut marks = vec![in alloc; false; units.len()]?;
     let mut place = 0usize;
-    let mut headings = 0usize;
+    let mut inside = false;
     for line in lines.iter() {
+        let words = words_of(alloc, line)?;
         if is_rank(line) {
-            headings = headings.saturating_add(1);
+            inside = names(&words, rank);
         }
         if is_call(line) {
-            if headings == rank.saturating_add(1) {
-                numbers.push(units.get(place).copied().unwrap_or(FOLLOWS))?;
+            if inside || names(&words, rank) {
+                mark_unit(&mut marks, units.get(place).copied().unwrap_or(FOLLOWS));
             }
             place = place.saturating_add(1);
         }
     }
-    Ok(numbers)
+    Ok(marks)
 }

@@ -4,11 +4,12 @@ ghost use Rattle.std.specs.Prelude.{IfErr, IfOk, OnOk};
 ghost use Rattle.prover.specs.Answers.{CanHang};
 ghost use Rattle.shrinking.specs.Shrinking.{IsNotShrunk, IsShrunk};
 
-use crate::cutting::{numbers_of, numbers_of_rank, without_units};
+use crate::cutting::{marks_of, marks_of_rank, numbers_of, without_units};
 use crate::lines::count_ranks;
-use crate::pairing::units_of;
+use crate::pairing::{LineUnits, units_of};
 use crate::ranks::without_rank;
 use crate::tidying::tidied;
+use crate::ties::keep_partners;
 use crate::trying::improve;
 use checker::program_of;
 use prover::{Reason, Until, walk_ends};
@@ -34,18 +35,22 @@ pub enum NotShrunk {
 }
 
 /// The units of the text's lines, where it is a program's.
-fn units_in(alloc: Global, text: &[u8]) -> Result<Vec<usize>, AllocError> {
+fn units_in(alloc: Global, text: &[u8]) -> Result<LineUnits, AllocError> {
     match program_of(alloc, text) {
         Ok(program) => units_of(alloc, text, &program),
         Err(_reason) => Err(AllocError),
     }
 }
 
-/// The text without a rank and without all units that have a line of it.
+/// The text without a rank and without all units that have a line of it, or one that names it; the
+/// whole text, where a call that stays would lose its last partner.
 fn rank_left_out(alloc: Global, text: &[u8], rank: u32) -> Result<Vec<u8>, AllocError> {
     let units = units_in(alloc, text)?;
-    let numbers = numbers_of_rank(alloc, text, &units, rank as usize)?;
-    let fewer = without_units(alloc, text, &units, &numbers)?;
+    let mut marks = marks_of_rank(alloc, text, &units.of_lines, rank)?;
+    if keep_partners(&units.unbalanced, &units.of_calls, &mut marks) {
+        return Vec::from_slice(alloc, text);
+    }
+    let fewer = without_units(alloc, text, &units.of_lines, &marks)?;
     let without = without_rank(alloc, &fewer, rank)?;
     tidied(alloc, &without)
 }
@@ -63,7 +68,8 @@ fn leave_out_ranks(alloc: Global, text: &mut Vec<u8>, left: &mut u32) -> Result<
     Ok(())
 }
 
-/// The text without so many of its units, from a place in their order on.
+/// The text without so many of its units, from a place in their order on, but for those that calls
+/// that stay have their last partner in.
 fn units_left_out(
     alloc: Global,
     text: &[u8],
@@ -71,9 +77,11 @@ fn units_left_out(
     size: usize,
 ) -> Result<Vec<u8>, AllocError> {
     let units = units_in(alloc, text)?;
-    let numbers = numbers_of(alloc, &units)?;
+    let numbers = numbers_of(alloc, &units.of_lines)?;
     let to = numbers.len().min(from.saturating_add(size));
-    let fewer = without_units(alloc, text, &units, &numbers[from.min(to)..to])?;
+    let mut marks = marks_of(alloc, units.of_lines.len(), &numbers[from.min(to)..to])?;
+    keep_partners(&units.unbalanced, &units.of_calls, &mut marks);
+    let fewer = without_units(alloc, text, &units.of_lines, &marks)?;
     tidied(alloc, &fewer)
 }
 
@@ -103,7 +111,7 @@ fn leave_out_units(
 /// How many units there are.
 fn count_units(alloc: Global, text: &[u8]) -> Result<usize, AllocError> {
     let units = units_in(alloc, text)?;
-    let numbers = numbers_of(alloc, &units)?;
+    let numbers = numbers_of(alloc, &units.of_lines)?;
     Ok(numbers.len())
 }
 
@@ -149,9 +157,11 @@ fn leave_out_all(alloc: Global, text: &[u8], walks: u32) -> Result<Shrunk, Alloc
 
 /// A smaller program's text, which still has a run that ends stuck: no longer than the one given,
 /// and with no more lines. Ranks are left out, with all lines that name them, and higher ones
-/// numbered anew; then lines, first many that follow one another at once. With a start goes its
-/// wait, with a matched probe its receive. Each candidate is read like any other text, and taken
-/// where some walk of its program ends stuck. At most so many walks are taken, or few more; once
+/// numbered anew; then lines, first many that follow one another at once. With a send goes the call
+/// that may take its message, or misses it by a tag, a communicator or a rank alone; with a start
+/// its wait, with a matched probe its receive. Where the sends and the takers of a channel differ
+/// in number, the last one of a side stays as long as a call of the other side does. Each candidate
+/// is read like any other text, and taken where some walk of its program ends stuck. At most so many walks are taken, or few more; once
 /// none are left, the smallest text so far is the answer. A text of which no walk ends stuck has
 /// none.
 pub fn shrink(alloc: Global, text: &[u8], walks: u32) -> Result<Shrunk, NotShrunk>

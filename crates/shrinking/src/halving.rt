@@ -148,7 +148,9 @@ fn not_shrunk(alloc: Global, text: &[u8]) -> NotShrunkLong
 /// longer than the one given, and with no more lines. All calls that the run is done with are left
 /// out at once; then ranks, half of them at once and then fewer and fewer, with all calls that name
 /// them; then calls, in the same way. With a send goes the call that took its message in the run,
-/// or may take it; with a start its wait, with a matched probe its receive. Each candidate is read
+/// or may take it, or misses it by a tag, a communicator or a rank alone; with a start its wait,
+/// with a matched probe its receive. Where the sends and the takers of a channel differ in number,
+/// the last one of a side stays as long as a call of the other side does. Each candidate is read
 /// like any other text, and taken where that run of its program ends stuck.
 ///
 /// `work` is how many lines of candidates are read and run at most, or few more; once none are

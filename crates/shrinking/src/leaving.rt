@@ -3,6 +3,7 @@
 use crate::lines::{count_calls, is_call, is_rank, lines_of, verb_of};
 use crate::ranks::{heading_rank, new_numbers, put_renumbered};
 use crate::running::Hanging;
+use crate::ties::keep_partners;
 use crate::units::Units;
 use callorder::Call;
 use calltext::Verb;
@@ -133,38 +134,57 @@ fn without(alloc: Global, text: &[u8], left_out: &LeftOut) -> Result<Vec<u8>, Al
     Ok(out)
 }
 
-/// The text without the units that are marked.
-fn without_marked(alloc: Global, hanging: &Hanging, marks: &[bool]) -> Result<Vec<u8>, AllocError> {
+/// The text without the units that are marked, but for those that calls that stay have their last
+/// partner in.
+fn without_marked(
+    alloc: Global,
+    hanging: &Hanging,
+    mut marks: Vec<bool>,
+) -> Result<Vec<u8>, AllocError> {
+    keep_partners(
+        &hanging.units.unbalanced,
+        &hanging.units.of_calls,
+        &mut marks,
+    );
     let left_out = LeftOut {
-        calls: calls_of(alloc, &hanging.units, marks)?,
+        calls: calls_of(alloc, &hanging.units, &marks)?,
         ranks: vec![in alloc; false; hanging.program.ranks() as usize]?,
     };
     without(alloc, &hanging.text, &left_out)
 }
 
-/// The text without all units that the run is done with. It takes time near linear in the text.
+/// The text without all units that the run is done with, but for those that calls that stay have
+/// their last partner in. It takes time near linear in the text.
 pub fn without_over(alloc: Global, hanging: &Hanging) -> Result<Vec<u8>, AllocError> {
-    without_marked(alloc, hanging, &hanging.units.are_over)
+    without_marked(alloc, hanging, hanging.units.are_over.clone()?)
 }
 
-/// The text without these units, by their numbers. It takes time near linear in the text.
+/// The text without these units, by their numbers, in the same way. It takes time near linear in the text.
 pub fn without_units(
     alloc: Global,
     hanging: &Hanging,
     numbers: Range<usize>,
 ) -> Result<Vec<u8>, AllocError> {
     let marks = marks_within(alloc, hanging.units.are_over.len(), &numbers)?;
-    without_marked(alloc, hanging, &marks)
+    without_marked(alloc, hanging, marks)
 }
 
 /// The text without these ranks, by their numbers, and without the units that have a call of one of
-/// them, or one that names one. It takes time near linear in the text.
+/// them, or one that names one; the whole text, where a call that stays would lose its last partner.
+/// It takes time near linear in the text.
 pub fn without_ranks(
     alloc: Global,
     hanging: &Hanging,
     ranks: Range<usize>,
 ) -> Result<Vec<u8>, AllocError> {
-    let marks = touched_units(alloc, &hanging.units, hanging.program.calls(), &ranks)?;
+    let mut marks = touched_units(alloc, &hanging.units, hanging.program.calls(), &ranks)?;
+    if keep_partners(
+        &hanging.units.unbalanced,
+        &hanging.units.of_calls,
+        &mut marks,
+    ) {
+        return hanging.text.clone();
+    }
     let left_out = LeftOut {
         calls: calls_of(alloc, &hanging.units, &marks)?,
         ranks: marks_within(alloc, hanging.program.ranks() as usize, &ranks)?,

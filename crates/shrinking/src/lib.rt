@@ -15,6 +15,7 @@ mod pairing;
 mod ranks;
 mod running;
 mod tidying;
+mod ties;
 mod trying;
 mod units;
 

@@ -16,57 +16,83 @@ enum Near {
     Source,
     /// The call takes any source.
     Destination,
+    /// The call names the tag and communicator that the message has, and another source.
+    OtherSource,
+    /// The call names the source, tag and communicator that the message has, which goes to another
+    /// rank.
+    OtherDestination,
 }
 
-/// What two such calls have in common: the destination, and the source, tag and communicator as far
-/// as they count.
+/// What two such calls have in common: the destination, source, tag and communicator as far as they
+/// count.
 #[derive(Clone, Copy, PartialEq, Eq, Hash)]
 struct Route {
-    destination: u32,
+    destination: Option<u32>,
     source: Option<u32>,
     tag: Option<u32>,
     communicator: Option<u32>,
 }
 
-/// The route to a rank from a source, or from any.
-fn plain_route(destination: u32, source: Option<u32>) -> Route {
-    Route {
-        destination,
-        source,
+/// The part of a route that counts for calls that are so near.
+fn counted(route: Route, near: Near) -> Route {
+    let plain = Route {
         tag: None,
         communicator: None,
+        ..route
+    };
+    match near {
+        Near::Envelope => route,
+        Near::Source => plain,
+        Near::Destination => Route {
+            source: None,
+            ..plain
+        },
+        Near::OtherSource => Route {
+            source: None,
+            ..route
+        },
+        Near::OtherDestination => Route {
+            destination: None,
+            ..route
+        },
     }
 }
 
 /// The route of a send.
 fn send_route(call: &Call, near: Near) -> Option<Route> {
     let message = call.kind.message()?;
-    Some(match near {
-        Near::Envelope => Route {
-            destination: message.destination,
-            source: Some(call.rank),
-            tag: Some(message.tag),
-            communicator: Some(message.communicator),
-        },
-        Near::Source => plain_route(message.destination, Some(call.rank)),
-        Near::Destination => plain_route(message.destination, None),
-    })
+    let whole = Route {
+        destination: Some(message.destination),
+        source: Some(call.rank),
+        tag: Some(message.tag),
+        communicator: Some(message.communicator),
+    };
+    Some(counted(whole, near))
+}
+
+/// Whether a call that takes messages of this source and tag, or any, names as much as counts.
+fn names_enough(source: Option<u32>, tag: Option<u32>, near: Near) -> bool {
+    match near {
+        Near::Envelope | Near::OtherDestination => source.is_some() && tag.is_some(),
+        Near::Source => source.is_some(),
+        Near::Destination => source.is_none(),
+        Near::OtherSource => tag.is_some(),
+    }
 }
 
 /// The route of a call that takes messages, or of a probe, where it names as much.
 fn finder_route(call: &Call, near: Near) -> Option<Route> {
     let pattern = call.kind.pattern()?;
-    match near {
-        Near::Envelope if pattern.source.is_some() && pattern.tag.is_some() => Some(Route {
-            destination: call.rank,
-            source: pattern.source,
-            tag: pattern.tag,
-            communicator: Some(pattern.communicator),
-        }),
-        Near::Source if pattern.source.is_some() => Some(plain_route(call.rank, pattern.source)),
-        Near::Destination if pattern.source.is_none() => Some(plain_route(call.rank, None)),
-        _ => None,
+    if !names_enough(pattern.source, pattern.tag, near) {
+        return None;
     }
+    let whole = Route {
+        destination: Some(call.rank),
+        source: pattern.source,
+        tag: pattern.tag,
+        communicator: Some(pattern.communicator),
+    };
+    Some(counted(whole, near))
 }
 
 /// For each route the sends on it that have no mate, in their order.
@@ -168,7 +194,7 @@ fn pair(
 
 /// For each call the one that found it, or that it found, in the run; of those that found none a
 /// send and the call that may take its message have one another, also where the two miss one
-/// another by a tag or a communicator, and a probe has the send that it may see. So what is left of
+/// another by a tag, a communicator or a rank, and a probe has the send that it may see. So what is left of
 /// a text, once both are left out, has no new call without a mate. It takes time near linear in the
 /// calls.
 pub fn mates_of(
@@ -184,5 +210,7 @@ pub fn mates_of(
     pair(alloc, program, Near::Envelope, &mut mates)?;
     pair(alloc, program, Near::Source, &mut mates)?;
     pair(alloc, program, Near::Destination, &mut mates)?;
+    pair(alloc, program, Near::OtherSource, &mut mates)?;
+    pair(alloc, program, Near::OtherDestination, &mut mates)?;
     Ok(mates)
 }

@@ -1,12 +1,25 @@
-//! Which call lines are left out together: those of a send and of the call that may take its message.
+//! Which call lines are left out together: those of a send and of the call that may take its
+//! message, or that was meant to.
 
 use crate::lines::{count_calls, is_call, lines_of};
+use balance::{Imbalance, imbalances};
 use callorder::{Kind, Program};
+use misses::{Part, misses_in};
 use plaintext::words_of;
 use std::alloc::{AllocError, Global};
 
 /// The number of a line that is never left out for its own sake: a wait, or a receive on a handle.
 pub const FOLLOWS: usize = usize::MAX;
+
+/// The unit that each call line is left out with, and the unit of each call's line: lines with the
+/// same number, or `FOLLOWS`.
+#[derive(Drop)]
+pub struct LineUnits {
+    pub of_lines: Vec<usize>,
+    pub of_calls: Vec<usize>,
+    /// Channels whose sends and takers differ in number.
+    pub unbalanced: Vec<Imbalance>,
+}
 
 /// For each call the place of its line, from 0, among the call lines of all ranks.
 fn places_of(alloc: Global, text: &[u8]) -> Result<Vec<usize>, AllocError> {
@@ -42,6 +55,10 @@ enum Near {
     Fits,
     /// It goes to the call's rank, and the call takes messages of its rank or of any.
     SameRanks,
+    /// It would fit, but for its rank.
+    OtherSource,
+    /// It would fit, but for the rank that it goes to, and is of another rank.
+    OtherDestination,
 }
 
 /// Whether a send and a call are so near.
@@ -59,6 +76,10 @@ fn is_near(program: &Program, send: usize, taker: usize, near: Near) -> bool {
         Near::Fits => fits,
         Near::SameRanks => {
             message.destination == taken.rank && pattern.source.is_none_or(|rank| rank == sent.rank)
+        }
+        Near::OtherSource => misses_in(program, send, taker) == Some(Part::Source),
+        Near::OtherDestination => {
+            misses_in(program, send, taker) == Some(Part::Destination) && sent.rank != taken.rank
         }
     }
 }
@@ -103,6 +124,8 @@ fn mates_of(alloc: Global, program: &Program) -> Result<Vec<Option<usize>>, Allo
     pair(program, Near::Tagged, &mut mates);
     pair(program, Near::Fits, &mut mates);
     pair(program, Near::SameRanks, &mut mates);
+    pair(program, Near::OtherSource, &mut mates);
+    pair(program, Near::OtherDestination, &mut mates);
     for probe in 0..mates.len() {
         if program.is_probe(probe) {
             mates[probe] = first_send(program, probe);
@@ -160,18 +183,37 @@ fn single_units(
     Ok(units)
 }
 
-/// For each call line the unit that it is left out with: lines with the same number. A send and the call that may take its message are
-/// of one unit, also where the two miss one another by a tag or a communicator; so what is left has no new call without a mate.
-pub fn units_of(alloc: Global, text: &[u8], program: &Program) -> Result<Vec<usize>, AllocError> {
+/// The unit of each call: that of its line.
+fn units_of_calls(
+    alloc: Global,
+    of_lines: &[usize],
+    places: &[usize],
+) -> Result<Vec<usize>, AllocError> {
+    let mut of_calls = Vec::with_capacity(alloc, places.len())?;
+    for place in places {
+        of_calls.push(of_lines.get(*place).copied().unwrap_or(FOLLOWS))?;
+    }
+    Ok(of_calls)
+}
+
+/// The units of a text's call lines. A send and the call that may take its message are of one unit,
+/// also where the two miss one another by a tag, a communicator or a rank; so what is left has no
+/// new call without a mate.
+pub fn units_of(alloc: Global, text: &[u8], program: &Program) -> Result<LineUnits, AllocError> {
     let places = places_of(alloc, text)?;
     let mates = mates_of(alloc, program)?;
-    let mut units = single_units(alloc, program, &places)?;
+    let mut of_lines = single_units(alloc, program, &places)?;
     for (call, mate) in mates.iter().enumerate() {
         if let Some(mate) = mate {
             let one = places.get(call).copied().unwrap_or(FOLLOWS);
             let other = places.get(*mate).copied().unwrap_or(FOLLOWS);
-            join_at(&mut units, one, other);
+            join_at(&mut of_lines, one, other);
         }
     }
-    Ok(units)
+    let of_calls = units_of_calls(alloc, &of_lines, &places)?;
+    Ok(LineUnits {
+        of_lines,
+        of_calls,
+        unbalanced: imbalances(alloc, program)?,
+    })
 }

@@ -30,7 +30,7 @@ fn rank_at(words: &[&[u8]], place: usize) -> Option<u32> {
 }
 
 /// Whether the words name the rank.
-fn names(words: &[&[u8]], rank: u32) -> bool {
+pub fn names(words: &[&[u8]], rank: u32) -> bool {
     let (one, other) = rank_places(words);
     rank_at(words, one) == Some(rank) || rank_at(words, other) == Some(rank)
 }

@@ -3,6 +3,7 @@
 use crate::groups::Groups;
 use crate::lines::{count_calls, is_call, lines_of, verb_of};
 use crate::mates::mates_of;
+use balance::{Imbalance, imbalances};
 use callorder::{Call, Kind, LongProgram};
 use calltext::Verb;
 use plaintext::words_of;
@@ -10,11 +11,13 @@ use semantics::State;
 use std::alloc::{AllocError, Global};
 
 /// For each call the number of the unit that it is left out with, from 0, in the order of their
-/// first calls; and for each unit whether the run is done with it.
+/// first calls; for each unit whether the run is done with it; and the channels whose sends and
+/// takers differ in number.
 #[derive(Drop)]
 pub struct Units {
     pub of_calls: Vec<usize>,
     pub are_over: Vec<bool>,
+    pub unbalanced: Vec<Imbalance>,
 }
 
 /// Joins calls that found one another.
@@ -118,5 +121,9 @@ pub fn units_of(
     join_parts(alloc, &mut groups, text)?;
     let (of_calls, count) = numbered(alloc, &mut groups, calls.len())?;
     let are_over = over_units(alloc, program, end, &of_calls, count)?;
-    Ok(Units { of_calls, are_over })
+    Ok(Units {
+        of_calls,
+        are_over,
+        unbalanced: imbalances(alloc, program)?,
+    })
 }
