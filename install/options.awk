@@ -2,8 +2,9 @@
 # the sources arguments.rt and commands.rt, which are read in this order.
 #
 # A command is a function NAME_command with a call of named(alloc, "NAME", ..) and a call of
-# with(.., ARGUMENT(alloc)) for each argument. An argument is a function whose body names a constant
-# in capitals, or calls a function of the same file that does.
+# with(.., ARGUMENT(alloc)) for each argument, or of a function with_NAME above it that has such
+# calls. An argument is a function whose body names a constant in capitals, or calls a function of
+# the same file that does.
 
 function fault(words) {
     print FILENAME ": " words > "/dev/stderr"
@@ -27,6 +28,7 @@ function end_command(    line, call, name) {
     if (!match(code, /named\( *alloc, *"[a-z]+"/)) fault("no name in " in_function)
     line = substr(code, RSTART, RLENGTH)
     gsub(/^[^"]*"|"$/, "", line)
+    for (name in shared) sub(name "\\(alloc,[^;]*", shared[name], code)
     while (match(code, /with\([^;]*, *[a-z_]+\(alloc\)\)/)) {
         call = substr(code, RSTART, RLENGTH)
         code = substr(code, RSTART + RLENGTH)
@@ -54,6 +56,7 @@ function end_command(    line, call, name) {
 in_function != "" && !/^ *(requires|ensures) / { code = code " " $0 }
 /^}/ && in_function != "" {
     if (FILENAME ~ /commands\.rt$/) {
+        if (in_function ~ /^with_/) shared[in_function] = code
         if (in_function ~ /_command$/) end_command()
         if (in_function == "command") called = gsub(/[a-z]_command\(alloc\)/, "", code)
     } else {
