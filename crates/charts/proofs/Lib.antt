@@ -1,2 +1,3 @@
 pub mod Parts
-mod Columns
+pub mod Columns
+pub mod Placement

@@ -16,4 +16,4 @@ abbrev pub undrawn_line : ℕ → List ℕ
 undrawn_line count = if count == 0 then [] else undrawn_words count ++ codes "\n"
 
 abbrev pub undrawn_text : ℕ → List ℕ
-undrawn_text count = if count == 0 then [] else codes "<text x=\"52\" y=\"48\" fill=\"gray\">" ++ (undrawn_words count ++ codes "</text>\n")
+undrawn_text count = if count == 0 then [] else codes "<text x=\"10\" y=\"46\" fill=\"#888\">" ++ (undrawn_words count ++ codes "</text>\n")

@@ -1,4 +1,6 @@
 pub mod Lining
 pub mod Cuts
 pub mod Chart
+pub mod Columns
+pub mod Placing
 pub mod Picture

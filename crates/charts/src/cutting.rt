@@ -59,7 +59,7 @@ pub fn put_undrawn_text(out: &mut Vec<u8>, count: usize) -> Result<(), AllocErro
     if count == 0 {
         return Ok(());
     }
-    put_text(out, "<text x=\"52\" y=\"48\" fill=\"gray\">")?;
+    put_text(out, "<text x=\"10\" y=\"46\" fill=\"#888\">")?;
     put_words(out, count)?;
     put_text(out, "</text>\n")?;
     Ok(())

@@ -24,9 +24,13 @@ number_rule name parser = record (option_rule name) { value_names = 1; parser = 
 abbrev pub number_with : Text → ℕ → ℕ → Text → Rule
 number_with name low high usual = record (number_rule name (Signed (pos low) (pos high))) { defaults = usual ∷ [] }
 
+-- an option that names a file
+abbrev pub file_option_rule : Text → Rule
+file_option_rule name = record (option_rule name) { value_names = 1 }
+
 -- `--out FILE`
 abbrev pub out_rule : Rule
-out_rule = record (option_rule (codes "out")) { value_names = 1 }
+out_rule = file_option_rule (codes "out")
 
 -- an option that takes no value
 abbrev pub flag_rule : Text → Rule
@@ -44,6 +48,15 @@ program_rule = file_rule (codes "PROGRAM")
 abbrev pub evidence_rule : Rule
 evidence_rule = file_rule (codes "EVIDENCE")
 
+-- how a search is made: `--workers N`, `--depth N` and `--budget N`
+abbrev pub with_search : App → App
+with_search a =
+    with_rule
+    (with_rule
+    (with_rule a (number_with (codes "workers") 1 64 (codes "4")))
+    (number_with (codes "depth") 0 15 (codes "4")))
+    (number_with (codes "budget") 0 1000000000 (codes "1000000"))
+
 -- the command `replay`
 abbrev pub replay_app : App
 replay_app = with_rule (with_rule (with_rule (new_app (codes "replay")) program_rule) evidence_rule) (flag_rule (codes "lines"))
@@ -60,7 +73,7 @@ optional_evidence_rule = record evidence_rule { required = false }
 
 -- `--map FILE`
 abbrev pub map_rule : Rule
-map_rule = record (option_rule (codes "map")) { value_names = 1 }
+map_rule = file_option_rule (codes "map")
 
 -- the command `explain`
 abbrev pub explain_app : App
@@ -72,18 +85,15 @@ explain_app =
     (with_rule
     (with_rule
     (with_rule
-    (with_rule
-    (with_rule
+    (with_search
     (with_rule
     (with_rule (new_app (codes "explain")) program_rule)
-    optional_evidence_rule)
-    (number_with (codes "workers") 1 64 (codes "4")))
-    (number_with (codes "depth") 0 15 (codes "4")))
-    (number_with (codes "budget") 0 1000000000 (codes "1000000")))
+    optional_evidence_rule))
     (flag_rule (codes "all")))
     (flag_rule (codes "dot")))
     (flag_rule (codes "chart")))
     (flag_rule (codes "svg")))
+    (flag_rule (codes "html")))
     json_rule)
     map_rule
 
@@ -123,15 +133,10 @@ abbrev pub prove_app : App
 prove_app =
     with_rule
     (with_rule
-    (with_rule
-    (with_rule
-    (with_rule
+    (with_search
     (with_rule
     (with_rule (new_app (codes "prove")) program_rule)
-    out_rule)
-    (number_with (codes "workers") 1 64 (codes "4")))
-    (number_with (codes "depth") 0 15 (codes "4")))
-    (number_with (codes "budget") 0 1000000000 (codes "1000000")))
+    out_rule))
     (flag_rule (codes "progress")))
     json_rule
 

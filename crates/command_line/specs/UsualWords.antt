@@ -4,7 +4,7 @@ use Rattle.std.specs.Str.Parse.{IsNumeral, digits_value}
 use Rattle.clap.specs.Words.{Text}
 use Rattle.settings.specs.Ranges.{IsPieces}
 use Rattle.settings.specs.declared.form.Form.{Form}
-use Rattle.settings.specs.declared.form.Form.TheVariants.{Brief, Whole, Graph, Chart, Picture, Object}
+use Rattle.settings.specs.declared.form.Form.TheVariants.{Brief, Whole, Graph, Chart, Picture, Page, Object}
 use Rattle.command_line.specs.Requests.{AskFor, Task, number_of, to_check, to_decide, to_encode, to_explain, to_export, to_prove, to_replay, to_shrink, to_trim}
 
 -- the text's first byte is a hyphen
@@ -28,6 +28,7 @@ form_words Whole = codes "--all" ∷ []
 form_words Graph = codes "--dot" ∷ []
 form_words Chart = codes "--chart" ∷ []
 form_words Picture = codes "--svg" ∷ []
+form_words Page = codes "--html" ∷ []
 form_words Object = codes "--json" ∷ []
 
 -- the words of a task in their usual order, after the program's own name; a number that isn't given

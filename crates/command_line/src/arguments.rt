@@ -1,7 +1,7 @@
 //! The arguments of the commands.
 
 ghost use Rattle.std.specs.Prelude.{codes};
-ghost use Rattle.command_line.specs.CommandLine.{IsRuled, evidence_rule, flag_rule, map_rule, number_rule, number_with, option_rule, optional_evidence_rule, out_rule, program_rule, proof_rule};
+ghost use Rattle.command_line.specs.CommandLine.{IsRuled, evidence_rule, file_option_rule, file_rule, flag_rule, map_rule, number_rule, number_with, option_rule, optional_evidence_rule, out_rule, program_rule, proof_rule};
 
 use clap::builder::ValueParser;
 use clap::{Arg, ArgAction, value_parser};
@@ -35,6 +35,8 @@ pub const CHART: &str = "chart";
 
 pub const SVG: &str = "svg";
 
+pub const HTML: &str = "html";
+
 pub const LINES: &str = "lines";
 
 pub const MAP: &str = "map";
@@ -42,19 +44,23 @@ pub const MAP: &str = "map";
 pub fn program<'a>(alloc: Global) -> Arg<'a>
     ensures { IsRuled result program_rule }
 {
-    Arg::new(alloc, PROGRAM)
-        .required(true)
-        .action(ArgAction::Set)
-        .help("The file with the program text")
+    file(alloc, PROGRAM, "The file with the program text")
 }
 
 pub fn evidence<'a>(alloc: Global) -> Arg<'a>
     ensures { IsRuled result evidence_rule }
 {
-    Arg::new(alloc, EVIDENCE)
+    file(alloc, EVIDENCE, "The file with the evidence text")
+}
+
+/// A file that has to be named.
+fn file<'a>(alloc: Global, name: &'a str, about: &'a str) -> Arg<'a>
+    ensures { IsRuled result (file_rule name.entry.now) }
+{
+    Arg::new(alloc, name)
         .required(true)
         .action(ArgAction::Set)
-        .help("The file with the evidence text")
+        .help(about)
 }
 
 pub fn optional_evidence<'a>(alloc: Global) -> Arg<'a>
@@ -122,13 +128,25 @@ pub fn chart<'a>(alloc: Global) -> Arg<'a>
 pub fn svg<'a>(alloc: Global) -> Arg<'a>
     ensures { IsRuled result (flag_rule (codes "svg")) }
 {
-    flag(alloc, SVG, "Print that chart as a picture, in SVG")
+    flag(alloc, SVG, "Print the run as a timeline, a picture in SVG")
+}
+
+pub fn html<'a>(alloc: Global) -> Arg<'a>
+    ensures { IsRuled result (flag_rule (codes "html")) }
+{
+    flag(
+        alloc,
+        HTML,
+        "Print a page in HTML: the explanation, the timeline, and the program's lines",
+    )
 }
 
 pub fn map<'a>(alloc: Global) -> Arg<'a>
     ensures { IsRuled result map_rule }
 {
-    option(alloc, MAP).value_name("FILE").help(
+    file_option(
+        alloc,
+        MAP,
         "Tell beside each line its place in the source, from this file, which the recorder writes",
     )
 }
@@ -193,7 +211,14 @@ pub fn schedule<'a>(alloc: Global) -> Arg<'a>
 fn written<'a>(alloc: Global, about: &'a str) -> Arg<'a>
     ensures { IsRuled result out_rule }
 {
-    option(alloc, OUT).value_name("FILE").help(about)
+    file_option(alloc, OUT, about)
+}
+
+/// An option that names a file.
+fn file_option<'a>(alloc: Global, name: &'a str, about: &'a str) -> Arg<'a>
+    ensures { IsRuled result (file_option_rule name.entry.now) }
+{
+    option(alloc, name).value_name("FILE").help(about)
 }
 
 pub fn workers<'a>(alloc: Global) -> Arg<'a>

@@ -2,11 +2,12 @@
 
 ghost use Rattle.std.specs.Prelude.{◌≡◌, IfOk};
 ghost use Rattle.clap.specs.Words.{App, Rule, new_app, with_rule, with_subcommand};
-ghost use Rattle.command_line.specs.CommandLine.{IsRuled, IsShaped, check_app, command_line, decide_app, encode_app, explain_app, export_app, prove_app, replay_app, shrink_app, trim_app, version_line};
+ghost use Rattle.command_line.specs.CommandLine.{IsRuled, IsShaped, check_app, command_line, decide_app, encode_app, explain_app, export_app, prove_app, replay_app, shrink_app, trim_app, version_line, with_search};
 
 use crate::arguments::{
-    all, budget, chart, depth, dimacs, dot, evidence, json, lines, map, object, optional_evidence,
-    out, pieces, program, progress, proof, schedule, smaller, stages, svg, trimmed, workers,
+    all, budget, chart, depth, dimacs, dot, evidence, html, json, lines, map, object,
+    optional_evidence, out, pieces, program, progress, proof, schedule, smaller, stages, svg,
+    trimmed, workers,
 };
 use crate::help_ends::{
     CHECK_END, DECIDE_END, ENCODE_END, EXPLAIN_END, EXPORT_END, HELP_END, PROVE_END, REPLAY_END,
@@ -40,6 +41,18 @@ fn with<'a>(whole: Result<Command<'a>, AllocError>, arg: Arg<'a>) -> Result<Comm
         → IfOk result (λ c. IsShaped c (with_rule app rule)) }
 {
     whole?.arg(arg)
+}
+
+/// A command with the arguments that say how a search is made, in the same way.
+fn with_search<'a>(
+    alloc: Global,
+    whole: Result<Command<'a>, AllocError>,
+) -> Result<Command<'a>, AllocError>
+    ensures { (app : App) → IfOk whole.entry (λ c. IsShaped c app) → IfOk result (λ c. IsShaped c (with_search app)) }
+{
+    let whole = with(whole, workers(alloc));
+    let whole = with(whole, depth(alloc));
+    with(whole, budget(alloc))
 }
 
 /// A command with this name, whose help begins and ends so.
@@ -79,9 +92,7 @@ fn prove_command<'a>(alloc: Global) -> Result<Command<'a>, AllocError>
     );
     let command = with(Ok(command), program(alloc));
     let command = with(command, out(alloc));
-    let command = with(command, workers(alloc));
-    let command = with(command, depth(alloc));
-    let command = with(command, budget(alloc));
+    let command = with_search(alloc, command);
     let command = with(command, progress(alloc));
     with(command, json(alloc))
 }
@@ -134,13 +145,12 @@ fn explain_command<'a>(alloc: Global) -> Result<Command<'a>, AllocError>
     );
     let command = with(Ok(command), program(alloc));
     let command = with(command, optional_evidence(alloc));
-    let command = with(command, workers(alloc));
-    let command = with(command, depth(alloc));
-    let command = with(command, budget(alloc));
+    let command = with_search(alloc, command);
     let command = with(command, all(alloc));
     let command = with(command, dot(alloc));
     let command = with(command, chart(alloc));
     let command = with(command, svg(alloc));
+    let command = with(command, html(alloc));
     let command = with(command, object(alloc));
     with(command, map(alloc))
 }

@@ -6,7 +6,7 @@ ghost use Rattle.command_line.specs.CommandLine.{command_line};
 ghost use Rattle.command_line.specs.Requests.{AskFor, Flags, Makes, MakesSome, Reads, form_in, task_of};
 
 use crate::arguments::{
-    ALL, BUDGET, CHART, DEPTH, DIMACS, DOT, EVIDENCE, JSON, LINES, MAP, OUT, PIECES, PROGRAM,
+    ALL, BUDGET, CHART, DEPTH, DIMACS, DOT, EVIDENCE, HTML, JSON, LINES, MAP, OUT, PIECES, PROGRAM,
     PROGRESS, SVG, WORKERS,
 };
 use crate::commands::command;
@@ -274,6 +274,8 @@ fn form_of(matches: &ArgMatches<'_>) -> Form
 {
     if is_set(matches, JSON) {
         Form::Object
+    } else if is_set(matches, HTML) {
+        Form::Page
     } else if is_set(matches, SVG) {
         Form::Picture
     } else if is_set(matches, CHART) {

@@ -14,8 +14,9 @@ marker forms.Whole = codes "line "
 marker forms.Graph = codes "line "
 marker forms.Chart = codes "line "
 marker forms.Picture = codes "line "
+marker forms.Page = codes "line "
 
--- what stands for a byte in a text, in quotes, or in a picture: a question mark where it isn't printable ASCII
+-- what stands for a byte in a text, in quotes, or in a picture or a page: a question mark where it isn't printable ASCII
 abbrev pub plain_byte : ℕ → List ℕ
 plain_byte byte = if nat_lt byte 32 || nat_lt 126 byte then 63 ∷ [] else byte ∷ []
 
@@ -30,6 +31,7 @@ abbrev pub shown : Form → ℕ → List ℕ
 shown forms.Object = quoted_byte
 shown forms.Graph = quoted_byte
 shown forms.Picture = drawn_byte
+shown forms.Page = drawn_byte
 shown forms.Brief = plain_byte
 shown forms.Whole = plain_byte
 shown forms.Chart = plain_byte

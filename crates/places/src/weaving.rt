@@ -16,7 +16,9 @@ fn marker(form: Form) -> &'static [u8]
 {
     match form {
         Form::Object => b"\"line\":",
-        Form::Brief | Form::Whole | Form::Graph | Form::Chart | Form::Picture => b"line ",
+        Form::Brief | Form::Whole | Form::Graph | Form::Chart | Form::Picture | Form::Page => {
+            b"line "
+        }
     }
 }
 
@@ -43,7 +45,7 @@ fn put_quoted(out: &mut Vec<u8>, byte: u8) -> Result<(), AllocError>
     }
 }
 
-/// Adds what stands for a byte in a picture.
+/// Adds what stands for a byte in a picture or a page.
 fn put_drawn(out: &mut Vec<u8>, byte: u8) -> Result<(), AllocError>
     ensures { OnOk result (out.new.items ≡ out.old.items ++ drawn_byte byte) }
 {
@@ -61,7 +63,7 @@ fn put_byte(out: &mut Vec<u8>, form: Form, byte: u8) -> Result<(), AllocError>
 {
     match form {
         Form::Object | Form::Graph => put_quoted(out, byte),
-        Form::Picture => put_drawn(out, byte),
+        Form::Picture | Form::Page => put_drawn(out, byte),
         Form::Brief | Form::Whole | Form::Chart => put_plain(out, byte),
     }
 }
@@ -82,7 +84,7 @@ fn told_of<'a>(form: Form, words: &'a [u8]) -> &'a [u8]
 {
     match form {
         Form::Object => words,
-        Form::Brief | Form::Whole | Form::Graph | Form::Chart | Form::Picture => {
+        Form::Brief | Form::Whole | Form::Graph | Form::Chart | Form::Picture | Form::Page => {
             match around(words, b" < ") {
                 Some((place, _callers)) => place,
                 None => words,
@@ -97,7 +99,7 @@ fn opening(form: Form) -> &'static [u8]
 {
     match form {
         Form::Object => b",\"place\":\"",
-        Form::Brief | Form::Whole | Form::Graph | Form::Chart | Form::Picture => b" (",
+        Form::Brief | Form::Whole | Form::Graph | Form::Chart | Form::Picture | Form::Page => b" (",
     }
 }
 
@@ -107,7 +109,7 @@ fn closing(form: Form) -> &'static [u8]
 {
     match form {
         Form::Object => b"\"",
-        Form::Brief | Form::Whole | Form::Graph | Form::Chart | Form::Picture => b")",
+        Form::Brief | Form::Whole | Form::Graph | Form::Chart | Form::Picture | Form::Page => b")",
     }
 }
 
@@ -178,7 +180,7 @@ pub fn with_places(
             let strings = woven(alloc, plain, Form::Graph, places)?;
             woven(alloc, &strings, Form::Object, places)
         }
-        Form::Brief | Form::Whole | Form::Graph | Form::Chart | Form::Picture => {
+        Form::Brief | Form::Whole | Form::Graph | Form::Chart | Form::Picture | Form::Page => {
             woven(alloc, plain, form, places)
         }
     }

@@ -9,9 +9,11 @@ use Rattle.callorder.specs.Resolving.{IsTextOfWithin}
 use Rattle.semantics.specs.Machine.{IsStuckRun}
 use Rattle.semantics.specs.declared.state.Step.{Step}
 use Rattle.settings.specs.declared.form.Form.{Form}
+use Rattle.settings.specs.declared.form.Form.TheVariants as forms
 use Rattle.explain.specs.Often.{BeginsWith, often_line}
 use Rattle.frequency.specs.declared.judging.Frequency.{Frequency}
 use Rattle.frequency.specs.Frequencies.{IsFrequency}
+use Rattle.htmlpage.specs.Page.{IsPage}
 use Rattle.reports.specs.Explanations.{IsDrawnFrom, IsNumbered, IsRunDrawn, SaysHowOften, TellsSizes, marks_of, sizes_text}
 
 pub run_drawn : (r : Result (Vec ℕ) AllocError) (form : Form) (text : List ℕ) (source : ProgramText) (p : MpiProgram) (steps : List Step) → IsTextOfWithin long text p
@@ -30,3 +32,9 @@ pub says_how_often : (r : Result (Vec ℕ) AllocError) (p : MpiProgram) (often :
     → IfOk r (λ told. BeginsWith (often_line often) told.items) → IfOk r (λ told. SaysHowOften p told.items)
 says_how_often (Ok told) p often is begins = (often, is, begins)
 says_how_often (Err e) p often is begins = begins
+
+-- a page of such a text draws the run
+pub page_drawn : (r : Result (Vec ℕ) AllocError) (text : List ℕ) (source : ProgramText) (p : MpiProgram) (steps : List Step) (words : List ℕ) → SaysHowOften p words
+    → IfOk r (λ page. IsPage text source p steps words page.items) → IfOk r (λ page. IsDrawnFrom forms.Page text source p steps page.items)
+page_drawn (Ok page) text source p steps words says is = (words, says, is)
+page_drawn (Err e) text source p steps words says is = is

@@ -1,4 +1,3 @@
-pub mod Counted
 pub mod Shorter
 pub mod Drawn
 pub mod Losses

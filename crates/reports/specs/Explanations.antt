@@ -15,7 +15,8 @@ use Rattle.explain.specs.Losing.{TellsLosses}
 use Rattle.explain.specs.Often.{BeginsWith, often_line}
 use Rattle.frequency.specs.declared.judging.Frequency.{Frequency}
 use Rattle.frequency.specs.Frequencies.{IsFrequency}
-use Rattle.charts.specs.Picture.{picture_of}
+use Rattle.charts.specs.Picture.{IsPicture}
+use Rattle.htmlpage.specs.Page.{IsPage}
 use Rattle.refutations.specs.declared.tree.Node.{Node}
 use Rattle.refutations.specs.declared.tree.Node.TheVariants.{Split, Leaf}
 use Rattle.prooflog.specs.Grammar.{IsEvidenceText}
@@ -42,7 +43,7 @@ pub record Marks : Type 0 where
   pub back : List ℕ
   pub foot : List ℕ
 
--- by forms: lines; comments of a graph without a node; lines of a picture; members of an object
+-- by forms: lines; comments of a graph without a node; lines of a picture; lines of a page; members of an object
 abbrev pub line_marks : Marks
 line_marks = record { begin = codes "no deadlock\n"; front = []; middle = codes " "; back = codes "\n"; foot = [] }
 
@@ -64,6 +65,15 @@ picture_marks = record {
   foot = codes "</text>\n</svg>\n";
 }
 
+abbrev pub page_marks : Marks
+page_marks = record {
+  begin = codes "<!DOCTYPE html>\n<html lang=\"en\">\n<head>\n<meta charset=\"utf-8\">\n<title>mpiprove: no deadlock</title>\n</head>\n<body>\n<h1>No deadlock</h1>\n<pre>";
+  front = [];
+  middle = codes " ";
+  back = codes "\n";
+  foot = codes "</pre>\n</body>\n</html>\n";
+}
+
 abbrev pub object_marks : Marks
 object_marks = record {
   begin = codes "{\"answer\":\"no deadlock\",\"status\":0";
@@ -79,6 +89,7 @@ marks_of forms.Whole = line_marks
 marks_of forms.Chart = line_marks
 marks_of forms.Graph = graph_marks
 marks_of forms.Picture = picture_marks
+marks_of forms.Page = page_marks
 marks_of forms.Object = object_marks
 
 -- a name and a number
@@ -118,10 +129,11 @@ abbrev pub SaysHowOften : MpiProgram → List ℕ → Type 0
 SaysHowOften p text = (often : Frequency) × IsFrequency p often × BeginsWith (often_line often) text
 
 -- the text draws the run of these steps, as a chart or as a picture, where the form is one of these, and as a text says how often the
--- program gets stuck
+-- program gets stuck; a page has such a text, and draws the run
 abbrev pub IsDrawnFrom : Form → List ℕ → ProgramText → MpiProgram → List Step → List ℕ → Type 0
 IsDrawnFrom forms.Chart program source p steps text = text ≡ chart_of program source p steps
-IsDrawnFrom forms.Picture program source p steps text = text ≡ picture_of program source p steps
+IsDrawnFrom forms.Picture program source p steps text = IsPicture program source p steps text
+IsDrawnFrom forms.Page program source p steps text = (words : List ℕ) × SaysHowOften p words × IsPage program source p steps words text
 IsDrawnFrom forms.Brief program source p steps text = SaysHowOften p text
 IsDrawnFrom forms.Whole program source p steps text = SaysHowOften p text
 IsDrawnFrom forms.Graph program source p steps text = Unit {0}
@@ -154,6 +166,7 @@ IsAdded forms.Whole p added = TellsLosses p added
 IsAdded forms.Chart p added = added ≡ []
 IsAdded forms.Graph p added = added ≡ []
 IsAdded forms.Picture p added = added ≡ []
+IsAdded forms.Page p added = added ≡ []
 IsAdded forms.Object p added = added ≡ []
 
 -- the text tells these numbers, and below them what the form adds

@@ -34,7 +34,8 @@ fn added(
 {
     match form {
         Form::Brief | Form::Whole => losses(alloc, text, program),
-        Form::Chart | Form::Graph | Form::Picture | Form::Object => Ok(String::new(alloc)),
+        Form::Chart => Ok(String::new(alloc)),
+        Form::Graph | Form::Picture | Form::Page | Form::Object => Ok(String::new(alloc)),
     }
 }
 

@@ -1,15 +1,17 @@
 //! What is told of a program and its refutation.
 
-ghost use Rattle.std.specs.Prelude.{◌≡◌, ◌++◌, IfOk, OnOk};
-ghost use Rattle.reports.specs.Explanations.{choice_lines, claim_lines, count_line, counts_text, leaves, marks_of, numbers_text, open_line, size_lines, sizes_text, wildcard_line};
-ghost use Rattle.reports.specs.Numbers.{texts_of};
+ghost use Rattle.std.specs.Prelude.{◌≡◌, ◌++◌, IfOk, OnOk, codes};
+ghost use Rattle.reports.specs.Explanations.{choice_lines, claim_lines, count_line, counts_text, leaves, marks_of, open_line, size_lines, sizes_text, wildcard_line};
+ghost use Rattle.reports.specs.Numbers.{AreTold, IsTold, line_of, lines_of, marked_text, texts_of};
+ghost use Rattle.reports.specs.Sizes.{choices};
 
 use crate::sizes::{choices, messages, open_sends, wildcards};
-use callorder::{LongProgram, Program};
+use callorder::{Call, LongProgram, Program};
 use prooflog::Refutation;
 use refutations::Node;
 use settings::Form;
 use std::alloc::{AllocError, Global};
+use writing::{Part, put_parts, put_text};
 
 /// The most calls of a program of which it is told how many wildcards have a choice.
 const FEW_CALLS: usize = 1_024;
@@ -60,6 +62,13 @@ fn marks_of(form: Form) -> Marks
             back: "</tspan>\n",
             foot: "</text>\n</svg>\n",
         },
+        Form::Page => Marks {
+            begin: "<!DOCTYPE html>\n<html lang=\"en\">\n<head>\n<meta charset=\"utf-8\">\n<title>mpiprove: no deadlock</title>\n</head>\n<body>\n<h1>No deadlock</h1>\n<pre>",
+            front: "",
+            middle: " ",
+            back: "\n",
+            foot: "</pre>\n</body>\n</html>\n",
+        },
         Form::Object => Marks {
             begin: "{\"answer\":\"no deadlock\",\"status\":0",
             front: ",\"",
@@ -70,123 +79,161 @@ fn marks_of(form: Form) -> Marks
     }
 }
 
+/// A number, and what it is the number of.
+#[derive(Clone, Copy)]
+pub struct Count {
+    name: &'static str,
+    number: usize,
+}
+
+/// The numbers of a program's size.
+fn size_counts(program: &LongProgram) -> [Count; 3]
+    ensures { AreTold result (λ m. size_lines m program.now) }
+{
+    let calls = program.calls();
+    [
+        Count {
+            name: "ranks",
+            number: program.ranks() as usize,
+        },
+        Count {
+            name: "calls",
+            number: calls.len(),
+        },
+        Count {
+            name: "messages",
+            number: messages(calls),
+        },
+    ]
+}
+
+/// How many wildcards have a choice.
+fn choice_count(calls: &[Call]) -> Count
+    ensures { IsTold result (λ m. count_line m (codes "wildcards with a choice") (choices calls.now)) }
+{
+    Count {
+        name: "wildcards with a choice",
+        number: choices(calls),
+    }
+}
+
+/// How many wildcards have a choice, or of many calls how many there are.
+fn wildcard_count(program: &LongProgram) -> Count
+    ensures { IsTold result (λ m. wildcard_line m program.now) }
+{
+    let calls = program.calls();
+    if calls.len() > FEW_CALLS {
+        Count {
+            name: "wildcards",
+            number: wildcards(calls),
+        }
+    } else {
+        choice_count(calls)
+    }
+}
+
+/// How many sends the policy leaves open.
+fn open_count(program: &LongProgram) -> Count
+    ensures { IsTold result (λ m. open_line m program.now) }
+{
+    Count {
+        name: "sends that may be buffered or not",
+        number: open_sends(program.policy(), program.calls()),
+    }
+}
+
+/// The numbers of what a program leaves open.
+fn choice_counts(program: &LongProgram) -> [Count; 2]
+    ensures { AreTold result (λ m. choice_lines m program.now) }
+{
+    [choice_count(program.calls()), open_count(program)]
+}
+
+/// The same, where there may be too many calls to tell choices.
+fn wildcard_counts(program: &LongProgram) -> [Count; 2]
+    ensures { AreTold result (λ m. wildcard_line m program.now ++ open_line m program.now) }
+{
+    [wildcard_count(program), open_count(program)]
+}
+
+/// The numbers of a refutation.
+fn claim_counts(refutation: &Refutation) -> [Count; 4]
+    ensures { AreTold result (λ m. claim_lines m refutation.now) }
+{
+    [
+        Count {
+            name: "variables",
+            number: refutation.variables() as usize,
+        },
+        Count {
+            name: "clauses",
+            number: refutation.clauses() as usize,
+        },
+        Count {
+            name: "lines",
+            number: refutation.lines().len(),
+        },
+        Count {
+            name: "leaves",
+            number: leaves(refutation.tree().nodes()),
+        },
+    ]
+}
+
 /// Adds a name and a number.
 fn put_count(
     alloc: Global,
     out: &mut Vec<u8>,
-    marks: Marks,
-    name: &str,
-    count: usize,
+    marks: &Marks,
+    count: Count,
 ) -> Result<(), AllocError>
-    ensures { OnOk result (out.new.items ≡ out.old.items ++ count_line (texts_of marks) name.now count) }
+    ensures { OnOk result (out.new.items ≡ out.old.items ++ line_of (texts_of marks.now) count) }
 {
-    let number = count.to_string(alloc)?;
-    out.extend_from_slice(marks.front.as_bytes())?;
-    out.extend_from_slice(name.as_bytes())?;
-    out.extend_from_slice(marks.middle.as_bytes())?;
-    out.extend_from_slice(number.as_bytes())?;
-    out.extend_from_slice(marks.back.as_bytes())
-}
-
-/// Adds the lines on the size of a program.
-fn put_sizes(
-    alloc: Global,
-    out: &mut Vec<u8>,
-    marks: Marks,
-    program: &LongProgram,
-) -> Result<(), AllocError>
-    ensures { OnOk result (out.new.items ≡ out.old.items ++ size_lines (texts_of marks) program.now) }
-{
-    let ranks = program.ranks() as usize;
-    put_count(alloc, out, marks, "ranks", ranks)?;
-    put_count(alloc, out, marks, "calls", program.calls().len())?;
-    let messages = messages(program.calls());
-    put_count(alloc, out, marks, "messages", messages)
-}
-
-/// Adds the lines on what a program leaves open.
-fn put_choices(
-    alloc: Global,
-    out: &mut Vec<u8>,
-    marks: Marks,
-    program: &Program,
-) -> Result<(), AllocError>
-    ensures { OnOk result (out.new.items ≡ out.old.items ++ choice_lines (texts_of marks) program.now) }
-{
-    let choices = choices(program.calls());
-    put_count(alloc, out, marks, "wildcards with a choice", choices)?;
-    put_open(alloc, out, marks, program)
-}
-
-/// Adds the line on wildcards.
-fn put_wildcards(
-    alloc: Global,
-    out: &mut Vec<u8>,
-    marks: Marks,
-    program: &LongProgram,
-) -> Result<(), AllocError>
-    ensures { OnOk result (out.new.items ≡ out.old.items ++ wildcard_line (texts_of marks) program.now) }
-{
-    let calls = program.calls();
-    if calls.len() > FEW_CALLS {
-        put_count(alloc, out, marks, "wildcards", wildcards(calls))
-    } else {
-        put_count(alloc, out, marks, "wildcards with a choice", choices(calls))
-    }
-}
-
-/// Adds the line on the sends that the policy leaves open.
-fn put_open(
-    alloc: Global,
-    out: &mut Vec<u8>,
-    marks: Marks,
-    program: &LongProgram,
-) -> Result<(), AllocError>
-    ensures { OnOk result (out.new.items ≡ out.old.items ++ open_line (texts_of marks) program.now) }
-{
-    let sends = open_sends(program.policy(), program.calls());
-    put_count(
-        alloc,
+    let number = count.number.to_string(alloc)?;
+    put_parts(
         out,
-        marks,
-        "sends that may be buffered or not",
-        sends,
-    )
+        &[
+            Part::Text(marks.front),
+            Part::Text(count.name),
+            Part::Text(marks.middle),
+            Part::Text(&number),
+            Part::Text(marks.back),
+        ],
+    )?;
+    Ok(())
 }
 
-/// Adds the lines on a refutation.
-fn put_claim(
+/// Adds names and numbers.
+fn put_counts(
     alloc: Global,
     out: &mut Vec<u8>,
-    marks: Marks,
-    refutation: &Refutation,
+    marks: &Marks,
+    counts: &[Count],
 ) -> Result<(), AllocError>
-    ensures { OnOk result (out.new.items ≡ out.old.items ++ claim_lines (texts_of marks) refutation.now) }
+    ensures { OnOk result (out.new.items ≡ out.old.items ++ lines_of (texts_of marks.now) counts.now) }
 {
-    let variables = refutation.variables() as usize;
-    put_count(alloc, out, marks, "variables", variables)?;
-    let clauses = refutation.clauses() as usize;
-    put_count(alloc, out, marks, "clauses", clauses)?;
-    put_count(alloc, out, marks, "lines", refutation.lines().len())?;
-    let leaves = leaves(refutation.tree().nodes());
-    put_count(alloc, out, marks, "leaves", leaves)
+    for count in counts {
+        put_count(alloc, out, marks, *count)?;
+    }
+    Ok(())
 }
 
-/// The text, with these marks, that tells the numbers of a program and of what refutes it.
-fn numbers_text(
+/// The text, with these marks, of the numbers of a program's size, and of others.
+fn marked_text(
     alloc: Global,
-    program: &Program,
-    refutation: &Refutation,
-    marks: Marks,
+    marks: &Marks,
+    sizes: &[Count],
+    choices: &[Count],
+    claim: &[Count],
 ) -> Result<Vec<u8>, AllocError>
-    ensures { IfOk result (λ text. text.items ≡ numbers_text (texts_of marks) program.now refutation.now) }
+    ensures { IfOk result (λ text. text.items ≡ marked_text (texts_of marks.now) sizes.now choices.now claim.now) }
 {
     let mut out = Vec::new(alloc);
-    out.extend_from_slice(marks.begin.as_bytes())?;
-    put_sizes(alloc, &mut out, marks, program)?;
-    put_choices(alloc, &mut out, marks, program)?;
-    put_claim(alloc, &mut out, marks, refutation)?;
-    out.extend_from_slice(marks.foot.as_bytes())?;
+    put_text(&mut out, marks.begin)?;
+    put_counts(alloc, &mut out, marks, sizes)?;
+    put_counts(alloc, &mut out, marks, choices)?;
+    put_counts(alloc, &mut out, marks, claim)?;
+    put_text(&mut out, marks.foot)?;
     Ok(out)
 }
 
@@ -200,20 +247,11 @@ pub fn counts_text(
 ) -> Result<Vec<u8>, AllocError>
     ensures { IfOk result (λ text. text.items ≡ counts_text form program.now refutation.now) }
 {
-    numbers_text(alloc, program, refutation, marks_of(form))
-}
-
-/// The text, with these marks, that tells the numbers of a program.
-fn marked_sizes(alloc: Global, program: &LongProgram, marks: Marks) -> Result<Vec<u8>, AllocError>
-    ensures { IfOk result (λ text. text.items ≡ sizes_text (texts_of marks) program.now) }
-{
-    let mut out = Vec::new(alloc);
-    out.extend_from_slice(marks.begin.as_bytes())?;
-    put_sizes(alloc, &mut out, marks, program)?;
-    put_wildcards(alloc, &mut out, marks, program)?;
-    put_open(alloc, &mut out, marks, program)?;
-    out.extend_from_slice(marks.foot.as_bytes())?;
-    Ok(out)
+    let program: &LongProgram = program;
+    let sizes = size_counts(program);
+    let choices = choice_counts(program);
+    let claim = claim_counts(refutation);
+    marked_text(alloc, &marks_of(form), &sizes, &choices, &claim)
 }
 
 /// The text that tells the numbers of a program without a refutation, as `counts_text` tells those of one with it. How many wildcards
@@ -221,5 +259,7 @@ fn marked_sizes(alloc: Global, program: &LongProgram, marks: Marks) -> Result<Ve
 pub fn sizes_text(alloc: Global, program: &LongProgram, form: Form) -> Result<Vec<u8>, AllocError>
     ensures { IfOk result (λ text. text.items ≡ sizes_text (marks_of form) program.now) }
 {
-    marked_sizes(alloc, program, marks_of(form))
+    let sizes = size_counts(program);
+    let choices = wildcard_counts(program);
+    marked_text(alloc, &marks_of(form), &sizes, &choices, &[])
 }

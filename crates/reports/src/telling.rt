@@ -14,6 +14,7 @@ use checker::{NoRun, Reason};
 use choices::{Decided, Limits, decide, decide_run, told};
 use explain::{explanation, wait_graph};
 use frequency::{Frequency, frequency_of};
+use htmlpage::page;
 use objects::object_text;
 use prover::finished_walk;
 use semantics::Step;
@@ -37,7 +38,7 @@ fn limits() -> Limits {
 /// Whether a form tells what decided a run.
 fn tells_choices(form: Form) -> bool {
     match form {
-        Form::Brief | Form::Whole | Form::Object => true,
+        Form::Brief | Form::Whole | Form::Page | Form::Object => true,
         Form::Graph | Form::Chart | Form::Picture => false,
     }
 }
@@ -149,6 +150,22 @@ fn explained_text(
     )
 }
 
+/// The page that explains a run of the program of this text.
+fn explained_page(
+    alloc: Global,
+    text: &[u8],
+    source: &LongSource,
+    program: &LongProgram,
+    steps: &[Step],
+    asked: &Asked,
+) -> Result<Vec<u8>, AllocError>
+    requires { IsStuckRun program.now steps.now }
+    ensures { IfOk result (λ told. IsDrawnFrom Form.Page text.now source.now program.now steps.now told.items) }
+{
+    let words = explained_text(alloc, text, source, program, steps, asked, false)?;
+    page(alloc, text, source, program, steps, &words)
+}
+
 /// The object that explains a run of the program of this text.
 fn explained_object(
     alloc: Global,
@@ -182,6 +199,7 @@ pub fn run_text(
         Form::Graph => wait_graph(alloc, text, source, program, steps),
         Form::Chart => chart(alloc, text, source, program, steps),
         Form::Picture => picture(alloc, text, source, program, steps),
+        Form::Page => explained_page(alloc, text, source, program, steps, asked),
         Form::Object => explained_object(alloc, text, source, program, steps, asked),
         Form::Brief => explained_text(alloc, text, source, program, steps, asked, false),
         Form::Whole => explained_text(alloc, text, source, program, steps, asked, true),

@@ -11,8 +11,10 @@ pub enum Form {
     Graph,
     /// A message sequence chart of the steps, as a text.
     Chart,
-    /// The same chart as a picture, in SVG.
+    /// A timeline of the steps as a picture, in SVG.
     Picture,
+    /// A page in HTML that stands alone: the brief text, the timeline, and the program's lines.
+    Page,
     /// A JSON object.
     Object,
 }

@@ -4,8 +4,6 @@ pub returns : goal.returns
 returns c =
     let one = c.with-command.ensures _ _ c.named-command.ensures c.program.ensures in
     let two = c.with-command-2.ensures _ _ one c.out.ensures in
-    let three = c.with-command-3.ensures _ _ two c.workers.ensures in
-    let four = c.with-command-4.ensures _ _ three c.depth.ensures in
-    let five = c.with-command-5.ensures _ _ four c.budget.ensures in
-    let six = c.with-command-6.ensures _ _ five c.progress.ensures in
-    c.with.ensures _ _ six c.json.ensures
+    let three = c.with_search-command.ensures _ two in
+    let four = c.with-command-3.ensures _ _ three c.progress.ensures in
+    c.with.ensures _ _ four c.json.ensures

@@ -1,0 +1,5 @@
+use Rattle.std.proofs.Common.{refl, append_assoc}
+use Rattle.charts.proofs.picturing.put_find_title.Goals as goal
+
+pub returns : goal.returns
+returns c = simp (append_assoc, c.in_ok-put_text-3.ensures, c.in_ok-put_told-2.ensures, c.in_ok-put_text-2.ensures, c.link_of.ensures, c.in_ok-put_told.ensures, c.in_ok-put_text.ensures) refl
