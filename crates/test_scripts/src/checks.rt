@@ -40,6 +40,9 @@ fn judge_over<R: Threads + Sync>(
     let mut lines = Vec::new(given.alloc);
     for call in calls {
         answer(rt, formula, &mut lines, &call.text, given);
+        if given.was_memory() {
+            answer(rt, formula, &mut lines, &call.text, given);
+        }
         report.note(call, given.reply());
         given.clear();
     }

@@ -241,7 +241,10 @@ fn told_with(encoded: &Encoded, facts: &[Fact], events: &str, given: &mut Given)
             mem::drop(variables);
             values
         }
-        Err(_error) => Assignment::make(Vec::new(given.alloc)),
+        Err(_error) => {
+            given.refuse("memory");
+            Assignment::make(Vec::new(given.alloc))
+        }
     }
 }
 

@@ -25,6 +25,9 @@ pub fn judge<R: Threads + Sync>(
     for call in section.calls {
         let (name, words) = cut(&call.text);
         answer(rt, name, words, given);
+        if given.was_memory() {
+            answer(rt, name, words, given);
+        }
         report.note(call, given.reply());
         given.clear();
     }

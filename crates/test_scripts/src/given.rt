@@ -20,13 +20,32 @@ pub trait Show {
     fn put(&self, given: &mut Given);
 }
 
+/// For how many bytes of a reply memory is taken at once, so that a call that was made isn't told to lack it.
+const USUAL: usize = 4_096;
+
+/// What stands in the place of a reply where memory was wanting.
+pub const MEMORY: &str = "memory";
+
 impl Given {
     pub fn new(alloc: Global) -> Given {
+        let text = match String::with_capacity(alloc, USUAL) {
+            Ok(text) => text,
+            Err(_error) => String::new(alloc),
+        };
         Given {
             alloc,
-            text: String::new(alloc),
+            text,
             trouble: "",
         }
+    }
+
+    /// Whether the reply is that memory was wanting. Forgets it then.
+    pub fn was_memory(&mut self) -> bool {
+        let was_memory = self.reply() == MEMORY;
+        if was_memory {
+            self.clear();
+        }
+        was_memory
     }
 
     /// Forgets all of it.
@@ -68,13 +87,13 @@ impl Given {
 
     pub fn put(&mut self, text: &str) {
         if self.text.push_str(text).is_err() {
-            self.trouble = "memory";
+            self.trouble = MEMORY;
         }
     }
 
     pub fn show<T: fmt::Display + Drop>(&mut self, value: T) {
         if write!(self.text, "{value}").is_err() {
-            self.trouble = "memory";
+            self.trouble = MEMORY;
         }
     }
 
@@ -97,9 +116,11 @@ impl Given {
 
     /// Writes a text with `/` in place of each end of a line.
     pub fn text(&mut self, text: &str) {
-        match text.replace(self.alloc, '\n', "/") {
-            Ok(text) => self.put(&text),
-            Err(_error) => self.refuse("memory"),
+        for (place, line) in text.split('\n').enumerate() {
+            if place > 0 {
+                self.put("/");
+            }
+            self.put(line);
         }
     }
 }
@@ -107,7 +128,7 @@ impl Given {
 /// Adds a value to a list.
 pub fn add<T: Drop>(values: &mut Vec<T>, value: T, given: &mut Given) {
     if values.push(value).is_err() {
-        given.refuse("memory");
+        given.refuse(MEMORY);
     }
 }
 

@@ -1,6 +1,5 @@
 //! Judges scripts of calls: each line of a file is a call with its reply beside it. Each row that doesn't hold is printed, and
-//! at the end how many hold. A word that names no file of calls names one call of the library, which is made once, and once more where memory
-//! is refused to it: `tests/refusals library` does that. Where there is enough, it is answered as it should be.
+//! at the end how many hold. A call that lacks memory is made once more: `tests/refusals library` refuses it.
 #![tactic(auto)]
 
 mod beside;
@@ -12,14 +11,12 @@ mod given;
 mod logs;
 mod programs;
 mod reading;
-mod refused;
 mod report;
 mod scripts;
 mod searches;
 mod shares;
 mod splits;
 
-use refused::told_of;
 use report::Report;
 use scripts::judge_file;
 use std::process::ExitCode;
@@ -39,54 +36,14 @@ fn main(rt: HostRuntime) -> ExitCode {
     }
 }
 
-/// Judges each file that the words name, prints how many rows hold, and how many don't, and makes the calls that they name. Answers whether all
-/// rows hold.
+/// Judges each file that the words name, and prints how many rows hold, and how many don't. Answers whether all rows hold.
 fn judge(rt: &HostRuntime, threads: &(impl Threads + Wait + Sync)) -> io::Result<bool> {
     let words: Vec<String> = env::args(rt)?.collect(rt.alloc())?;
-    let all_hold = judge_files(rt, threads, words.as_slice())?;
-    make_calls(rt, threads, words.as_slice())?;
-    Ok(all_hold)
-}
-
-/// Whether the word names a file of calls.
-fn is_file(word: &str) -> bool {
-    word.ends_with(".calls")
-}
-
-fn judge_files(
-    rt: &HostRuntime,
-    threads: &(impl Threads + Wait + Sync),
-    words: &[String],
-) -> io::Result<bool> {
     let mut report = Report::new(rt.alloc());
     for path in words.iter().skip(1) {
-        if is_file(path) {
-            judge_path(rt, threads, path, &mut report)?;
-        }
+        judge_path(rt, threads, path, &mut report)?;
     }
     tell(rt, &report)
-}
-
-/// Prints a line for each call that a word names.
-fn make_calls(
-    rt: &HostRuntime,
-    threads: &(impl Threads + Wait + Sync),
-    words: &[String],
-) -> io::Result<()> {
-    for name in words.iter().skip(1) {
-        if !is_file(name) {
-            make_call(rt, threads, name)?;
-        }
-    }
-    Ok(())
-}
-
-fn make_call(
-    rt: &HostRuntime,
-    threads: &(impl Threads + Wait + Sync),
-    name: &str,
-) -> io::Result<()> {
-    println!(rt; "{name}: {}", told_of(threads, rt.alloc(), name))
 }
 
 fn judge_path(

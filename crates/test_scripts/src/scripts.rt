@@ -22,6 +22,11 @@ pub struct Section<'a> {
 pub trait Subject {
     /// Makes the call of this name with these words, and writes its reply.
     fn answer(&mut self, name: &str, words: &str, given: &mut Given);
+
+    /// Whether it is as it was behind a call that lacked memory, and takes that call again.
+    fn goes_on(&self) -> bool {
+        true
+    }
 }
 
 /// Judges the rows of a file's text.
@@ -97,6 +102,11 @@ fn judge_rows(
     };
     let mut given = Given::new(alloc);
     judge_kind(rt, kind, section, &mut given, report);
+    if given.is_refused() {
+        // What the rows are about may have lacked memory.
+        given.clear();
+        judge_kind(rt, kind, section, &mut given, report);
+    }
     if given.is_refused() {
         report.miss(place, first, "a section", given.reply());
     }
@@ -222,7 +232,7 @@ fn counted(row: &str) -> (u32, u32, &str) {
     (first.parse::<u32>().unwrap_or(0), times, call)
 }
 
-/// Judges these calls of a subject.
+/// Judges these calls of a subject. One that lacks memory is made once more, and the others are left out where the subject doesn't go on.
 pub fn judge_calls<S: Subject>(
     subject: &mut S,
     calls: &[Call<'_>],
@@ -232,6 +242,12 @@ pub fn judge_calls<S: Subject>(
     for call in calls {
         let (name, words) = cut(&call.text);
         subject.answer(name, words, given);
+        if given.was_memory() {
+            if !subject.goes_on() {
+                return;
+            }
+            subject.answer(name, words, given);
+        }
         report.note(call, given.reply());
         given.clear();
     }

@@ -139,6 +139,11 @@ fn judge_by<'f>(
 }
 
 impl Subject for Searches<'_> {
+    /// A search that lacked memory is spent.
+    fn goes_on(&self) -> bool {
+        false
+    }
+
     fn answer(&mut self, name: &str, words: &str, given: &mut Given) {
         match name {
             "beside" => search_beside(self.encoded, words, false, given),

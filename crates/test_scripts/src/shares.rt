@@ -266,9 +266,10 @@ fn judge_run_of(
 ) {
     match pool_after(given.alloc, encoded, events) {
         Some((pool, replies)) => {
-            judge_replies(replies.as_slice(), section.calls, given, report);
+            let went_on = judge_replies(replies.as_slice(), section.calls, given, report);
             mem::drop(replies);
-            judge_handed(pool, Vec::new(given.alloc), section.later, given, report);
+            let later = if went_on { section.later } else { &[] };
+            judge_handed(pool, Vec::new(given.alloc), later, given, report);
         }
         None => given.refuse("not run"),
     }
@@ -295,16 +296,21 @@ fn events_of(calls: &[Call<'_>], given: &mut Given) -> Vec<Event> {
     events
 }
 
-/// Judges calls by these replies.
-fn judge_replies(replies: &[Reply], calls: &[Call<'_>], given: &mut Given, report: &mut Report) {
+/// Judges calls by these replies, up to one that lacked memory. Answers whether there is none.
+fn judge_replies(
+    replies: &[Reply],
+    calls: &[Call<'_>],
+    given: &mut Given,
+    report: &mut Report,
+) -> bool {
     for (call, reply) in calls.iter().zip(replies) {
-        judge_reply(reply, call, given, report);
+        reply.put(given);
+        if given.was_memory() {
+            return false;
+        }
+        note(call, given, report);
     }
-}
-
-fn judge_reply(reply: &Reply, call: &Call<'_>, given: &mut Given, report: &mut Report) {
-    reply.put(given);
-    note(call, given, report);
+    true
 }
 
 /// Notes the reply that a call was given, and forgets it.
@@ -392,6 +398,9 @@ fn judge_shared<S: Share, R: Wait>(
     let mut kept = Reply::Leave;
     for call in calls {
         answer(rt, shared, seats, &call.text, &mut kept, given);
+        if given.was_memory() {
+            answer(rt, shared, seats, &call.text, &mut kept, given);
+        }
         note(call, given, report);
     }
     mem::drop(kept);
