@@ -1,19 +1,20 @@
 -- Commands built up by rules, and what their matches give.
-use Rattle.std.specs.Prelude.{unwrap_or}
+use Rattle.std.specs.Prelude.{unwrap_or, IfOk}
 use Rattle.std.specs.Str.{bytes_eq}
 use Rattle.std.specs.Str.Parse.{ExplainsUnsignedError, HasUnsignedDigitsIfOk, ParsesBool, ParsesUnsigned}
 use Rattle.std.proofs.lemmas.Slice.Eq.{bytes_eq-Decides}
 use Rattle.std.specs.declared.num.ParseIntError.{ParseIntError}
 use Rattle.clap.specs.Matches.{ReadsOne}
-use Rattle.std.proofs.Common.{ℕ, ◌≡◌, ◌∙◌, ◌||◌, ap, ap₂, sym, refl, Bool, true, false, Option, Some, None, codes, option_map}
+use Rattle.std.proofs.Common.{ℕ, ◌≡◌, ◌∙◌, ◌||◌, ap, ap₂, sym, refl, map, Bool, true, false, Option, Some, None, codes, option_map}
 use Rattle.std.specs.Borrow.{Bor}
-use Rattle.clap.specs.Words.{AddsArg, AddsSubcommand, App, Rule, Text, found_of, first_of, first_value, one_text, rows_of, with_rule, with_subcommand}
+use Rattle.clap.specs.Words.{AddsArg, AddsSubcommand, App, Rule, Text, all_of, found_of, first_of, first_value, matched_of, one_text, raw_values, rows_of, with_rule, with_subcommand}
 use Rattle.clap.specs.declared.builder.arg.Arg.{Arg}
 use Rattle.clap.specs.declared.builder.command.Command.{Command}
 use Rattle.clap.specs.declared.parser.matches.ArgMatches.{ArgMatches}
-use Rattle.clap.proofs.WalkLemmas.{first_value-rows, one_text-rows}
+use Rattle.clap.proofs.WalkLemmas.{first_value-rows, one_text-rows, raw_values-rows}
 use Rattle.command_line.specs.CommandLine.{IsRuled, IsShaped, command_line}
-use Rattle.command_line.specs.Requests.{is_true, Flags, Makes, MakesSome, NamesTask, Reads, Task, path_of}
+use Rattle.command_line.specs.Requests.{is_true, AskFor, Flags, Makes, MakesSome, NamesTask, Reads, Task, path_of, task_of, texts_in}
+use Rattle.command_line.specs.declared.request.Request.{Request}
 use Rattle.std.specs.Prelude.{Box, List}
 use Rattle.std.specs.Box.{box_value}
 use Rattle.clap.specs.Words.{Row, is_simple, subcommand_name_of, subcommand_rows, subcommand_rows_of, subcommand_of, fault_of, kind_of, FailsBy, HasMatchesOf, IsAmong}
@@ -51,6 +52,20 @@ given_by_rows m id given e = sym (e ∙ first_value-rows (found_of m) id)
 pub path_by_rows : (m : ArgMatches) (id : Text) (given : Option (Bor Text)) (path : Bor Text) → path_of given ≡ first_value (found_of m) id
     → given ≡ Some path → first_of id (rows_of (found_of m)) ≡ Some path.now
 path_by_rows m id given path e is = given_by_rows m id given e ∙ ap path_of is
+
+-- all texts of an argument that wasn't given
+pub no_texts_by_rows : (m : ArgMatches) (id : Text) (given : Option (Bor (List (Bor Text))))
+    → option_map (λ s. map (λ v. v.now) s.now) given ≡ option_map raw_values (matched_of (found_of m) id) → given ≡ None
+    → [] ≡ texts_in (all_of id (rows_of (found_of m)))
+no_texts_by_rows m id given e is =
+    ap texts_in (sym (ap (λ (o : Option (Bor (List (Bor Text)))). option_map (λ s. map (λ v. v.now) s.now) o) is) ∙ e ∙ raw_values-rows (found_of m) id)
+
+-- and of one that was
+pub texts_by_rows : (m : ArgMatches) (id : Text) (given : Option (Bor (List (Bor Text)))) (texts : Bor (List (Bor Text)))
+    → option_map (λ s. map (λ v. v.now) s.now) given ≡ option_map raw_values (matched_of (found_of m) id) → given ≡ Some texts
+    → map (λ v. v.now) texts.now ≡ texts_in (all_of id (rows_of (found_of m)))
+texts_by_rows m id given texts e is =
+    ap texts_in (sym (ap (λ (o : Option (Bor (List (Bor Text)))). option_map (λ s. map (λ v. v.now) s.now) o) is) ∙ e ∙ raw_values-rows (found_of m) id)
 
 -- a text that isn't `true`
 other : (text : List ℕ) → (text ≡ codes "true" → ⊥) → bytes_eq text (codes "true") ≡ false
@@ -111,6 +126,12 @@ pub names_by_parse : (app : App) (words : List Text) (m : ArgMatches) (task : Ta
 names_by_parse app words m task is has makes =
     let matched = (has (ap is_simple is ∙ is_simple_line)).1 in
     subst (λ (found : Option (Text × List Row)). MakesSome found task) (matched ∙ ap (λ (a : App). subcommand_of a words) is) makes
+
+-- what a request that was made asks for
+pub asked_so : (found : Option (Text × List Row)) (words : List Text) (r : Result Request Error) → ((task : Task) → MakesSome found task → AskFor words task)
+    → IfOk r (λ request. MakesSome found (task_of request)) → IfOk r (λ request. AskFor words (task_of request))
+asked_so found words (Ok request) so makes = so (task_of request) makes
+asked_so found words (Err e) so makes = makes
 
 -- why a parse fails
 pub fails_by_words : {T : Type 0} (app : App) (words : List Text) (r : Result T Error) (e : Error) → app ≡ command_line → r ≡ Err e

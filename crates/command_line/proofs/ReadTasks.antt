@@ -1,17 +1,37 @@
 -- The task that a command's name and its matches make is one.
-use Rattle.std.proofs.Common.{◌≡◌, ◌∙◌, ap, sym, ℕ, List, [], Some, None, Option, codes}
+use Rattle.std.proofs.Common.{◌≡◌, ◌∙◌, ap, sym, ℕ, Bool, true, false, List, [], Some, None, Option, codes}
 use Rattle.std.specs.Prelude.{if◌then◌else◌, unwrap_or}
 use Rattle.std.specs.Str.{bytes_eq}
 use Rattle.clap.specs.Words.{Row, Text, first_of, one_of, subcommand_of}
 use Rattle.clap.proofs.OnLiterals.{clap_on_literals}
 use Rattle.command_line.specs.CommandLine.{command_line}
-use Rattle.command_line.specs.Requests.{Makes, MakesSome, OneTaskIsAsked, Reads, Task, form_in, is_true, number_of, to_check, to_decide, to_encode, to_explain, to_export, to_prove, to_replay, to_shrink, to_trim}
+use Rattle.command_line.specs.Requests.{Makes, MakesSome, OneTaskIsAsked, Reads, Task, form_in, is_spmd_asked, is_true, number_of, settings_in, to_check, to_decide, to_decide_unrolled, to_encode, to_explain, to_explain_unrolled, to_export, to_prove, to_replay, to_shrink, to_trim, to_unroll}
 
 abbrev text_in : Option Text → Text
 text_in o = unwrap_or o []
 
 abbrev number_in : Option Text → ℕ
 number_in o = number_of (text_in o)
+
+-- the task of the matches of `decide`, where an SPMD text is asked for and where not
+abbrev decided : Bool → List Row → Task
+decided true rows =
+    to_decide_unrolled (text_in (first_of (codes "PROGRAM") rows)) (first_of (codes "ranks") rows) (settings_in rows) (first_of (codes "collectives") rows)
+    (first_of (codes "out") rows)
+    (is_true (one_of (codes "progress") rows)) (is_true (one_of (codes "json") rows))
+decided false rows =
+    to_decide (text_in (first_of (codes "PROGRAM") rows)) (first_of (codes "out") rows) (is_true (one_of (codes "progress") rows))
+    (is_true (one_of (codes "json") rows))
+
+-- and of those of `explain`
+abbrev explained : Bool → List Row → Task
+explained true rows =
+    to_explain_unrolled (text_in (first_of (codes "PROGRAM") rows)) (first_of (codes "ranks") rows) (settings_in rows)
+    (first_of (codes "collectives") rows) (first_of (codes "EVIDENCE") rows) (number_in (one_of (codes "workers") rows)) (number_in (one_of (codes "depth") rows))
+    (number_in (one_of (codes "budget") rows)) (form_in rows) (first_of (codes "map") rows)
+explained false rows =
+    to_explain (text_in (first_of (codes "PROGRAM") rows)) (first_of (codes "EVIDENCE") rows) (number_in (one_of (codes "workers") rows))
+    (number_in (one_of (codes "depth") rows)) (number_in (one_of (codes "budget") rows)) (form_in rows) (first_of (codes "map") rows)
 
 -- the task of a command's name and its matches
 abbrev pub read : Text → List Row → Task
@@ -28,16 +48,17 @@ read name rows =
     else (if bytes_eq name (codes "encode")
     then to_encode (text_in (first_of (codes "PROGRAM") rows)) (is_true (one_of (codes "dimacs") rows))
     else (if bytes_eq name (codes "explain")
-    then to_explain (text_in (first_of (codes "PROGRAM") rows)) (first_of (codes "EVIDENCE") rows) (number_in (one_of (codes "workers") rows))
-    (number_in (one_of (codes "depth") rows)) (number_in (one_of (codes "budget") rows)) (form_in rows) (first_of (codes "map") rows)
+    then explained (is_spmd_asked rows) rows
     else (if bytes_eq name (codes "export")
     then to_export (text_in (first_of (codes "PROGRAM") rows)) (text_in (first_of (codes "EVIDENCE") rows)) (text_in (first_of (codes "out") rows))
     else (if bytes_eq name (codes "trim")
     then to_trim (text_in (first_of (codes "EVIDENCE") rows)) (text_in (first_of (codes "out") rows)) (is_true (one_of (codes "json") rows))
     else (if bytes_eq name (codes "shrink")
     then to_shrink (text_in (first_of (codes "PROGRAM") rows)) (first_of (codes "out") rows)
-    else to_decide (text_in (first_of (codes "PROGRAM") rows)) (first_of (codes "out") rows) (is_true (one_of (codes "progress") rows))
-    (is_true (one_of (codes "json") rows)))))))))
+    else (if bytes_eq name (codes "decide")
+    then decided (is_spmd_asked rows) rows
+    else to_unroll (text_in (first_of (codes "PROGRAM") rows)) (number_in (one_of (codes "ranks") rows)) (settings_in rows) (first_of (codes "collectives") rows)
+    (first_of (codes "out") rows) (first_of (codes "map") rows)))))))))
 
 given : (o : Option Text) (text : Text) → o ≡ Some text → text ≡ text_in o
 given o text e = sym (ap text_in e)
@@ -65,7 +86,8 @@ is_read name rows (to_encode p dimacs) makes =
 is_read name rows (to_explain p e w d b form map) makes =
     let v = makes.values in
     (λ i. to_explain (given _ p v.0 i) (sym v.1 i) (spelled rows (codes "workers") w v.2 i) (spelled rows (codes "depth") d v.3 i)
-    (spelled rows (codes "budget") b v.4 i) (v.5 i) (sym v.6 i)) ∙ ap (λ (n : Text). read n rows) (sym makes.command)
+    (spelled rows (codes "budget") b v.4 i) (v.5 i) (sym v.6 i)) ∙ ap (λ (asked : Bool). explained asked rows) (sym v.7)
+    ∙ ap (λ (n : Text). read n rows) (sym makes.command)
 is_read name rows (to_export p e out) makes =
     let v = makes.values in
     (λ i. to_export (given _ p v.0 i) (given _ e v.1 i) (given _ out v.2 i)) ∙ ap (λ (n : Text). read n rows) (sym makes.command)
@@ -77,7 +99,21 @@ is_read name rows (to_shrink p out) makes =
     (λ i. to_shrink (given _ p v.0 i) (sym v.1 i)) ∙ ap (λ (n : Text). read n rows) (sym makes.command)
 is_read name rows (to_decide p out progress json) makes =
     let v = makes.values in
-    (λ i. to_decide (given _ p v.0 i) (sym v.1 i) (v.2 i) (v.3 i))
+    (λ i. to_decide (given _ p v.0 i) (sym v.1 i) (v.2 i) (v.3 i)) ∙ ap (λ (asked : Bool). decided asked rows) (sym v.4)
+    ∙ ap (λ (n : Text). read n rows) (sym makes.command)
+is_read name rows (to_unroll p n settings way out map) makes =
+    let v = makes.values in
+    (λ i. to_unroll (given _ p v.0 i) (spelled rows (codes "ranks") n v.1 i) (sym v.2 i) (sym v.3 i) (sym v.4 i) (sym v.5 i))
+    ∙ ap (λ (n : Text). read n rows) (sym makes.command)
+is_read name rows (to_decide_unrolled p ranks settings way out progress json) makes =
+    let v = makes.values in
+    (λ i. to_decide_unrolled (given _ p v.0 i) (sym v.1 i) (sym v.2 i) (sym v.3 i) (sym v.4 i) (v.5 i) (v.6 i)) ∙ ap (λ (asked : Bool). decided asked rows) (sym v.7)
+    ∙ ap (λ (n : Text). read n rows) (sym makes.command)
+is_read name rows (to_explain_unrolled p ranks settings way e w d b form map) makes =
+    let v = makes.values in
+    (λ i. to_explain_unrolled (given _ p v.0 i) (sym v.1 i) (sym v.2 i) (sym v.3 i) (sym v.4 i) (spelled rows (codes "workers") w v.5 i)
+    (spelled rows (codes "depth") d v.6 i) (spelled rows (codes "budget") b v.7 i) (v.8 i) (sym v.9 i))
+    ∙ ap (λ (asked : Bool). explained asked rows) (sym v.10)
     ∙ ap (λ (n : Text). read n rows) (sym makes.command)
 
 same : (found : Option (Text × List Row)) (one other : Task) → MakesSome found one → MakesSome found other → one ≡ other

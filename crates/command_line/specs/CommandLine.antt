@@ -1,7 +1,7 @@
 -- The command line: its commands and their arguments.
 use Rattle.std.specs.Prelude.{◌≡◌, ℕ, ◌∷◌, [], true, false, pos, Some, codes, List}
 use Rattle.clap.specs.Words.{App, Rule, Text, app_of, new_app, new_rule, rule_of, with_rule, with_subcommand}
-use Rattle.clap.specs.declared.builder.action.ArgAction.TheVariants.{Set, SetTrue}
+use Rattle.clap.specs.declared.builder.action.ArgAction.TheVariants.{Append, Set, SetTrue}
 use Rattle.clap.specs.declared.builder.arg.Arg.{Arg}
 use Rattle.clap.specs.declared.builder.command.Command.{Command}
 use Rattle.clap.specs.declared.builder.command.Command.TheViews.{out-Command}
@@ -75,10 +75,27 @@ optional_evidence_rule = record evidence_rule { required = false }
 abbrev pub map_rule : Rule
 map_rule = file_option_rule (codes "map")
 
+-- `--ranks` with a text that tells a number of ranks, or the first and the last of several
+abbrev pub several_ranks_rule : Rule
+several_ranks_rule = record (option_rule (codes "ranks")) { value_names = 1 }
+
+-- `--set NAME=VALUE`, any number of times
+abbrev pub set_rule : Rule
+set_rule = record (option_rule (codes "set")) { action = Some Append; value_names = 1 }
+
+-- `--collectives WAY`
+abbrev pub collectives_rule : Rule
+collectives_rule = record (option_rule (codes "collectives")) { value_names = 1 }
+
+-- how an SPMD text is unrolled
+abbrev pub with_unrolling : App → App
+with_unrolling a = with_rule (with_rule (with_rule a several_ranks_rule) set_rule) collectives_rule
+
 -- the command `explain`
 abbrev pub explain_app : App
 explain_app =
-    with_rule
+    with_unrolling
+    (with_rule
     (with_rule
     (with_rule
     (with_rule
@@ -95,7 +112,7 @@ explain_app =
     (flag_rule (codes "svg")))
     (flag_rule (codes "html")))
     json_rule)
-    map_rule
+    map_rule)
 
 -- the command `encode`
 abbrev pub encode_app : App
@@ -120,13 +137,33 @@ shrink_app = with_rule (with_rule (new_app (codes "shrink")) program_rule) out_r
 -- the command `decide`
 abbrev pub decide_app : App
 decide_app =
-    with_rule
+    with_unrolling
+    (with_rule
     (with_rule
     (with_rule
     (with_rule (new_app (codes "decide")) program_rule)
     out_rule)
     (flag_rule (codes "progress")))
-    json_rule
+    json_rule)
+
+-- `--ranks N`, which has to be given
+abbrev pub ranks_rule : Rule
+ranks_rule = record (number_rule (codes "ranks") (Signed (pos 1) (pos 2147483647))) { required = true }
+
+-- the command `unroll`
+abbrev pub unroll_app : App
+unroll_app =
+    with_rule
+    (with_rule
+    (with_rule
+    (with_rule
+    (with_rule
+    (with_rule (new_app (codes "unroll")) program_rule)
+    ranks_rule)
+    set_rule)
+    collectives_rule)
+    out_rule)
+    map_rule
 
 -- the command `prove`
 abbrev pub prove_app : App
@@ -148,10 +185,11 @@ wants_subcommand a = record a { top = record a.top { subcommand_required = true 
 abbrev pub with_version : App → App
 with_version a = record a { top = record a.top { has_version = true } }
 
--- the whole command line: one of the nine commands, or a question for help or for the version
+-- the whole command line: one of the ten commands, or a question for help or for the version
 abbrev pub command_line : App
 command_line =
     with_subcommand
+    (with_subcommand
     (with_subcommand
     (with_subcommand
     (with_subcommand
@@ -167,7 +205,8 @@ command_line =
     export_app.top)
     trim_app.top)
     shrink_app.top)
-    decide_app.top
+    decide_app.top)
+    unroll_app.top
 
 -- the argument has this rule, and is of its own command alone
 pub record IsRuled (a : Arg) (rule : Rule) : Type 0 where

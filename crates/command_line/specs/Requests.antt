@@ -1,9 +1,9 @@
 -- What the words of a command line ask for.
-use Rattle.std.specs.Prelude.{◌≡◌, ℕ, [], Bool, if◌then◌else◌, false, Some, None, Option, option_map, codes, List, slice_get}
+use Rattle.std.specs.Prelude.{◌≡◌, ◌||◌, ◌∷◌, ℕ, [], Bool, if◌then◌else◌, false, true, is_some, Some, None, Option, map, option_map, codes, List, slice_get}
 use Rattle.std.specs.Borrow.{Bor}
 use Rattle.std.specs.Str.{bytes_eq}
 use Rattle.std.specs.Str.Parse.{IsNumeral, digits_value, without_leading_plus}
-use Rattle.clap.specs.Words.{Row, Text, fault_of, first_of, one_of, subcommand_of}
+use Rattle.clap.specs.Words.{Row, Text, all_of, fault_of, first_of, one_of, subcommand_of}
 use Rattle.settings.specs.declared.form.Form.{Form}
 use Rattle.settings.specs.declared.form.Form.TheVariants.{Brief, Whole, Graph, Chart, Picture, Page, Object}
 use Rattle.command_line.specs.CommandLine.{command_line}
@@ -18,9 +18,12 @@ use Rattle.command_line.specs.declared.request.Request.TheVariants as ask
 -- named one run, or the answer to a search with these numbers, shows of a program, in a form, with
 -- the places that the file of a map, where one is named, has for lines; to export the proof that an
 -- evidence makes of a program, to a file; to trim an evidence, to a file, with the answer as a JSON
--- object or not; to make a program smaller, to a file, where one is named; and to decide a program
--- of any length by one run, with the file for the schedule of a deadlock, where one is named,
--- whether the progress is told, and whether the answer is a JSON object.
+-- object or not; to make a program smaller, to a file, where one is named; to decide a program of
+-- any length by one run, with the file for the schedule of a deadlock, where one is named, whether
+-- the progress is told, and whether the answer is a JSON object; to unroll an SPMD text for so
+-- many ranks with these settings, and what is said of how collective calls wait, with the files for
+-- the program and for its map, where they are named; and to decide, or to explain, what an SPMD text is unrolled to for the numbers of ranks that
+-- a text tells, where one is given, with these settings and all else that goes with the command.
 pub data Task : Type 0 where
   to_prove : Text → Option Text → ℕ → ℕ → ℕ → Bool → Bool → Task
   to_check : Text → Text → ℕ → Bool → Task
@@ -31,6 +34,9 @@ pub data Task : Type 0 where
   to_trim : Text → Text → Bool → Task
   to_shrink : Text → Option Text → Task
   to_decide : Text → Option Text → Bool → Bool → Task
+  to_unroll : Text → ℕ → List Text → Option Text → Option Text → Option Text → Task
+  to_decide_unrolled : Text → Option Text → List Text → Option Text → Option Text → Bool → Bool → Task
+  to_explain_unrolled : Text → Option Text → List Text → Option Text → Option Text → ℕ → ℕ → ℕ → Form → Option Text → Task
 
 -- the path of a file that may be named
 abbrev pub path_of : Option (Bor Text) → Option Text
@@ -48,6 +54,13 @@ task_of (ask.Export r) = to_export r.program.now r.evidence.now r.out.now
 task_of (ask.Trim r) = to_trim r.evidence.now r.out.now r.json
 task_of (ask.Shrink r) = to_shrink r.program.now (path_of r.out)
 task_of (ask.Decide r) = to_decide r.program.now (path_of r.out) r.progress r.json
+task_of (ask.Unroll r) =
+    to_unroll r.program.now r.ranks (map (λ s. s.now) r.settings.items) (path_of r.collectives) (path_of r.out) (path_of r.map)
+task_of (ask.DecideUnrolled r) =
+    to_decide_unrolled r.program.now (path_of r.ranks) (map (λ s. s.now) r.settings.items) (path_of r.collectives) (path_of r.out) r.progress r.json
+task_of (ask.ExplainUnrolled r) =
+    to_explain_unrolled r.program.now (path_of r.ranks) (map (λ s. s.now) r.settings.items) (path_of r.collectives) (path_of r.evidence)
+    r.options.workers r.options.depth r.options.budget r.form (path_of r.map)
 
 -- the word of a task's command
 abbrev pub command_of : Task → Text
@@ -60,6 +73,9 @@ command_of (to_export program evidence out) = codes "export"
 command_of (to_trim evidence out json) = codes "trim"
 command_of (to_shrink program out) = codes "shrink"
 command_of (to_decide program out progress json) = codes "decide"
+command_of (to_unroll program ranks settings collectives out map) = codes "unroll"
+command_of (to_decide_unrolled program ranks settings collectives out progress json) = codes "decide"
+command_of (to_explain_unrolled program ranks settings collectives evidence workers depth budget form map) = codes "explain"
 
 -- ---- what the words after a command give
 
@@ -97,6 +113,24 @@ abbrev pub Reads : List Row → Text → ℕ → Type 0
 Reads rows id number =
     (text : Text) × (one_of id rows ≡ Some text) × IsNumeral 10 (without_leading_plus text) × (number ≡ number_of text)
 
+-- all texts of an argument, in their order
+abbrev pub texts_in : Option (List Text) → List Text
+texts_in None = []
+texts_in (Some texts) = texts
+
+-- the settings of an SPMD text's parameters
+abbrev pub settings_in : List Row → List Text
+settings_in rows = texts_in (all_of (codes "set") rows)
+
+abbrev pub some_setting : List Text → Bool
+some_setting [] = false
+some_setting (setting ∷ settings) = true
+
+-- they ask for an SPMD text: by a number of ranks, a setting, or how collective calls wait
+abbrev pub is_spmd_asked : List Row → Bool
+is_spmd_asked rows =
+    is_some (first_of (codes "ranks") rows) || (some_setting (settings_in rows) || is_some (first_of (codes "collectives") rows))
+
 -- the values of a task are those of its command's arguments
 abbrev pub HasValues : List Row → Task → Type 0
 HasValues rows (to_prove program out workers depth budget progress json) =
@@ -110,6 +144,7 @@ HasValues rows (to_encode program dimacs) = Gives rows (codes "PROGRAM") program
 HasValues rows (to_explain program evidence workers depth budget form map) =
     Gives rows (codes "PROGRAM") program × (first_of (codes "EVIDENCE") rows ≡ evidence) × Reads rows (codes "workers") workers
     × Reads rows (codes "depth") depth × Reads rows (codes "budget") budget × (form ≡ form_in rows) × (first_of (codes "map") rows ≡ map)
+    × (is_spmd_asked rows ≡ false)
 HasValues rows (to_export program evidence out) =
     Gives rows (codes "PROGRAM") program × Gives rows (codes "EVIDENCE") evidence × Gives rows (codes "out") out
 HasValues rows (to_trim evidence out json) =
@@ -117,7 +152,18 @@ HasValues rows (to_trim evidence out json) =
 HasValues rows (to_shrink program out) = Gives rows (codes "PROGRAM") program × (first_of (codes "out") rows ≡ out)
 HasValues rows (to_decide program out progress json) =
     Gives rows (codes "PROGRAM") program × (first_of (codes "out") rows ≡ out)
-    × Flags rows (codes "progress") progress × Flags rows (codes "json") json
+    × Flags rows (codes "progress") progress × Flags rows (codes "json") json × (is_spmd_asked rows ≡ false)
+HasValues rows (to_unroll program ranks settings collectives out map) =
+    Gives rows (codes "PROGRAM") program × Reads rows (codes "ranks") ranks × (settings_in rows ≡ settings) × (first_of (codes "collectives") rows ≡ collectives)
+    × (first_of (codes "out") rows ≡ out) × (first_of (codes "map") rows ≡ map)
+HasValues rows (to_decide_unrolled program ranks settings collectives out progress json) =
+    Gives rows (codes "PROGRAM") program × (first_of (codes "ranks") rows ≡ ranks) × (settings_in rows ≡ settings) × (first_of (codes "collectives") rows ≡ collectives)
+    × (first_of (codes "out") rows ≡ out) × Flags rows (codes "progress") progress × Flags rows (codes "json") json
+    × (is_spmd_asked rows ≡ true)
+HasValues rows (to_explain_unrolled program ranks settings collectives evidence workers depth budget form map) =
+    Gives rows (codes "PROGRAM") program × (first_of (codes "ranks") rows ≡ ranks) × (settings_in rows ≡ settings) × (first_of (codes "collectives") rows ≡ collectives)
+    × (first_of (codes "EVIDENCE") rows ≡ evidence) × Reads rows (codes "workers") workers × Reads rows (codes "depth") depth
+    × Reads rows (codes "budget") budget × (form ≡ form_in rows) × (first_of (codes "map") rows ≡ map) × (is_spmd_asked rows ≡ true)
 
 -- a command's name and its matches make this task
 pub record Makes (name : Text) (rows : List Row) (task : Task) : Type 0 where

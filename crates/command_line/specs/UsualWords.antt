@@ -5,7 +5,7 @@ use Rattle.clap.specs.Words.{Text}
 use Rattle.settings.specs.Ranges.{IsPieces}
 use Rattle.settings.specs.declared.form.Form.{Form}
 use Rattle.settings.specs.declared.form.Form.TheVariants.{Brief, Whole, Graph, Chart, Picture, Page, Object}
-use Rattle.command_line.specs.Requests.{AskFor, Task, number_of, to_check, to_decide, to_encode, to_explain, to_export, to_prove, to_replay, to_shrink, to_trim}
+use Rattle.command_line.specs.Requests.{AskFor, Task, number_of, to_check, to_decide, to_decide_unrolled, to_encode, to_explain, to_explain_unrolled, to_export, to_prove, to_replay, to_shrink, to_trim, to_unroll}
 
 -- the text's first byte is a hyphen
 abbrev pub begins_with_hyphen : Text → Bool
@@ -70,6 +70,13 @@ pub data PlainForm : List Text → Task → Type 0 where
       → PlainForm (name ∷ codes "decide" ∷ p ∷ codes "--json" ∷ []) (to_decide p None false true)
   decide_out_form : (name p file : Text) → IsFree p → IsFree file
       → PlainForm (name ∷ codes "decide" ∷ p ∷ codes "--out" ∷ file ∷ []) (to_decide p (Some file) false false)
+  decide_ranks_form : (name p ranks : Text) → IsFree p → IsFree ranks
+      → PlainForm (name ∷ codes "decide" ∷ p ∷ codes "--ranks" ∷ ranks ∷ []) (to_decide_unrolled p (Some ranks) [] None None false false)
+  decide_ranks_set_form : (name p ranks setting : Text) → IsFree p → IsFree ranks → IsFree setting
+      → PlainForm (name ∷ codes "decide" ∷ p ∷ codes "--ranks" ∷ ranks ∷ codes "--set" ∷ setting ∷ [])
+      (to_decide_unrolled p (Some ranks) (setting ∷ []) None None false false)
+  explain_ranks_form : (name p ranks : Text) → IsFree p → IsFree ranks
+      → PlainForm (name ∷ codes "explain" ∷ p ∷ codes "--ranks" ∷ ranks ∷ []) (to_explain_unrolled p (Some ranks) [] None None 4 4 1000000 Brief None)
   prove_form : (name p : Text) → IsFree p
       → PlainForm (name ∷ codes "prove" ∷ p ∷ []) (to_prove p None 4 4 1000000 false false)
   prove_json_form : (name p : Text) → IsFree p
@@ -78,6 +85,18 @@ pub data PlainForm : List Text → Task → Type 0 where
       → PlainForm (name ∷ codes "prove" ∷ p ∷ codes "--progress" ∷ []) (to_prove p None 4 4 1000000 true false)
   prove_out_form : (name p file : Text) → IsFree p → IsFree file
       → PlainForm (name ∷ codes "prove" ∷ p ∷ codes "--out" ∷ file ∷ []) (to_prove p (Some file) 4 4 1000000 false false)
+  unroll_form : (name p : Text) → IsFree p
+      → PlainForm (name ∷ codes "unroll" ∷ p ∷ codes "--ranks" ∷ codes "4" ∷ []) (to_unroll p 4 [] None None None)
+  unroll_set_form : (name p setting : Text) → IsFree p → IsFree setting
+      → PlainForm (name ∷ codes "unroll" ∷ p ∷ codes "--ranks" ∷ codes "4" ∷ codes "--set" ∷ setting ∷ []) (to_unroll p 4 (setting ∷ []) None None None)
+  unroll_sets_form : (name p one other : Text) → IsFree p → IsFree one → IsFree other
+      → PlainForm (name ∷ codes "unroll" ∷ p ∷ codes "--ranks" ∷ codes "4" ∷ codes "--set" ∷ one ∷ codes "--set" ∷ other ∷ [])
+      (to_unroll p 4 (one ∷ other ∷ []) None None None)
+  unroll_collectives_form : (name p way : Text) → IsFree p → IsFree way
+      → PlainForm (name ∷ codes "unroll" ∷ p ∷ codes "--ranks" ∷ codes "4" ∷ codes "--collectives" ∷ way ∷ []) (to_unroll p 4 [] (Some way) None None)
+  unroll_map_form : (name p file map : Text) → IsFree p → IsFree file → IsFree map
+      → PlainForm (name ∷ codes "unroll" ∷ p ∷ codes "--ranks" ∷ codes "4" ∷ codes "--out" ∷ file ∷ codes "--map" ∷ map ∷ [])
+      (to_unroll p 4 [] None (Some file) (Some map))
 
 -- such words ask for their task: they are read so, and have no fault
 abbrev pub PlainWordsAreRead : Type 0

@@ -1,7 +1,7 @@
 //! The arguments of the commands.
 
 ghost use Rattle.std.specs.Prelude.{codes};
-ghost use Rattle.command_line.specs.CommandLine.{IsRuled, evidence_rule, file_option_rule, file_rule, flag_rule, map_rule, number_rule, number_with, option_rule, optional_evidence_rule, out_rule, program_rule, proof_rule};
+ghost use Rattle.command_line.specs.CommandLine.{IsRuled, collectives_rule, evidence_rule, file_option_rule, file_rule, flag_rule, map_rule, number_rule, number_with, option_rule, optional_evidence_rule, out_rule, program_rule, proof_rule, ranks_rule, set_rule, several_ranks_rule};
 
 use clap::builder::ValueParser;
 use clap::{Arg, ArgAction, value_parser};
@@ -41,10 +41,22 @@ pub const LINES: &str = "lines";
 
 pub const MAP: &str = "map";
 
+pub const RANKS: &str = "ranks";
+
+pub const SET: &str = "set";
+
+pub const COLLECTIVES: &str = "collectives";
+
 pub fn program<'a>(alloc: Global) -> Arg<'a>
     ensures { IsRuled result program_rule }
 {
     file(alloc, PROGRAM, "The file with the program text")
+}
+
+pub fn spmd<'a>(alloc: Global) -> Arg<'a>
+    ensures { IsRuled result program_rule }
+{
+    file(alloc, PROGRAM, "The file with the SPMD text")
 }
 
 pub fn evidence<'a>(alloc: Global) -> Arg<'a>
@@ -205,6 +217,55 @@ pub fn schedule<'a>(alloc: Global) -> Arg<'a>
     ensures { IsRuled result out_rule }
 {
     written(alloc, "Write the schedule of a deadlock to this file")
+}
+
+pub fn unrolled<'a>(alloc: Global) -> Arg<'a>
+    ensures { IsRuled result out_rule }
+{
+    written(alloc, "Write the program to this file")
+}
+
+pub fn written_map<'a>(alloc: Global) -> Arg<'a>
+    ensures { IsRuled result map_rule }
+{
+    file_option(
+        alloc,
+        MAP,
+        "Write to this file where each line of the program comes from, for explain --map",
+    )
+}
+
+pub fn ranks<'a>(alloc: Global) -> Arg<'a>
+    ensures { IsRuled result ranks_rule }
+{
+    number(alloc, RANKS, value_parser!(u32).range(1..=2_147_483_647))
+        .required(true)
+        .help("How many ranks there are, 1 to 2147483647")
+}
+
+pub fn several_ranks<'a>(alloc: Global) -> Arg<'a>
+    ensures { IsRuled result several_ranks_rule }
+{
+    option(alloc, RANKS).value_name("N").help(
+        "PROGRAM is an SPMD text, unrolled for so many ranks, as 4, or with decide for each of several, as 2..16",
+    )
+}
+
+pub fn set<'a>(alloc: Global) -> Arg<'a>
+    ensures { IsRuled result set_rule }
+{
+    option(alloc, SET)
+        .action(ArgAction::Append)
+        .value_name("NAME=VALUE")
+        .help("The value of a parameter of the text; once for each")
+}
+
+pub fn collectives<'a>(alloc: Global) -> Arg<'a>
+    ensures { IsRuled result collectives_rule }
+{
+    option(alloc, COLLECTIVES).value_name("WAY").help(
+        "How collective calls wait: least, as little as MPI guarantees, which is usual, or most, each as a barrier",
+    )
 }
 
 /// The file to write.

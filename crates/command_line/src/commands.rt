@@ -2,16 +2,16 @@
 
 ghost use Rattle.std.specs.Prelude.{◌≡◌, IfOk};
 ghost use Rattle.clap.specs.Words.{App, Rule, new_app, with_rule, with_subcommand};
-ghost use Rattle.command_line.specs.CommandLine.{IsRuled, IsShaped, check_app, command_line, decide_app, encode_app, explain_app, export_app, prove_app, replay_app, shrink_app, trim_app, version_line, with_search};
+ghost use Rattle.command_line.specs.CommandLine.{IsRuled, IsShaped, check_app, command_line, decide_app, encode_app, explain_app, export_app, prove_app, replay_app, shrink_app, trim_app, unroll_app, version_line, with_search, with_unrolling};
 
 use crate::arguments::{
-    all, budget, chart, depth, dimacs, dot, evidence, html, json, lines, map, object,
-    optional_evidence, out, pieces, program, progress, proof, schedule, smaller, stages, svg,
-    trimmed, workers,
+    all, budget, chart, collectives, depth, dimacs, dot, evidence, html, json, lines, map, object,
+    optional_evidence, out, pieces, program, progress, proof, ranks, schedule, set, several_ranks,
+    smaller, spmd, stages, svg, trimmed, unrolled, workers, written_map,
 };
 use crate::help_ends::{
     CHECK_END, DECIDE_END, ENCODE_END, EXPLAIN_END, EXPORT_END, HELP_END, PROVE_END, REPLAY_END,
-    SHRINK_END, TRIM_END,
+    SHRINK_END, TRIM_END, UNROLL_END,
 };
 use clap::Arg;
 use clap::builder::Command;
@@ -55,6 +55,18 @@ fn with_search<'a>(
     with(whole, budget(alloc))
 }
 
+/// A command with the arguments that say how an SPMD text is unrolled, in the same way.
+fn with_unrolling<'a>(
+    alloc: Global,
+    whole: Result<Command<'a>, AllocError>,
+) -> Result<Command<'a>, AllocError>
+    ensures { (app : App) → IfOk whole.entry (λ c. IsShaped c app) → IfOk result (λ c. IsShaped c (with_unrolling app)) }
+{
+    let whole = with(whole, several_ranks(alloc));
+    let whole = with(whole, set(alloc));
+    with(whole, collectives(alloc))
+}
+
 /// A command with this name, whose help begins and ends so.
 fn named<'a>(alloc: Global, name: &'a str, about: &'a str, end: &'a str) -> Command<'a>
     ensures { IsShaped result (new_app name.entry.now) }
@@ -78,7 +90,8 @@ pub fn command<'a>(alloc: Global) -> Result<Command<'a>, AllocError>
     let top = under(top, export_command(alloc));
     let top = under(top, trim_command(alloc));
     let top = under(top, shrink_command(alloc));
-    under(top, decide_command(alloc))
+    let top = under(top, decide_command(alloc));
+    under(top, unroll_command(alloc))
 }
 
 fn prove_command<'a>(alloc: Global) -> Result<Command<'a>, AllocError>
@@ -152,7 +165,8 @@ fn explain_command<'a>(alloc: Global) -> Result<Command<'a>, AllocError>
     let command = with(command, svg(alloc));
     let command = with(command, html(alloc));
     let command = with(command, object(alloc));
-    with(command, map(alloc))
+    let command = with(command, map(alloc));
+    with_unrolling(alloc, command)
 }
 
 fn export_command<'a>(alloc: Global) -> Result<Command<'a>, AllocError>
@@ -208,5 +222,23 @@ fn decide_command<'a>(alloc: Global) -> Result<Command<'a>, AllocError>
     let command = with(Ok(command), program(alloc));
     let command = with(command, schedule(alloc));
     let command = with(command, stages(alloc));
-    with(command, json(alloc))
+    let command = with(command, json(alloc));
+    with_unrolling(alloc, command)
+}
+
+fn unroll_command<'a>(alloc: Global) -> Result<Command<'a>, AllocError>
+    ensures { IfOk result (λ c. IsShaped c unroll_app) }
+{
+    let command = named(
+        alloc,
+        "unroll",
+        "Prints the program that an SPMD text is unrolled to",
+        UNROLL_END,
+    );
+    let command = with(Ok(command), spmd(alloc));
+    let command = with(command, ranks(alloc));
+    let command = with(command, set(alloc));
+    let command = with(command, collectives(alloc));
+    let command = with(command, unrolled(alloc));
+    with(command, written_map(alloc))
 }

@@ -65,7 +65,8 @@ pub const ENCODE_END: &str = ending!(
 pub const EXPLAIN_END: &str = ending!(
     "explain program.mpi
   mpiprove explain program.mpi --map program.map
-  mpiprove explain program.mpi program.evidence",
+  mpiprove explain program.mpi program.evidence
+  mpiprove explain halo.spmd --ranks 4",
     "
   0  no deadlock: the size of the program, and of a refutation, is printed
   1  deadlock: what each rank waits for is printed
@@ -101,10 +102,21 @@ pub const SHRINK_END: &str = ending!(
 
 /// Of `decide`.
 pub const DECIDE_END: &str = ending!(
-    "decide program.mpi --out program.evidence",
+    "decide program.mpi --out program.evidence
+  mpiprove decide halo.spmd --ranks 2..16",
     "
   0  no deadlock: no run of the program gets stuck
   1  deadlock: some run of it does
   2  unknown race: a receive or probe takes any source, so one run may not tell; prove may
   3  refused: the program, with the reason"
+);
+
+/// Of `unroll`.
+pub const UNROLL_END: &str = ending!(
+    "unroll halo.spmd --ranks 4 --set px=2 --out halo.mpi --map halo.map
+  mpiprove prove halo.mpi --out halo.evidence
+  mpiprove decide halo.spmd --ranks 4 --set px=2",
+    "
+  0  the program is printed, or written
+  3  refused: the SPMD text, with its first fault"
 );

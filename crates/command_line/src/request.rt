@@ -1,13 +1,13 @@
 //! What the words of a command line ask for.
 
-ghost use Rattle.std.specs.Prelude.{◌≡◌, ◌⊎◌, IfErr, IfOk, IfSome, codes, map, string_bytes};
-ghost use Rattle.clap.specs.Words.{IsAmong, fault_of, found_of, kind_of, rows_of, subcommand_rows_of};
+ghost use Rattle.std.specs.Prelude.{◌≡◌, ◌⊎◌, IfErr, IfOk, IfSome, List, codes, map, string_bytes};
+ghost use Rattle.clap.specs.Words.{IsAmong, Row, all_of, fault_of, first_of, found_of, kind_of, rows_of, subcommand_rows_of};
 ghost use Rattle.command_line.specs.CommandLine.{command_line};
-ghost use Rattle.command_line.specs.Requests.{AskFor, Flags, Makes, MakesSome, Reads, form_in, task_of};
+ghost use Rattle.command_line.specs.Requests.{AskFor, Flags, Makes, MakesSome, Reads, form_in, is_spmd_asked, path_of, settings_in, task_of, texts_in};
 
 use crate::arguments::{
-    ALL, BUDGET, CHART, DEPTH, DIMACS, DOT, EVIDENCE, HTML, JSON, LINES, MAP, OUT, PIECES, PROGRAM,
-    PROGRESS, SVG, WORKERS,
+    ALL, BUDGET, CHART, COLLECTIVES, DEPTH, DIMACS, DOT, EVIDENCE, HTML, JSON, LINES, MAP, OUT,
+    PIECES, PROGRAM, PROGRESS, RANKS, SET, SVG, WORKERS,
 };
 use crate::commands::command;
 use clap::error::ErrorKind;
@@ -95,8 +95,50 @@ pub struct ToDecide<'a> {
     pub json: bool,
 }
 
+/// To print the program that an SPMD text is unrolled to for so many ranks, 1 to 2,147,483,647, or
+/// write it to the file `out`, and the map of its lines to the file `map`. Each setting is written
+/// NAME=VALUE; collective calls wait as `collectives` says, `least` or `most`.
+#[derive(Drop)]
+pub struct ToUnroll<'a> {
+    pub program: &'a str,
+    pub ranks: u32,
+    pub settings: Vec<&'a str>,
+    pub collectives: Option<&'a str>,
+    pub out: Option<&'a str>,
+    pub map: Option<&'a str>,
+}
+
+/// To decide what an SPMD text is unrolled to, for each number of ranks that the text `ranks` tells.
+/// Each setting is written NAME=VALUE; collective calls wait as `collectives` says, `least` or
+/// `most`. `out` and `progress` don't go with it.
+#[derive(Drop)]
+pub struct ToDecideUnrolled<'a> {
+    pub program: &'a str,
+    pub ranks: Option<&'a str>,
+    pub settings: Vec<&'a str>,
+    pub collectives: Option<&'a str>,
+    pub out: Option<&'a str>,
+    pub progress: bool,
+    pub json: bool,
+}
+
+/// To explain what an SPMD text is unrolled to, for the number of ranks that the text `ranks` tells,
+/// in this form, with the places of its own lines. Each setting is written NAME=VALUE;
+/// collective calls wait as `collectives` says. `evidence` and `map` don't go with it.
+#[derive(Drop)]
+pub struct ToExplainUnrolled<'a> {
+    pub program: &'a str,
+    pub ranks: Option<&'a str>,
+    pub settings: Vec<&'a str>,
+    pub collectives: Option<&'a str>,
+    pub evidence: Option<&'a str>,
+    pub options: Options,
+    pub form: Form,
+    pub map: Option<&'a str>,
+}
+
 /// What a command line asks for, with the paths of its files.
-#[derive(Clone, Copy)]
+#[derive(Drop)]
 pub enum Request<'a> {
     Prove(ToProve<'a>),
     Check(ToCheck<'a>),
@@ -107,6 +149,9 @@ pub enum Request<'a> {
     Trim(ToTrim<'a>),
     Shrink(ToShrink<'a>),
     Decide(ToDecide<'a>),
+    Unroll(ToUnroll<'a>),
+    DecideUnrolled(ToDecideUnrolled<'a>),
+    ExplainUnrolled(ToExplainUnrolled<'a>),
 }
 
 /// What the words ask for. The first word is the program's own name. An error is a fault of usage,
@@ -117,30 +162,37 @@ pub fn request_of(alloc: Global, words: &[String]) -> Result<Request<'_>, Error>
         ⊎ IsAmong (kind_of e) (fault_of command_line (map (λ w. string_bytes w) words.now))) }
 {
     let mut command = command(alloc)?;
-    let matches = match command.try_get_matches_from_mut(words) {
-        Ok(matches) => matches,
-        Err(fault) => return Err(fault),
-    };
-    match requested_by(&matches) {
+    match command.try_get_matches_from_mut(words) {
+        Err(fault) => Err(fault),
+        Ok(matches) => asked_by(alloc, &matches),
+    }
+}
+
+/// The request of the matches of a whole command line. A parse that succeeds gives each value, so
+/// that the error comes for want of memory alone.
+fn asked_by<'a>(alloc: Global, matches: &ArgMatches<'a>) -> Result<Request<'a>, Error>
+    ensures request { IfOk result (λ request. MakesSome (subcommand_rows_of matches.now) (task_of request)) }
+    ensures memory { IfErr result (λ e. kind_of e ≡ ErrorKind.OutOfMemory) }
+{
+    match requested_by(alloc, matches) {
         Some(request) => Ok(request),
-        // A parse that succeeds gives each value, so this doesn't come.
         None => Err(Error::from(AllocError)),
     }
 }
 
 /// The request of the matches of a whole command line.
-fn requested_by<'a>(matches: &ArgMatches<'a>) -> Option<Request<'a>>
+fn requested_by<'a>(alloc: Global, matches: &ArgMatches<'a>) -> Option<Request<'a>>
     ensures { IfSome result (λ request. MakesSome (subcommand_rows_of matches.now) (task_of request)) }
 {
     let Some(subcommand) = matches.subcommand() else {
         return None;
     };
-    requested(subcommand)
+    requested(alloc, subcommand)
 }
 
 /// The request of a subcommand's matches. There is one wherever its required arguments have values
-/// in their ranges, as after each parse.
-fn requested<'a>(subcommand: (&'a str, &ArgMatches<'a>)) -> Option<Request<'a>>
+/// in their ranges, as after each parse, unless memory runs out.
+fn requested<'a>(alloc: Global, subcommand: (&'a str, &ArgMatches<'a>)) -> Option<Request<'a>>
     ensures { IfSome result (λ request.
         Makes subcommand.entry.0.now (rows_of (found_of subcommand.entry.1.now)) (task_of request)) }
 {
@@ -150,11 +202,12 @@ fn requested<'a>(subcommand: (&'a str, &ArgMatches<'a>)) -> Option<Request<'a>>
         "check" => check_request(matches),
         "replay" => replay_request(matches),
         "encode" => encode_request(matches),
-        "explain" => explain_request(matches),
+        "explain" => explain_request(alloc, matches),
         "export" => export_request(matches),
         "trim" => trim_request(matches),
         "shrink" => shrink_request(matches),
-        "decide" => decide_request(matches),
+        "decide" => decide_request(alloc, matches),
+        "unroll" => unroll_request(alloc, matches),
         _ => None,
     }
 }
@@ -208,16 +261,41 @@ fn encode_request<'a>(matches: &ArgMatches<'a>) -> Option<Request<'a>>
 }
 
 /// The request of the matches of `explain`.
-fn explain_request<'a>(matches: &ArgMatches<'a>) -> Option<Request<'a>>
+fn explain_request<'a>(alloc: Global, matches: &ArgMatches<'a>) -> Option<Request<'a>>
     ensures { IfSome result (λ request. Makes (codes "explain") (rows_of (found_of matches.now)) (task_of request)) }
 {
+    let program = matches.get_str(PROGRAM)?;
+    let options = options_of(matches)?;
+    let ranks = matches.get_str(RANKS);
+    let collectives = matches.get_str(COLLECTIVES);
+    let settings = texts_of(alloc, matches, SET)?;
+    if is_spmd_asked(ranks, &settings, collectives) {
+        return Some(Request::ExplainUnrolled(ToExplainUnrolled {
+            program,
+            ranks,
+            settings,
+            collectives,
+            evidence: matches.get_str(EVIDENCE),
+            options,
+            form: form_of(matches),
+            map: matches.get_str(MAP),
+        }));
+    }
     Some(Request::Explain(ToExplain {
-        program: matches.get_str(PROGRAM)?,
+        program,
         evidence: matches.get_str(EVIDENCE),
-        options: options_of(matches)?,
+        options,
         form: form_of(matches),
         map: matches.get_str(MAP),
     }))
+}
+
+/// Whether an SPMD text is asked for: by a number of ranks, a setting, or how collective calls wait.
+fn is_spmd_asked(ranks: Option<&str>, settings: &[&str], collectives: Option<&str>) -> bool
+    ensures { (rows : List Row) → first_of (codes "ranks") rows ≡ path_of ranks.entry → map (λ s. s.now) settings.now ≡ settings_in rows
+        → first_of (codes "collectives") rows ≡ path_of collectives.entry → result ≡ is_spmd_asked rows }
+{
+    ranks.is_some() || !settings.is_empty() || collectives.is_some()
 }
 
 /// The request of the matches of `export`.
@@ -254,18 +332,63 @@ fn shrink_request<'a>(matches: &ArgMatches<'a>) -> Option<Request<'a>>
 }
 
 /// The request of the matches of `decide`.
-fn decide_request<'a>(matches: &ArgMatches<'a>) -> Option<Request<'a>>
+fn decide_request<'a>(alloc: Global, matches: &ArgMatches<'a>) -> Option<Request<'a>>
     ensures { IfSome result (λ request.
         Makes (codes "decide") (rows_of (found_of matches.now)) (task_of request)) }
 {
+    let program = matches.get_str(PROGRAM)?;
+    let out = matches.get_str(OUT);
     let progress = is_set(matches, PROGRESS);
     let json = is_set(matches, JSON);
+    let ranks = matches.get_str(RANKS);
+    let collectives = matches.get_str(COLLECTIVES);
+    let settings = texts_of(alloc, matches, SET)?;
+    if is_spmd_asked(ranks, &settings, collectives) {
+        return Some(Request::DecideUnrolled(ToDecideUnrolled {
+            program,
+            ranks,
+            settings,
+            collectives,
+            out,
+            progress,
+            json,
+        }));
+    }
     Some(Request::Decide(ToDecide {
-        program: matches.get_str(PROGRAM)?,
-        out: matches.get_str(OUT),
+        program,
+        out,
         progress,
         json,
     }))
+}
+
+/// The request of the matches of `unroll`.
+fn unroll_request<'a>(alloc: Global, matches: &ArgMatches<'a>) -> Option<Request<'a>>
+    ensures { IfSome result (λ request. Makes (codes "unroll") (rows_of (found_of matches.now)) (task_of request)) }
+{
+    let ranks = matches.get_one::<u32>(RANKS)?;
+    let settings = texts_of(alloc, matches, SET)?;
+    Some(Request::Unroll(ToUnroll {
+        program: matches.get_str(PROGRAM)?,
+        ranks,
+        settings,
+        collectives: matches.get_str(COLLECTIVES),
+        out: matches.get_str(OUT),
+        map: matches.get_str(MAP),
+    }))
+}
+
+/// All values of an option, unless memory runs out.
+fn texts_of<'a>(alloc: Global, matches: &ArgMatches<'a>, id: &str) -> Option<Vec<&'a str>>
+    ensures { IfSome result (λ texts. map (λ text. text.now) texts.items ≡ texts_in (all_of id.now (rows_of (found_of matches.now)))) }
+{
+    match matches.get_strs(id) {
+        None => Some(Vec::new(alloc)),
+        Some(texts) => match Vec::from_slice(alloc, texts) {
+            Ok(copied) => Some(copied),
+            Err(AllocError) => None,
+        },
+    }
 }
 
 /// The form of an explanation: the first of these that is asked for.

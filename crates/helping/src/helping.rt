@@ -10,6 +10,7 @@ use callorder::ResolveFault;
 use calltext::{Limits, ReadFault};
 use checker::Reason;
 use semantics::End;
+use spmd_text::is_spmd;
 use std::alloc::{AllocError, Global};
 
 /// Tells why a program's text can't be read.
@@ -39,9 +40,26 @@ fn put_read(
                 "{text} can't be written in a program: see FROM_MPI.md in the folder docs\n"
             )
         }
-        ReadFault::Syntax { line } => put_syntax(help, alloc, &lines, line as usize),
+        ReadFault::Syntax { line } => put_shape(help, alloc, program, &lines, line as usize),
         ReadFault::Range { line } => put_syntax(help, alloc, &lines, line as usize),
     }
+}
+
+/// Tells what is wrong with the shape of a line, by its number, from 1, or that the text is of
+/// another language.
+fn put_shape(
+    help: &mut Help,
+    alloc: Global,
+    program: &[u8],
+    lines: &[&[u8]],
+    number: usize,
+) -> Result<(), AllocError> {
+    if number == 1 && is_spmd(program) {
+        return help.notes.push_str(
+            "this is an SPMD text: decide, explain and unroll take it with --ranks N\n",
+        );
+    }
+    put_syntax(help, alloc, lines, number)
 }
 
 /// What is told of a reason that names no line.

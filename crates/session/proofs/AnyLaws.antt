@@ -1,9 +1,10 @@
 -- The law of any run that told a deadlock.
-use Rattle.std.proofs.Common.{◌≡◌, arith, inl, inr, ℕ, List, Bool, true, false, Some, None, Option}
+use Rattle.std.proofs.Common.{◌≡◌, arith, inl, inr, subst, ℕ, List, Bool, true, false, Some, None, Option}
+use Rattle.clap.specs.Words.{Text}
 use Rattle.clap.specs.declared.error.kind.ErrorKind.{ErrorKind}
 use Rattle.formulas.specs.Numbering.{formula_of}
 use Rattle.command_line.specs.CommandLine.{version_line}
-use Rattle.command_line.specs.Requests.{AskFor, Task, to_check, to_decide, to_encode, to_explain, to_export, to_prove, to_replay, to_shrink, to_trim}
+use Rattle.command_line.specs.Requests.{AskFor, Task, to_check, to_decide, to_decide_unrolled, to_encode, to_explain, to_explain_unrolled, to_export, to_prove, to_replay, to_shrink, to_trim, to_unroll}
 use Rattle.session.specs.AnyLaws.{IsRightlyTold, ToldDeadlockIsShown}
 use Rattle.session.specs.Asking.{TellsDeadlock}
 use Rattle.session.specs.Endings.{EndsUnasked, Explains, TaskEnds}
@@ -11,6 +12,7 @@ use Rattle.session.specs.Explaining.{IsDecidedFirst, IsExplained}
 use Rattle.session.specs.Lines.{early_line}
 use Rattle.session.specs.Pages.{IsEncoded}
 use Rattle.session.specs.Runs.{SessionRun}
+use Rattle.session.specs.Unrolling.{no_way}
 use Rattle.session.specs.declared.told.Told.TheVariants as told
 use Rattle.session.proofs.DeadlockLines.{PageTells, deadlock_page, deadlock_printed, dimacs_untold, formula_untold, help_untold, line_tells, version_untold}
 use Rattle.session.proofs.Deadlocks.{check_shows, explained_shows, exported_checked, prove_shows, replayed_shows}
@@ -19,6 +21,9 @@ use Rattle.session.proofs.ExplainedPages.{first_shows}
 use Rattle.session.proofs.DecidedPages.{decided_hangs}
 use Rattle.session.proofs.RunLaws.{complaint_untold}
 use Rattle.session.proofs.FileLaws.{shrunk_hangs, trimmed_untold}
+use Rattle.session.proofs.SweepLaws.{rises}
+use Rattle.session.proofs.SweptPages.{explained_hangs, swept_hangs}
+use Rattle.session.proofs.UnrolledPages.{unrolled_untold}
 
 -- the page of `encode` tells no deadlock
 encoded_untold : (dimacs : Bool) (file : Option (List ℕ)) (text : List ℕ) (status : ℕ) → IsEncoded dimacs file text status → PageTells text status → ⊥
@@ -56,14 +61,14 @@ asked_told run (to_replay p e lines) asks ends says =
           replayed_shows lines (run.before p) (run.before e) page.0 page.1 program evidence page.2 page.3 held_p held_e,
     ))
 asked_told run (to_explain p None workers depth budget form map) asks ends says =
-    inr (inr (inr (
+    inr (inr (inr (inl (
       p,
       inr (budget, form, (workers, depth, map, asks)),
       λ program held.
           let page = deadlock_page ends.1 says in
           let plain = unmapped_told run.before p form map (IsDecidedFirst (run.before p) budget form) page.0 page.1 page.2 page.3 in
           first_shows (run.before p) budget form plain.0 page.1 program plain.1 plain.2 held,
-    )))
+    ))))
 asked_told run (to_explain p (Some e) workers depth budget form map) asks ends says =
     inr (inl (
       p,
@@ -100,13 +105,67 @@ asked_told run (to_shrink p out) asks ends says =
           shrunk_hangs run.tells.writes run.before run.after p out page.0 page.1 program page.2 page.3 held,
     )))
 asked_told run (to_decide p out progress as_json) asks ends says =
-    inr (inr (inr (
+    inr (inr (inr (inl (
       p,
       inl (out, progress, as_json, asks),
       λ program held.
           let page = deadlock_page ends.1.2 says in
           decided_hangs run.tells.writes run.before run.after p out as_json page.0 page.1 program page.2 page.3 held,
-    )))
+    ))))
+asked_told run (to_unroll p ranks settings way out map) asks (others, inl (none, complains)) says =
+    absurd (complaint_untold run no_way 6 (λ one. omega (arith, one)) complains says)
+asked_told run (to_unroll p ranks settings way out map) asks (others, inr (barriers, is, ends)) says =
+    let page = deadlock_page ends says in
+    absurd (unrolled_untold run.tells.writes run.before run.after p ranks settings barriers out map page.0 page.1 page.2 page.3)
+asked_told run (to_decide_unrolled p ranks settings way out progress as_json) asks (same, inl (none, complains)) says =
+    absurd (complaint_untold run no_way 6 (λ one. omega (arith, one)) complains says)
+asked_told run (to_decide_unrolled p ranks settings way out progress as_json) asks (same, inr (barriers, is, inl (told, why, complains))) says =
+    absurd (complaint_untold run told 6 (λ one. omega (arith, one)) complains says)
+asked_told run (to_decide_unrolled p ranks settings way out progress as_json) asks (same, inr (barriers, is, inr (first, last, ranked, ends))) says =
+    let page = deadlock_page ends says in
+    inr (inr (inr (inr (
+      p,
+      ranked.text,
+      settings,
+      way,
+      inl (out, progress, as_json, subst (λ (r : Option Text). AskFor run.words (to_decide_unrolled p r settings way out progress as_json)) ranked.given asks),
+      λ source held.
+          let hangs = swept_hangs (run.before p) p source settings barriers as_json first last page.0 page.1 page.2 page.3 held in (
+            barriers,
+            is,
+            hangs.number,
+            record { first = first; last = last; is_range = ranked.is_range; above = hangs.above; below = hangs.below },
+            hangs.hangs,
+          ),
+    ))))
+asked_told run (to_explain_unrolled p ranks settings way evidence workers depth budget form map) asks (same, inl (none, complains)) says =
+    absurd (complaint_untold run no_way 6 (λ one. omega (arith, one)) complains says)
+asked_told run (to_explain_unrolled p ranks settings way evidence workers depth budget form map) asks (same, inr (barriers, is, inl (told, why, complains))) says =
+    absurd (complaint_untold run told 6 (λ one. omega (arith, one)) complains says)
+asked_told run (to_explain_unrolled p ranks settings way evidence workers depth budget form map) asks (same, inr (barriers, is, inr (first, last, ranked, ends))) says =
+    let page = deadlock_page ends says in
+    inr (inr (inr (inr (
+      p,
+      ranked.text,
+      settings,
+      way,
+      inr (
+        evidence,
+        workers,
+        depth,
+        budget,
+        form,
+        map,
+        subst (λ (r : Option Text). AskFor run.words (to_explain_unrolled p r settings way evidence workers depth budget form map)) ranked.given asks,
+      ),
+      λ source held. (
+        barriers,
+        is,
+        first,
+        record { first = first; last = last; is_range = ranked.is_range; above = omega arith; below = rises ranked.text first last ranked.is_range },
+        explained_hangs (run.before p) p source settings barriers budget form first page.0 page.1 page.2 page.3 held,
+      ),
+    ))))
 
 explained_untold : (run : SessionRun) (kind : ErrorKind) → Explains run kind → TellsDeadlock run → ⊥
 explained_untold run kind (inl usage) says = complaint_untold run usage.1.0 6 (λ one. omega (arith, one)) usage.1.1 says

@@ -1,5 +1,5 @@
 -- What the page of a decision tells.
-use Rattle.std.proofs.Common.{◌≡◌, ◌<◌, ℕ, Bool, List, Option, Result, Ok, Err, Some, inl, inr, sym, subst, ap, ◌∙◌, arith}
+use Rattle.std.proofs.Common.{◌≡◌, ◌<◌, ℕ, Bool, List, Option, Ok, Err, Some, subst, arith}
 use Rattle.calltext.specs.Limits.{long}
 use Rattle.semantics.specs.Headline.{IsNeverStuckWithin, IsStuckRunWithin}
 use Rattle.semantics.specs.declared.state.Step.{Step}
@@ -11,7 +11,6 @@ use Rattle.deciding.specs.declared.texts.Undecided.{Undecided}
 use Rattle.deciding.specs.declared.texts.Undecided.TheVariants as undecided
 use Rattle.session.specs.Lines.{told_of_undecided, told_status}
 use Rattle.session.specs.Pages.{IsDecidedPage, IsWritten}
-use Rattle.session.specs.declared.told.Told.{Told}
 use Rattle.session.specs.declared.told.Told.TheVariants as told
 use Rattle.session.proofs.DeadlockLines.{PageTells, PageTellsSafety, line_tells, line_tells_safety, race_untold, race_unsafe}
 use Rattle.session.proofs.Deadlocks.{all_are}

@@ -65,7 +65,7 @@ answer_page_finishes form budget program race (answers.Refused reason) text page
 
 -- ---- the page of a decision
 
-decision_shows : (form : Form) (budget : ℕ) (program : List ℕ) (d : Result Decision Undecided) (text : List ℕ) (status : ℕ) → IsDecided program d
+pub decision_shows : (form : Form) (budget : ℕ) (program : List ℕ) (d : Result Decision Undecided) (text : List ℕ) (status : ℕ) → IsDecided program d
     → IsDecisionExplained budget form program d text status → PageTells text status → (steps : List Step) × IsStuckRunWithin long program steps
 decision_shows form budget program (Ok decisions.NoDeadlock) text status is page tells =
     absurd (sizes_untold form page.0.0 text status page.0.2 page.1 tells)
@@ -74,7 +74,7 @@ decision_shows form budget program (Ok (decisions.Race race)) text status is pag
     answer_shows form program race page.0 text status page.3 tells
 decision_shows form budget program (Err why) text status is page tells = absurd (undecided_untold (is_object form) why text status page tells)
 
-decision_never : (form : Form) (budget : ℕ) (program : List ℕ) (d : Result Decision Undecided) (text : List ℕ) → IsDecided program d
+pub decision_never : (form : Form) (budget : ℕ) (program : List ℕ) (d : Result Decision Undecided) (text : List ℕ) → IsDecided program d
     → IsDecisionExplained budget form program d text 0 → IsNeverStuckWithin long program
 decision_never form budget program (Ok decisions.NoDeadlock) text is page = is
 decision_never form budget program (Ok (decisions.Deadlock steps)) text is page = absurd (omega (arith, page.1))

@@ -7,9 +7,14 @@ pub mod DecidedPages
 pub mod ExplainedPages
 pub mod MappedPages
 pub mod RunLaws
+pub mod Ended
 pub mod CheckLaws
 pub mod SearchLaws
 pub mod FileLaws
+pub mod UnrolledPages
+pub mod UnrollLaws
+pub mod SweptPages
+pub mod SweepLaws
 pub mod AnyLaws
 pub mod StandIns
 pub mod StrayEvidences

@@ -77,7 +77,7 @@ woven_tells form map plain text status w (inr begins) =
     let is = woven_begins form map w.pieces w.rest (deadlock_line begins.0) begins.1 w.cut (clean_deadlock begins.0) (sym w.told_is ∙ begins.2) in
     inr (begins.0, is.0, w.plain_is ∙ is.1)
 
-places_tell : (form : Form) (map plain text : List ℕ) (status : ℕ) → HasPlaces form map plain text → PageTells text status → PageTells plain status
+pub places_tell : (form : Form) (map plain text : List ℕ) (status : ℕ) → HasPlaces form map plain text → PageTells text status → PageTells plain status
 places_tell forms.Object map plain text status (strings, first, then) tells =
     woven_tells forms.Graph map plain strings status first (woven_tells forms.Object map strings text status then tells)
 places_tell forms.Brief map plain text status woven tells = woven_tells forms.Brief map plain text status woven tells

@@ -1,5 +1,5 @@
 -- Texts that are made of equal parts.
-use Rattle.std.proofs.Common.{◌≡◌, ℕ, List, ◌++◌, codes, string_bytes, IfOk, Result, ap, subst, ◌∙◌}
+use Rattle.std.proofs.Common.{◌≡◌, ℕ, List, IfOk, Result, subst}
 use Rattle.std.specs.declared.alloc.AllocError.{AllocError}
 
 -- a text of three parts, and of equal ones

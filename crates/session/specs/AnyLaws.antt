@@ -12,6 +12,8 @@ use Rattle.session.specs.Asking.{AskToCheck, AskToExplain, AskToExplainBy, AskTo
 use Rattle.session.specs.Endings.{FailsEarly, SessionEnds, TaskEnds}
 use Rattle.session.specs.Runs.{SessionRun}
 use Rattle.session.specs.Shrinking.{Hangs}
+use Rattle.session.specs.SweepLaws.{AskUnrolled, HangsFor, IsAmongRanks}
+use Rattle.session.specs.Unrolling.{barriers_in}
 
 -- ---- words in their usual order
 
@@ -33,8 +35,9 @@ AskToRun words p =
     ((out : Option Text) × (progress : Bool) × (as_json : Bool) × AskFor words (to_decide p out progress as_json))
     ⊎ ((budget : ℕ) × (form : Form) × AskToExplain words p None budget form)
 
--- the words ask for a command, and a deadlock is shown of the program whose path they name, as far
--- as files are told
+-- the words ask for a command, and a deadlock is shown of the program whose path they name, or of
+-- what the SPMD text there is unrolled to for a number of ranks that they tell, as far as files are
+-- told
 abbrev pub IsRightlyTold : List Text → (List ℕ → Option (List ℕ)) → Type 0
 IsRightlyTold words before =
     ((p : Text) × ((out : Option Text) × (budget : ℕ) × (progress : Bool) × (as_json : Bool) × AskToProve words p out budget progress as_json)
@@ -44,8 +47,11 @@ IsRightlyTold words before =
     ⊎ (((lines : Bool) × AskToReplay lines words p e) ⊎ (((form : Form) × AskToExplainBy form words p e) ⊎ ((out : Text) × AskFor words (to_export p e out)))))
     × ((program evidence : List ℕ) → before p ≡ Some program → before e ≡ Some evidence → Shows program evidence))
     ⊎ (((p : Text) × (out : Option Text) × AskFor words (to_shrink p out) × ((program : List ℕ) → before p ≡ Some program → Hangs program))
-    ⊎ ((p : Text) × AskToRun words p
-    × ((program : List ℕ) → before p ≡ Some program → (steps : List Step) × IsStuckRunWithin long program steps))))
+    ⊎ (((p : Text) × AskToRun words p
+    × ((program : List ℕ) → before p ≡ Some program → (steps : List Step) × IsStuckRunWithin long program steps))
+    ⊎ ((p : Text) × (ranks : Text) × (settings : List Text) × (way : Option Text) × AskUnrolled words p ranks settings way
+    × ((source : List ℕ) → before p ≡ Some source
+    → (barriers : Bool) × (barriers_in way ≡ Some barriers) × (number : ℕ) × IsAmongRanks ranks number × HangsFor p source settings barriers number)))))
 
 -- where any run told a deadlock, its words ask to prove, check, replay, explain, export, shrink or
 -- decide, and it is true of the program, and of the evidence, that are named

@@ -100,10 +100,25 @@ fn decision_page<'a, F: FileSet>(
         (F.held files.old) (F.held files.new)) }
 {
     match decided {
-        Ok(Decision::NoDeadlock) => Ok(page_of(alloc, &Told::NoDeadlock, json)?),
         Ok(Decision::Deadlock(steps)) => deadlock_page(alloc, steps, out, json, files),
-        Ok(Decision::Race(race)) => Ok(race_page(alloc, text, *race, json)?),
-        Err(why) => Ok(page_of(alloc, &Told::from(*why), json)?),
+        _ => Ok(decision_line(alloc, text, decided, json)?),
+    }
+}
+
+/// The page of what is decided of a text.
+pub fn decision_line(
+    alloc: Global,
+    text: &[u8],
+    decided: &Result<Decision, Undecided>,
+    json: bool,
+) -> Result<Page, AllocError>
+    ensures { IfOk result (λ page. IsDecisionPage json text.now decided.now page.text.items page.status) }
+{
+    match decided {
+        Ok(Decision::NoDeadlock) => page_of(alloc, &Told::NoDeadlock, json),
+        Ok(Decision::Deadlock(_steps)) => page_of(alloc, &Told::Deadlock, json),
+        Ok(Decision::Race(race)) => race_page(alloc, text, *race, json),
+        Err(why) => page_of(alloc, &Told::from(*why), json),
     }
 }
 

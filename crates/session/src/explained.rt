@@ -69,7 +69,7 @@ fn decided_first<'a, R: Threads + Wait + Sync, F: FileSet>(
 }
 
 /// The page that explains what one run decides of the program of a text.
-fn decision_explained<R: Threads + Wait + Sync>(
+pub fn decision_explained<R: Threads + Wait + Sync>(
     rt: &R,
     alloc: Global,
     text: &[u8],

@@ -2,6 +2,8 @@
 ghost use Rattle.session.specs.AnyLaws.{PlainWordsAreAnswered, ToldDeadlockIsShown};
 ghost use Rattle.session.specs.CheckLaws.{CheckedDeadlockIsPrinted, CheckedDeadlockIsShown, CheckedSafetyIsPrinted, CheckedSafetyIsTrue, EncodedFormulaIsPrinted, ReadFilesAreNotBlamed, RefutedIsChecked, ReplayedDeadlockIsShown, ReplayedRunIsPrinted, ShownDeadlockIsChecked, ShownDeadlockIsReplayed};
 ghost use Rattle.session.specs.FileLaws.{ExportedAnswerIsPrinted, ExportedProofIsWritten, ExportedSafetyIsTrue, ShrunkProgramHangs, TrimmedRefutationIsWritten};
+ghost use Rattle.session.specs.SweepLaws.{UnrolledRunsAreRight};
+ghost use Rattle.session.specs.UnrollLaws.{UnrolledTextIsPrinted};
 ghost use Rattle.session.specs.SearchLaws.{DecidedRunsAreRight, ExplainedDeadlockIsShown, ExplainedSafetyIsTrue, ExplainedUnknownFinishes, ProvedDeadlockIsPrinted, ProvedDeadlockIsShown, ProvedSafetyIsPrinted, ProvedSafetyIsTrue, ProvedUnknownFinishes, WrittenDeadlockIsShown, WrittenSafetyIsRefuted};
 
 /// Where words ask for a check, and the run printed the line that tells a deadlock or ended with
@@ -160,6 +162,21 @@ pub fn trimmed_refutation_is_written()
 /// finishes; and none ends with the status 0.
 pub fn shrunk_program_hangs()
     ensures { ShrunkProgramHangs }
+{}
+
+/// Where words ask to unroll an SPMD text, and the run ended with the status 0, it printed the text
+/// of the program whose call lines are the calls of the meaning of the SPMD text, or the file that
+/// they name holds it, and another one its map; with the status 3 it told what is wrong with the
+/// SPMD text, and no file has changed; and none ends with the status 1 or 2.
+pub fn unrolled_text_is_printed()
+    ensures { UnrolledTextIsPrinted }
+{}
+
+/// Where words ask to decide or to explain an SPMD text for numbers of ranks, and the run ended with
+/// the status 0, what the text is unrolled to never gets stuck, for each of these numbers; and where
+/// it ended with the status 1, it has a run that does for one of them.
+pub fn unrolled_runs_are_right()
+    ensures { UnrolledRunsAreRight }
 {}
 
 /// Where any run printed the line of a deadlock or ended with the status 1, its words ask to prove,

@@ -13,7 +13,9 @@ mod racing;
 mod run;
 mod shrunk;
 mod status;
+mod swept;
 mod told;
+mod unrolled;
 
 pub use laws::{
     checked_deadlock_is_printed, checked_deadlock_is_shown, checked_safety_is_printed,
@@ -24,7 +26,7 @@ pub use laws::{
     proved_safety_is_printed, proved_safety_is_true, proved_unknown_finishes,
     read_files_are_not_blamed, refuted_is_checked, replayed_deadlock_is_shown,
     replayed_run_is_printed, shown_deadlock_is_checked, shown_deadlock_is_replayed,
-    told_deadlock_is_shown, trimmed_refutation_is_written, written_deadlock_is_shown,
-    written_safety_is_refuted,
+    told_deadlock_is_shown, trimmed_refutation_is_written, unrolled_runs_are_right,
+    unrolled_text_is_printed, written_deadlock_is_shown, written_safety_is_refuted,
 };
 pub use run::session;

@@ -77,7 +77,7 @@ fn placed_page<'a, R: Threads + Wait + Sync, F: FileSet>(
 }
 
 /// The page with the places of the lines that it names.
-fn woven_page(
+pub fn woven_page(
     alloc: Global,
     page: Page,
     form: Form,

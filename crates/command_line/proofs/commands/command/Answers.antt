@@ -18,4 +18,5 @@ returns c =
     let six = c.under-top-6.ensures _ _ five c.export_command.ensures in
     let seven = c.under-top-7.ensures _ _ six c.trim_command.ensures in
     let eight = c.under-top-8.ensures _ _ seven c.shrink_command.ensures in
-    c.under.ensures _ _ eight c.decide_command.ensures
+    let nine = c.under-top-9.ensures _ _ eight c.decide_command.ensures in
+    c.under.ensures _ _ nine c.unroll_command.ensures

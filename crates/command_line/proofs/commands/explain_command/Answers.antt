@@ -11,4 +11,5 @@ returns c =
     let seven = c.with-command-6.ensures _ _ six c.svg.ensures in
     let eight = c.with-command-7.ensures _ _ seven c.html.ensures in
     let nine = c.with-command-8.ensures _ _ eight c.object.ensures in
-    c.with.ensures _ _ nine c.map.ensures
+    let ten = c.with-command-9.ensures _ _ nine c.map.ensures in
+    c.with_unrolling.ensures _ ten

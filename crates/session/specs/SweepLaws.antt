@@ -1,0 +1,55 @@
+-- What follows from how a run of `decide` or `explain` for an SPMD text ended.
+use Rattle.std.specs.Prelude.{◌≡◌, ◌≤◌, ◌⊎◌, ℕ, Bool, true, List, Option, Some}
+use Rattle.clap.specs.Words.{Text}
+use Rattle.calltext.specs.Limits.{long}
+use Rattle.semantics.specs.Headline.{IsNeverStuckWithin, IsStuckRunWithin}
+use Rattle.semantics.specs.declared.state.Step.{Step}
+use Rattle.settings.specs.declared.form.Form.{Form}
+use Rattle.spmd_program.specs.Ranges.{IsRange}
+use Rattle.spmd_program.specs.Unrolling.{IsUnrolling}
+use Rattle.command_line.specs.Requests.{AskFor, to_decide_unrolled, to_explain_unrolled}
+use Rattle.session.specs.Endings.{SessionEnds}
+use Rattle.session.specs.Runs.{SessionRun}
+use Rattle.session.specs.Unrolling.{barriers_in}
+
+-- for so many ranks the SPMD text is unrolled to a program that never gets stuck
+pub record IsSafeFor (path source : List ℕ) (settings : List (List ℕ)) (barriers : Bool) (ranks : ℕ) : Type 0 where
+  pub program : List ℕ
+  pub map : List ℕ
+  pub unrolled : IsUnrolling path source ranks settings barriers true program (Some map)
+  pub never : IsNeverStuckWithin long program
+
+-- for so many ranks it is unrolled to a program with a run that gets stuck
+pub record HangsFor (path source : List ℕ) (settings : List (List ℕ)) (barriers : Bool) (ranks : ℕ) : Type 0 where
+  pub program : List ℕ
+  pub map : List ℕ
+  pub unrolled : IsUnrolling path source ranks settings barriers true program (Some map)
+  pub steps : List Step
+  pub stuck : IsStuckRunWithin long program steps
+
+-- the number of ranks is one of those that the text tells
+pub record IsAmongRanks (text : List ℕ) (ranks : ℕ) : Type 0 where
+  pub first : ℕ
+  pub last : ℕ
+  pub is_range : IsRange text first last
+  pub above : first ≤ ranks
+  pub below : ranks ≤ last
+
+-- the words ask to decide, or to explain, what the SPMD text at a path is unrolled to for the numbers
+-- of ranks that a text tells, with these settings, where collective calls wait so
+abbrev pub AskUnrolled : List Text → Text → Text → List Text → Option Text → Type 0
+AskUnrolled words p ranks settings way =
+    ((out : Option Text) × (progress : Bool) × (as_json : Bool) × AskFor words (to_decide_unrolled p (Some ranks) settings way out progress as_json))
+    ⊎ ((evidence : Option Text) × (workers : ℕ) × (depth : ℕ) × (budget : ℕ) × (form : Form) × (map : Option Text)
+    × AskFor words (to_explain_unrolled p (Some ranks) settings way evidence workers depth budget form map))
+
+-- A run with the status 0: for each of these numbers of ranks the program that the SPMD text is
+-- unrolled to never gets stuck. One with the status 1: for one of them it has a run that does.
+pub record UnrolledRunsAreRight : Type 0 where
+  pub safe : (run : SessionRun) (p ranks : Text) (settings : List Text) (way : Option Text) (source : List ℕ) → SessionEnds run → AskUnrolled run.words p ranks settings way
+      → run.before p ≡ Some source → run.status ≡ 0
+      → (barriers : Bool) × (barriers_in way ≡ Some barriers) × (first : ℕ) × (last : ℕ) × IsRange ranks first last
+      × ((number : ℕ) → first ≤ number → number ≤ last → IsSafeFor p source settings barriers number)
+  pub stuck : (run : SessionRun) (p ranks : Text) (settings : List Text) (way : Option Text) (source : List ℕ) → SessionEnds run → AskUnrolled run.words p ranks settings way
+      → run.before p ≡ Some source → run.status ≡ 1
+      → (barriers : Bool) × (barriers_in way ≡ Some barriers) × (number : ℕ) × IsAmongRanks ranks number × HangsFor p source settings barriers number

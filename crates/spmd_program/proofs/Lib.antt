@@ -1,0 +1,10 @@
+pub mod Written
+pub mod Parts
+pub mod RankTexts
+pub mod Turns
+pub mod Hex
+pub mod SaidLines
+pub mod Answered
+pub mod SettingParts
+pub mod Parameters
+pub mod Orders

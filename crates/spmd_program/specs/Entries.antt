@@ -1,0 +1,14 @@
+-- The entries of a map, in the code's view.
+use Rattle.std.specs.Prelude.{ℕ, List, map}
+use Rattle.unroll.specs.declared.call.Placed.{Placed}
+use Rattle.spmd_program.specs.declared.maps.Sources.{Sources}
+use Rattle.spmd_program.specs.Maps.{entries, entry, words_at}
+
+abbrev pub words_of_place : Sources → Placed → List ℕ
+words_of_place s p = words_at s.path.now s.names.now (map (λ w. w.items) s.says.now) s.turns.now p
+
+abbrev pub entry_of : Sources → ℕ → Placed → List ℕ
+entry_of s number p = entry s.path.now s.names.now (map (λ w. w.items) s.says.now) s.turns.now number p
+
+abbrev pub entries_of : Sources → ℕ → List Placed → List ℕ
+entries_of s place calls = entries s.path.now s.names.now (map (λ w. w.items) s.says.now) s.turns.now place calls

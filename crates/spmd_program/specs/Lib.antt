@@ -1,0 +1,10 @@
+pub mod Lines
+pub mod Written
+pub mod Programs
+pub mod Told
+pub mod Maps
+pub mod Entries
+pub mod Settings
+pub mod Ranges
+pub mod Requests
+pub mod Unrolling

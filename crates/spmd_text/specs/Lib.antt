@@ -1,0 +1,6 @@
+pub mod Words
+pub mod Tokens
+pub mod Spelling
+pub mod Labels
+pub mod Texts
+pub mod Headings

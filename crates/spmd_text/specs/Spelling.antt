@@ -1,0 +1,384 @@
+-- The grammar: what pieces a syntax tree is written as. Each function takes the pieces of a text
+-- from some place on, and answers what is left of them behind the tree; none, where they do not
+-- begin with it, or none were given. What a function is given stands before it: a label with an
+-- index is a name, then what `after_index` says.
+use Rattle.std.specs.Prelude.{ℕ, ℤ, pos, int_le, Bool, true, false, ◌&&◌, ◌||◌, not, nat_eq, nat_le, List, [], ◌∷◌, Option, Some, None, if◌then◌else◌}
+use Rattle.std.specs.Borrow.{Bor}
+use Rattle.spmd_tree.specs.declared.tree.Mode.{Mode}
+use Rattle.spmd_tree.specs.declared.tree.Mode.TheVariants.{Standard, Synchronous, Buffered}
+use Rattle.spmd_tree.specs.declared.tree.Kind.{Kind}
+use Rattle.spmd_tree.specs.declared.tree.Kind.TheVariants as kind
+use Rattle.spmd_tree.specs.declared.tree.Operator.{Operator}
+use Rattle.spmd_tree.specs.declared.tree.Operator.TheVariants as operator
+use Rattle.spmd_tree.specs.declared.tree.Comparison.{Comparison}
+use Rattle.spmd_tree.specs.declared.tree.Comparison.TheVariants as comparison
+use Rattle.spmd_tree.specs.declared.tree.Expression.{Expression}
+use Rattle.spmd_tree.specs.declared.tree.Expression.TheVariants as form
+use Rattle.spmd_tree.specs.declared.tree.LabelForm.{LabelForm}
+use Rattle.spmd_tree.specs.declared.tree.GroupForm.{GroupForm}
+use Rattle.spmd_tree.specs.declared.tree.Labels.{Labels}
+use Rattle.spmd_tree.specs.declared.tree.Labels.TheVariants.{Last, More'}
+use Rattle.spmd_tree.specs.declared.tree.Arguments.{Arguments}
+use Rattle.spmd_tree.specs.declared.tree.Arguments.TheVariants as call
+use Rattle.spmd_tree.specs.declared.tree.Statement.{Statement}
+use Rattle.spmd_tree.specs.declared.tree.Statement.TheVariants as statement
+use Rattle.spmd_text.specs.declared.reading.Policy.{Policy}
+use Rattle.spmd_text.specs.declared.reading.Policy.TheVariants as policy
+use Rattle.spmd_text.specs.declared.piece.Word.{Word}
+use Rattle.spmd_text.specs.declared.piece.Word.TheVariants as word
+use Rattle.spmd_text.specs.declared.piece.Piece.{Piece}
+use Rattle.spmd_text.specs.declared.piece.Piece.TheVariants as piece
+use Rattle.spmd_text.specs.declared.piece.Token.{Token}
+use Rattle.spmd_text.specs.Words.{code}
+
+abbrev pub Rest : Type 0
+Rest = Option (List Token)
+
+-- the code's view
+abbrev pub left : Option (Bor (List Token)) → Rest
+left None = None
+left (Some tokens) = Some tokens.now
+
+-- these pieces, where it holds
+abbrev pub only : Bool → Rest → Rest
+only true rest = rest
+only false rest = None
+
+-- ---- one piece
+
+abbrev pub is_name : Piece → ℕ → Bool
+is_name (piece.Name j) k = nat_eq j k
+is_name _ k = false
+
+abbrev pub same_number : ℤ → ℤ → Bool
+same_number a b = if int_le a b then int_le b a else false
+
+abbrev pub is_number : Piece → ℤ → Bool
+is_number (piece.Number m) n = same_number m n
+is_number _ n = false
+
+-- the second piece is the first one
+abbrev pub is_piece : Piece → Piece → Bool
+is_piece (piece.Name k) q = is_name q k
+is_piece (piece.Number n) q = is_number q n
+is_piece p q = nat_eq (code q) (code p)
+
+abbrev pub begins : Piece → Rest → Bool
+begins p None = false
+begins p (Some []) = false
+begins p (Some (t ∷ ts)) = is_piece p t.piece
+
+abbrev pub after : Piece → Rest → Rest
+after p None = None
+after p (Some []) = None
+after p (Some (t ∷ ts)) = only (is_piece p t.piece) (Some ts)
+
+-- the first piece stands on this line; none is taken
+abbrev pub on_line : ℕ → Rest → Rest
+on_line line None = None
+on_line line (Some []) = None
+on_line line (Some (t ∷ ts)) = only (nat_eq t.line line) (Some (t ∷ ts))
+
+-- ---- expressions and conditions
+
+abbrev pub is_condition : Expression → Bool
+is_condition (form.Compare' c p a q b) = true
+is_condition (form.Negation' p a) = true
+is_condition (form.Both' p a q b) = true
+is_condition (form.Either' p a q b) = true
+is_condition (form.Grouped' p a) = is_condition a
+is_condition _ = false
+
+abbrev pub operator_binding : Operator → ℕ
+operator_binding operator.Plus = 5
+operator_binding operator.Minus = 5
+operator_binding operator.Times = 7
+operator_binding _ = 6
+
+-- how close an expression's parts stand together, from `or` on
+abbrev pub binding : Expression → ℕ
+binding (form.Either' p a q b) = 0
+binding (form.Both' p a q b) = 1
+binding (form.Negation' p a) = 2
+binding (form.Compare' c p a q b) = 3
+binding (form.Choice' p c q a s b) = 4
+binding (form.Binary' o p a q b) = operator_binding o
+binding _ = 8
+
+-- what may stand left and right of an operator: + and - group from the left, and so does *; the
+-- others stand alone between factors
+abbrev pub left_of : Operator → ℕ
+left_of operator.Plus = 5
+left_of operator.Minus = 5
+left_of operator.Times = 7
+left_of _ = 8
+
+abbrev pub right_of : Operator → ℕ
+right_of operator.Plus = 6
+right_of operator.Minus = 6
+right_of _ = 8
+
+abbrev pub same : Bool → Bool → Bool
+same true b = b
+same false b = not b
+
+-- an expression that binds at least so close; a condition or not
+abbrev pub fits : Expression → ℕ → Bool → Bool
+fits e least condition = nat_le least (binding e) && same condition (is_condition e)
+
+abbrev pub operator_piece : Operator → Piece
+operator_piece operator.Plus = piece.Plus
+operator_piece operator.Minus = piece.Minus
+operator_piece operator.Times = piece.Star
+operator_piece operator.Quotient = piece.Word word.Div
+operator_piece operator.Remainder = piece.Word word.Mod
+operator_piece operator.Left = piece.Word word.Shl
+operator_piece operator.Right = piece.Word word.Shr
+operator_piece operator.Exclusive = piece.Word word.Xor
+
+abbrev pub comparison_piece : Comparison → Piece
+comparison_piece comparison.Same = piece.Same
+comparison_piece comparison.Other = piece.Other
+comparison_piece comparison.Below = piece.Below
+comparison_piece comparison.UpTo = piece.UpTo
+comparison_piece comparison.Above = piece.Above
+comparison_piece comparison.From = piece.From
+
+abbrev pub after_expression : Expression → Rest → Rest
+after_expression (form.Literal n) rest = after (piece.Number n) rest
+after_expression form.Null rest = after (piece.Word word.Null) rest
+after_expression form.Rank rest = after (piece.Word word.Rank) rest
+after_expression form.Size rest = after (piece.Word word.Size) rest
+after_expression (form.Named k) rest = after (piece.Name k) rest
+after_expression (form.Binary' o p a q b) rest =
+    only (fits a (left_of o) false && fits b (right_of o) false) (after_expression b (after (operator_piece o) (after_expression a rest)))
+after_expression (form.Compare' c p a q b) rest =
+    only (fits a 4 false && fits b 4 false) (after_expression b (after (comparison_piece c) (after_expression a rest)))
+after_expression (form.Negative' p a) rest = only (fits a 8 false) (after_expression a (after piece.Minus rest))
+after_expression (form.Grouped' p a) rest = after piece.Close (after_expression a (after piece.Open rest))
+after_expression (form.Negation' p a) rest = only (fits a 2 true) (after_expression a (after (piece.Word word.Not) rest))
+after_expression (form.Both' p a q b) rest =
+    only (fits a 1 true && fits b 2 true) (after_expression b (after (piece.Word word.And) (after_expression a rest)))
+after_expression (form.Either' p a q b) rest =
+    only (fits a 0 true && fits b 1 true) (after_expression b (after (piece.Word word.Or) (after_expression a rest)))
+after_expression (form.Choice' p c q a s b) rest =
+    only (fits c 0 true && fits a 4 false && fits b 4 false)
+    (after_expression b (after (piece.Word word.Else) (after_expression a (after (piece.Word word.Then) (after_expression c (after (piece.Word word.If) rest))))))
+
+-- a number or null
+abbrev pub after_value : Expression → Rest → Rest
+after_value e rest = only (fits e 4 false) (after_expression e rest)
+
+abbrev pub after_condition : Expression → Rest → Rest
+after_condition e rest = only (fits e 0 true) (after_expression e rest)
+
+-- a value that may be left out, with the piece before it
+abbrev pub after_optional : Piece → Option Expression → Rest → Rest
+after_optional p None rest = rest
+after_optional p (Some e) rest = after_value e (after p rest)
+
+-- ---- calls
+
+abbrev pub after_index : Option Expression → Rest → Rest
+after_index None rest = rest
+after_index (Some e) rest = after piece.CloseIndex (after_value e (after piece.OpenIndex rest))
+
+abbrev pub after_label : LabelForm → Rest → Rest
+after_label f rest = after_index f.index (after (piece.Name f.name) rest)
+
+-- the request of a call that is started, and a comma
+abbrev pub after_request : Option LabelForm → Rest → Rest
+after_request None rest = rest
+after_request (Some f) rest = after piece.Comma (after_label f rest)
+
+abbrev pub after_wild : Option Expression → Rest → Rest
+after_wild None rest = after piece.Star rest
+after_wild (Some e) rest = after_value e rest
+
+abbrev pub after_communicator : Option Expression → Rest → Rest
+after_communicator c rest = after_optional (piece.Word word.Comm) c rest
+
+-- a destination, a comma and a tag
+abbrev pub after_message : Expression → Expression → Rest → Rest
+after_message d t rest = after_value t (after piece.Comma (after_value d rest))
+
+-- a source, a comma and a tag
+abbrev pub after_pattern : Option Expression → Option Expression → Rest → Rest
+after_pattern s t rest = after_wild t (after piece.Comma (after_wild s rest))
+
+abbrev pub after_root : Option Expression → Rest → Rest
+after_root None rest = rest
+after_root (Some e) rest = after_value e rest
+
+abbrev pub after_group : Option GroupForm → Rest → Rest
+after_group None rest = rest
+after_group (Some g) rest =
+    after_optional (piece.Word word.Step) g.step (after_value g.last (after (piece.Word word.To) (after_value g.first (after (piece.Word word.Among) rest))))
+
+abbrev pub send_word : Mode → Option LabelForm → Word
+send_word Standard None = word.Send
+send_word Standard (Some f) = word.Isend
+send_word Synchronous None = word.Ssend
+send_word Synchronous (Some f) = word.Issend
+send_word Buffered None = word.Bsend
+send_word Buffered (Some f) = word.Ibsend
+
+abbrev pub receive_word : Option LabelForm → Word
+receive_word None = word.Recv
+receive_word (Some f) = word.Irecv
+
+abbrev pub matched_word : Option LabelForm → Word
+matched_word None = word.Mrecv
+matched_word (Some f) = word.Imrecv
+
+abbrev pub kind_word : Kind → Word
+kind_word kind.Barrier = word.Barrier
+kind_word kind.Broadcast = word.Bcast
+kind_word kind.Reduce = word.Reduce
+kind_word kind.AllReduce = word.Allreduce
+kind_word kind.Gather = word.Gather
+kind_word kind.Scatter = word.Scatter
+kind_word kind.AllGather = word.Allgather
+kind_word kind.AllToAll = word.Alltoall
+kind_word kind.Scan = word.Scan
+
+abbrev pub is_rooted : Kind → Bool
+is_rooted kind.Broadcast = true
+is_rooted kind.Reduce = true
+is_rooted kind.Gather = true
+is_rooted kind.Scatter = true
+is_rooted _ = false
+
+abbrev pub has_root : Option Expression → Bool
+has_root None = false
+has_root (Some e) = true
+
+abbrev pub after_call : Arguments → Rest → Rest
+after_call (call.Send mode request d t c) rest =
+    after_communicator c (after_message d t (after_request request (after (piece.Word (send_word mode request)) rest)))
+after_call (call.Receive request s t c) rest =
+    after_communicator c (after_pattern s t (after_request request (after (piece.Word (receive_word request)) rest)))
+after_call (call.MatchedProbe handle s t c) rest =
+    after_communicator c (after_pattern s t (after piece.Comma (after_label handle (after (piece.Word word.Mprobe) rest))))
+after_call (call.Probe s t c) rest = after_communicator c (after_pattern s t (after (piece.Word word.Probe) rest))
+after_call (call.MatchedReceive request handle) rest =
+    after_label handle (after_request request (after (piece.Word (matched_word request)) rest))
+after_call (call.Wait request) rest = after_label request (after (piece.Word word.Wait) rest)
+after_call (call.SendReceive d t s u c) rest =
+    after_communicator c (after_pattern s u (after piece.Comma (after_message d t (after (piece.Word word.Sendrecv) rest))))
+after_call (call.Collective k root g c) rest =
+    only (same (is_rooted k) (has_root root)) (after_communicator c (after_group g (after_root root (after (piece.Word (kind_word k)) rest))))
+
+abbrev pub after_labels : Labels → Rest → Rest
+after_labels (Last f) rest = after_label f rest
+after_labels (More' f p others) rest = after_labels others (after piece.Comma (after_label f rest))
+
+-- ---- statements
+
+-- a part that stands behind the statements of an `if`: an `else` or an `elif`
+abbrev pub is_branch : Statement → Bool
+is_branch (statement.Otherwise' p a) = true
+is_branch (statement.When' line chained c p a q b) = chained
+is_branch _ = false
+
+abbrev pub is_nothing : Statement → Bool
+is_nothing statement.Nothing = true
+is_nothing _ = false
+
+-- what may stand behind the statements of an `if`
+unfoldable pub is_tail : Statement → Bool
+is_tail s = is_branch s || is_nothing s
+
+-- a step of 1 may be left out
+abbrev pub after_gap : ℤ → Rest → Rest
+after_gap n rest =
+    if begins (piece.Word word.Step) rest
+    then after (piece.Number n) (after (piece.Word word.Step) rest)
+    else only (same_number n (pos 1)) rest
+
+abbrev pub branch_word : Bool → Word
+branch_word true = word.Elif
+branch_word false = word.If
+
+-- an `elif` ends with its `if`
+abbrev pub after_end : Bool → Rest → Rest
+after_end true rest = rest
+after_end false rest = after piece.LineEnd (after (piece.Word word.End) rest)
+
+-- a statement begins with this word, on this line
+abbrev pub after_start : ℕ → Word → Rest → Rest
+after_start line w rest = after (piece.Word w) (on_line line rest)
+
+-- a parameter, up to the end of its line
+abbrev pub after_parameter : ℕ → ℕ → Option Expression → Rest → Rest
+after_parameter line name e rest = after piece.LineEnd (after_optional piece.Equals e (after (piece.Name name) (after_start line word.Param rest)))
+
+-- what has this name as its variable, up to the first value
+abbrev pub after_variable : ℕ → Word → ℕ → Rest → Rest
+after_variable line w name rest = after piece.Equals (after (piece.Name name) (after_start line w rest))
+
+-- an `if` or an `elif` with its condition, on this line
+abbrev pub after_head : ℕ → Bool → Expression → Rest → Rest
+after_head line chained c rest = after piece.LineEnd (after_condition c (after_start line (branch_word chained) rest))
+
+-- the ends and the step of a loop, up to the end of the line
+abbrev pub after_span : Expression → Expression → ℤ → Rest → Rest
+after_span first last step rest = after piece.LineEnd (after_gap step (after_value last (after (piece.Word word.To) (after_value first rest))))
+
+abbrev pub after_statement : Statement → Rest → Rest
+after_statement statement.Nothing rest = rest
+after_statement (statement.Sequence' p a q b) rest = only (not (is_branch a) && not (is_branch b)) (after_statement b (after_statement a rest))
+after_statement (statement.Parameter line name e) rest = after_parameter line name e rest
+after_statement (statement.Assign line name e) rest = after piece.LineEnd (after_value e (after_variable line word.Let name rest))
+after_statement (statement.When' line chained c p a q b) rest =
+    only (not (is_branch a) && is_tail b) (after_end chained (after_statement b (after_statement a (after_head line chained c rest))))
+after_statement (statement.Otherwise' p a) rest =
+    only (not (is_branch a)) (after_statement a (after piece.LineEnd (after (piece.Word word.Else) rest)))
+after_statement (statement.Repeat' line name first last step p a) rest =
+    only (not (is_branch a)) (after_end false (after_statement a (after_span first last (pos step) (after_variable line word.For name rest))))
+after_statement (statement.Call line c) rest = after piece.LineEnd (after_call c (on_line line rest))
+after_statement (statement.WaitAll line requests) rest = after piece.LineEnd (after_labels requests (after_start line word.Waitall rest))
+after_statement (statement.Unreached line) rest = after piece.LineEnd (after_start line word.Error rest)
+
+-- ---- the whole text
+
+-- parameters alone
+abbrev pub are_parameters : Statement → Bool
+are_parameters statement.Nothing = true
+are_parameters (statement.Sequence' p a q b) = are_parameters a && are_parameters b
+are_parameters (statement.Parameter line name e) = true
+are_parameters _ = false
+
+-- no parameter
+abbrev pub has_none : Statement → Bool
+has_none (statement.Sequence' p a q b) = has_none a && has_none b
+has_none (statement.Parameter line name e) = false
+has_none (statement.When' line chained c p a q b) = has_none a && has_none b
+has_none (statement.Otherwise' p a) = has_none a
+has_none (statement.Repeat' line name first last step p a) = has_none a
+has_none _ = true
+
+-- parameters stand before all else
+abbrev pub is_ordered : Statement → Bool
+is_ordered (statement.Sequence' p a q b) = are_parameters a && has_none b
+is_ordered _ = false
+
+abbrev pub policy_word : Policy → Word
+policy_word policy.Any = word.Any
+policy_word policy.Never = word.Never
+policy_word policy.Always = word.Always
+
+-- the policy `any` may be left out
+abbrev pub is_any : Policy → Bool
+is_any policy.Any = true
+is_any _ = false
+
+abbrev pub after_policy : Policy → Rest → Rest
+after_policy p rest =
+    if begins (piece.Word word.Policy) rest
+    then after piece.LineEnd (after (piece.Word (policy_word p)) (after (piece.Word word.Policy) rest))
+    else only (is_any p) rest
+
+abbrev pub after_text : Policy → Statement → Rest → Rest
+after_text p s rest =
+    only (is_ordered s) (after piece.TextEnd (after_statement s (after_policy p (after piece.LineEnd (after (piece.Word word.Spmd) rest)))))

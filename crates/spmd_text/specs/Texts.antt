@@ -1,0 +1,50 @@
+-- What a text says.
+use Rattle.std.specs.Prelude.{◌≡◌, ◌⊎◌, ℕ, ◌<◌, ◌≤◌, true, List, [], ◌∷◌, ◌++◌, length, map, Some, Ok, Err}
+use Rattle.spmd_tree.specs.declared.tree.Statement.{Statement}
+use Rattle.spmd_tree.specs.declared.tree.Statement.TheVariants as statement
+use Rattle.spmd_text.specs.declared.reading.Text.{Text}
+use Rattle.spmd_text.specs.declared.fault.ParseFault.{ParseFault}
+use Rattle.spmd_text.specs.declared.fault.TextFault.{TextFault}
+use Rattle.spmd_text.specs.declared.fault.TextFault.TheVariants.{Memory, TooLarge, Pieces, Grammar}
+use Rattle.spmd_text.specs.Tokens.{Cutting, pieces_of}
+use Rattle.spmd_text.specs.Spelling.{after_text}
+use Rattle.spmd_text.specs.Labels.{all_fit}
+
+-- the names of the parameters in a statement, which stands in no block
+abbrev pub parameters_of : Statement → List ℕ
+parameters_of (statement.Sequence' p a q b) = parameters_of a ++ parameters_of b
+parameters_of (statement.Parameter line name e) = name ∷ []
+parameters_of _ = []
+
+-- The bytes are cut into pieces, and the text is written as these pieces and no others; its names
+-- are those that stand in them, those of requests and handles are spelled as they have to be, and
+-- its parameters are those that are written.
+pub record IsText (text : Text) (bytes : List ℕ) : Type 0 where
+  pub state : Cutting
+  pub cut : pieces_of bytes ≡ Ok state
+  pub names : map (λ n. n.items) text.names.items ≡ state.names
+  pub spelled : after_text text.policy text.program (Some state.tokens) ≡ Some []
+  pub labels : all_fit text.names.items text.program ≡ true
+  pub parameters : text.parameters.items ≡ parameters_of text.program
+
+-- A text is refused for what is told: it is too large; or it can't be cut into pieces, and this is
+-- the first fault of it; or it has pieces. So a fault of the pieces is told exactly where there is
+-- one, unless memory runs out or the text is too large.
+abbrev pub HasFault : List ℕ → TextFault → Type 0
+HasFault bytes Memory = Unit {0}
+HasFault bytes TooLarge = 65536 < length bytes
+HasFault bytes (Pieces fault) = (length bytes ≤ 65536) × (pieces_of bytes ≡ Err fault)
+HasFault bytes (Grammar fault) = (length bytes ≤ 65536) × (state : Cutting) × (pieces_of bytes ≡ Ok state)
+
+-- what may be told of a text that has pieces
+abbrev pub IsOfGrammar : TextFault → Type 0
+IsOfGrammar Memory = Unit {0}
+IsOfGrammar TooLarge = ⊥
+IsOfGrammar (Pieces fault) = ⊥
+IsOfGrammar (Grammar fault) = Unit {0}
+
+-- A fault of the pieces is told, whatever else is wrong: the text is not read, and no other fault
+-- is told but want of memory.
+abbrev pub PieceFaultsAreTold : Type 0
+PieceFaultsAreTold = (bytes : List ℕ) (fault : ParseFault) → length bytes ≤ 65536 → pieces_of bytes ≡ Err fault
+    → ((text : Text) → IsText text bytes → ⊥) × ((e : TextFault) → HasFault bytes e → (e ≡ Memory) ⊎ (e ≡ Pieces fault))

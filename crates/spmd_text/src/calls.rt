@@ -1,0 +1,291 @@
+//! The arguments of calls, read from left to right.
+//!
+//! What is wrong is noted, and no piece is read behind it: what is then made of the parts is never
+//! used.
+
+use crate::blocks::stated;
+use crate::expressions::expression_at;
+use crate::fault::ParseReason;
+use crate::labels::is_label;
+use crate::parser::Parser;
+use crate::piece::{Piece, Word};
+use spmd_tree::{Arguments, Expression, GroupForm, Kind, LabelForm, Labels, Mode, Statement};
+use std::alloc::AllocError;
+
+/// Whether the name can be that of a request or handle.
+fn can_be_label(names: &[Vec<u8>], name: u32, indexed: bool) -> bool {
+    match names.get(name as usize) {
+        None => false,
+        Some(word) => is_label(word.as_slice(), indexed),
+    }
+}
+
+/// The index of a request or handle, where brackets stand.
+fn index(parser: &mut Parser<'_>) -> Option<Expression> {
+    if !parser.take(Piece::OpenIndex) {
+        return None;
+    }
+    let index = expression_at(parser);
+    parser.expect(Piece::CloseIndex, ParseReason::NoIndexEnd);
+    Some(index)
+}
+
+/// A request or handle: a name, and maybe an index in brackets.
+fn label(parser: &mut Parser<'_>) -> LabelForm {
+    let name = parser.name();
+    let index = index(parser);
+    if !can_be_label(parser.names, name, index.is_some()) {
+        parser.fail(ParseReason::Label);
+    }
+    LabelForm { name, index }
+}
+
+/// A destination, which is no wildcard (MPI 4.1, section 3.2.4).
+fn destination(parser: &mut Parser<'_>) -> Expression {
+    if parser.is(Piece::Star) {
+        parser.fail(ParseReason::StarDestination);
+    }
+    expression_at(parser)
+}
+
+/// A source or a tag, or `*` for a wildcard.
+fn wild(parser: &mut Parser<'_>) -> Option<Expression> {
+    if parser.take(Piece::Star) {
+        return None;
+    }
+    Some(expression_at(parser))
+}
+
+/// An expression behind a word, where the word stands.
+fn optional(parser: &mut Parser<'_>, word: Word) -> Option<Expression> {
+    if !parser.take(Piece::Word(word)) {
+        return None;
+    }
+    Some(expression_at(parser))
+}
+
+/// The request of a call that is started, with its comma.
+fn request(parser: &mut Parser<'_>, started: bool) -> Option<LabelForm> {
+    if !started {
+        return None;
+    }
+    let form = label(parser);
+    parser.comma();
+    Some(form)
+}
+
+/// A send after its word: the request where it is started, the destination and the tag.
+fn send(parser: &mut Parser<'_>, mode: Mode, started: bool) -> Arguments {
+    let request = request(parser, started);
+    let destination = destination(parser);
+    parser.comma();
+    let tag = expression_at(parser);
+    let communicator = optional(parser, Word::Comm);
+    Arguments::Send {
+        mode,
+        request,
+        destination,
+        tag,
+        communicator,
+    }
+}
+
+/// A receive after its word: the request where it is started, the source and the tag.
+fn receive(parser: &mut Parser<'_>, started: bool) -> Arguments {
+    let request = request(parser, started);
+    let source = wild(parser);
+    parser.comma();
+    let tag = wild(parser);
+    let communicator = optional(parser, Word::Comm);
+    Arguments::Receive {
+        request,
+        source,
+        tag,
+        communicator,
+    }
+}
+
+/// A matched probe after its word: the handle, the source and the tag.
+fn matched_probe(parser: &mut Parser<'_>) -> Arguments {
+    let handle = label(parser);
+    parser.comma();
+    let source = wild(parser);
+    parser.comma();
+    let tag = wild(parser);
+    let communicator = optional(parser, Word::Comm);
+    Arguments::MatchedProbe {
+        handle,
+        source,
+        tag,
+        communicator,
+    }
+}
+
+/// A probe after its word: the source and the tag.
+fn probe(parser: &mut Parser<'_>) -> Arguments {
+    let source = wild(parser);
+    parser.comma();
+    let tag = wild(parser);
+    let communicator = optional(parser, Word::Comm);
+    Arguments::Probe {
+        source,
+        tag,
+        communicator,
+    }
+}
+
+/// The ranks of a collective call.
+fn group(parser: &mut Parser<'_>) -> Option<GroupForm> {
+    if !parser.take(Piece::Word(Word::Among)) {
+        return None;
+    }
+    let first = expression_at(parser);
+    parser.expect(Piece::Word(Word::To), ParseReason::NoTo);
+    let last = expression_at(parser);
+    let step = optional(parser, Word::Step);
+    Some(GroupForm { first, last, step })
+}
+
+/// The root of a collective call that has one.
+fn root(parser: &mut Parser<'_>, rooted: bool) -> Option<Expression> {
+    if !rooted {
+        return None;
+    }
+    Some(expression_at(parser))
+}
+
+/// A collective call after its word: the root where it has one, and its group.
+fn collective(parser: &mut Parser<'_>, kind: Kind, rooted: bool) -> Arguments {
+    let root = root(parser, rooted);
+    let group = group(parser);
+    let communicator = optional(parser, Word::Comm);
+    Arguments::Collective {
+        kind,
+        root,
+        group,
+        communicator,
+    }
+}
+
+/// A receive on a handle after its word: the request where it is started, and the handle.
+fn matched_receive(parser: &mut Parser<'_>, started: bool) -> Arguments {
+    let request = request(parser, started);
+    let handle = label(parser);
+    Arguments::MatchedReceive { request, handle }
+}
+
+/// A joined send and receive after its word.
+fn send_receive(parser: &mut Parser<'_>) -> Arguments {
+    let destination = destination(parser);
+    parser.comma();
+    let send_tag = expression_at(parser);
+    parser.comma();
+    let source = wild(parser);
+    parser.comma();
+    let receive_tag = wild(parser);
+    let communicator = optional(parser, Word::Comm);
+    Arguments::SendReceive {
+        destination,
+        send_tag,
+        source,
+        receive_tag,
+        communicator,
+    }
+}
+
+/// A wait after its word.
+fn wait(parser: &mut Parser<'_>) -> Arguments {
+    let request = label(parser);
+    Arguments::Wait { request }
+}
+
+/// The requests of a `waitall`, in their order, of which so many may follow the first.
+fn labels(parser: &mut Parser<'_>, most: u32) -> Result<Labels, AllocError> {
+    let form = label(parser);
+    if !parser.take(Piece::Comma) {
+        return Ok(Labels::Last(form));
+    }
+    if most == 0 {
+        parser.fail(ParseReason::TooLong);
+        return Ok(Labels::Last(form));
+    }
+    let others = labels(parser, most - 1)?;
+    Ok(Labels::More(form, Box::new(parser.alloc, others)?))
+}
+
+/// A `waitall` after its word.
+pub(crate) fn wait_all(parser: &mut Parser<'_>, line: u32) -> Result<Box<Statement>, ParseReason> {
+    let requests = labels(parser, 1023)?;
+    stated(parser, Statement::WaitAll { line, requests })
+}
+
+/// What a word begins: a send, and whether it is started; a receive, or one on a handle, and whether
+/// it is started; a collective call, and whether it has a root; or another call.
+#[derive(Clone, Copy)]
+enum Form {
+    Send(Mode, bool),
+    Receive(bool),
+    Probe,
+    MatchedProbe,
+    MatchedReceive(bool),
+    SendReceive,
+    Wait,
+    Collective(Kind, bool),
+}
+
+/// What the word begins, where that is a call.
+fn form_of(word: Word) -> Option<Form> {
+    match word {
+        Word::Send => Some(Form::Send(Mode::Standard, false)),
+        Word::Ssend => Some(Form::Send(Mode::Synchronous, false)),
+        Word::Bsend => Some(Form::Send(Mode::Buffered, false)),
+        Word::Isend => Some(Form::Send(Mode::Standard, true)),
+        Word::Issend => Some(Form::Send(Mode::Synchronous, true)),
+        Word::Ibsend => Some(Form::Send(Mode::Buffered, true)),
+        Word::Recv => Some(Form::Receive(false)),
+        Word::Irecv => Some(Form::Receive(true)),
+        Word::Probe => Some(Form::Probe),
+        Word::Mprobe => Some(Form::MatchedProbe),
+        Word::Mrecv => Some(Form::MatchedReceive(false)),
+        Word::Imrecv => Some(Form::MatchedReceive(true)),
+        Word::Sendrecv => Some(Form::SendReceive),
+        Word::Wait => Some(Form::Wait),
+        Word::Barrier => Some(Form::Collective(Kind::Barrier, false)),
+        Word::Bcast => Some(Form::Collective(Kind::Broadcast, true)),
+        Word::Reduce => Some(Form::Collective(Kind::Reduce, true)),
+        Word::Allreduce => Some(Form::Collective(Kind::AllReduce, false)),
+        Word::Gather => Some(Form::Collective(Kind::Gather, true)),
+        Word::Scatter => Some(Form::Collective(Kind::Scatter, true)),
+        Word::Allgather => Some(Form::Collective(Kind::AllGather, false)),
+        Word::Alltoall => Some(Form::Collective(Kind::AllToAll, false)),
+        Word::Scan => Some(Form::Collective(Kind::Scan, false)),
+        _ => None,
+    }
+}
+
+/// The arguments of a call of this form.
+fn arguments(parser: &mut Parser<'_>, form: Form) -> Arguments {
+    match form {
+        Form::Send(mode, started) => send(parser, mode, started),
+        Form::Receive(started) => receive(parser, started),
+        Form::Probe => probe(parser),
+        Form::MatchedProbe => matched_probe(parser),
+        Form::MatchedReceive(started) => matched_receive(parser, started),
+        Form::SendReceive => send_receive(parser),
+        Form::Wait => wait(parser),
+        Form::Collective(kind, rooted) => collective(parser, kind, rooted),
+    }
+}
+
+/// The call that the word begins.
+pub(crate) fn call(
+    parser: &mut Parser<'_>,
+    word: Word,
+    line: u32,
+) -> Result<Box<Statement>, ParseReason> {
+    let Some(form) = form_of(word) else {
+        return Err(ParseReason::NoStatement);
+    };
+    let arguments = arguments(parser, form);
+    stated(parser, Statement::Call { line, arguments })
+}

@@ -1,0 +1,31 @@
+//! An SPMD text, read to its syntax tree.
+#![tactic(auto)]
+
+mod blocks;
+mod calls;
+mod codes;
+mod cutting;
+mod expressions;
+mod fault;
+mod heading;
+mod joints;
+mod labels;
+mod laws;
+mod lexer;
+mod lines;
+mod parser;
+mod piece;
+mod precedence;
+mod reading;
+mod spelled_call;
+mod spelled_expression;
+mod spelled_piece;
+mod spelled_statement;
+mod spelled_text;
+mod words;
+
+pub use fault::{ParseFault, ParseReason, TextFault};
+pub use heading::is_spmd;
+pub use laws::piece_faults_are_told;
+pub use lexer::place_of;
+pub use reading::{Policy, Text, parse};

@@ -1,0 +1,183 @@
+//! What is left of pieces behind a call.
+
+ghost use Rattle.std.specs.Prelude.{◌≡◌};
+ghost use Rattle.spmd_text.specs.Spelling.{left, after, only, same, after_label, after_request, after_communicator, after_message, after_pattern, after_root, after_group, send_word, receive_word, matched_word, kind_word, is_rooted, has_root, after_call, after_labels};
+
+use crate::piece::{Piece, Token, Word};
+use crate::precedence::same;
+use crate::spelled_expression::{
+    after_communicator, after_group, after_label, after_message, after_pattern, after_request,
+    after_root,
+};
+use crate::spelled_piece::{after, only};
+use spmd_tree::{Arguments, Expression, Kind, LabelForm, Labels, Mode};
+
+/// The word of a send.
+fn send_word(mode: Mode, request: &Option<LabelForm>) -> Word
+    ensures { result ≡ send_word mode request.now }
+{
+    match mode {
+        Mode::Standard => match request {
+            None => Word::Send,
+            Some(_) => Word::Isend,
+        },
+        Mode::Synchronous => match request {
+            None => Word::Ssend,
+            Some(_) => Word::Issend,
+        },
+        Mode::Buffered => match request {
+            None => Word::Bsend,
+            Some(_) => Word::Ibsend,
+        },
+    }
+}
+
+/// The word of a receive.
+fn receive_word(request: &Option<LabelForm>) -> Word
+    ensures { result ≡ receive_word request.now }
+{
+    match request {
+        None => Word::Recv,
+        Some(_) => Word::Irecv,
+    }
+}
+
+/// The word of a receive on a handle.
+fn matched_word(request: &Option<LabelForm>) -> Word
+    ensures { result ≡ matched_word request.now }
+{
+    match request {
+        None => Word::Mrecv,
+        Some(_) => Word::Imrecv,
+    }
+}
+
+/// The word of a collective call.
+fn kind_word(kind: Kind) -> Word
+    ensures { result ≡ kind_word kind }
+{
+    match kind {
+        Kind::Barrier => Word::Barrier,
+        Kind::Broadcast => Word::Bcast,
+        Kind::Reduce => Word::Reduce,
+        Kind::AllReduce => Word::Allreduce,
+        Kind::Gather => Word::Gather,
+        Kind::Scatter => Word::Scatter,
+        Kind::AllGather => Word::Allgather,
+        Kind::AllToAll => Word::Alltoall,
+        Kind::Scan => Word::Scan,
+    }
+}
+
+/// Whether the collective call has a root.
+fn is_rooted(kind: Kind) -> bool
+    ensures { result ≡ is_rooted kind }
+{
+    match kind {
+        Kind::Broadcast => true,
+        Kind::Reduce => true,
+        Kind::Gather => true,
+        Kind::Scatter => true,
+        _ => false,
+    }
+}
+
+/// Whether a root is written.
+fn has_root(root: &Option<Expression>) -> bool
+    ensures { result ≡ has_root root.now }
+{
+    match root {
+        None => false,
+        Some(_) => true,
+    }
+}
+
+/// What is left behind a call.
+pub(crate) fn after_call<'a>(
+    arguments: &Arguments,
+    tokens: Option<&'a [Token]>,
+) -> Option<&'a [Token]>
+    ensures { left result ≡ after_call arguments.now (left tokens.entry) }
+{
+    match arguments {
+        Arguments::Send {
+            mode,
+            request,
+            destination,
+            tag,
+            communicator,
+        } => {
+            let rest = after(Piece::Word(send_word(*mode, request)), tokens);
+            let rest = after_message(destination, tag, after_request(request, rest));
+            after_communicator(communicator, rest)
+        }
+        Arguments::Receive {
+            request,
+            source,
+            tag,
+            communicator,
+        } => {
+            let rest = after(Piece::Word(receive_word(request)), tokens);
+            let rest = after_pattern(source, tag, after_request(request, rest));
+            after_communicator(communicator, rest)
+        }
+        Arguments::MatchedProbe {
+            handle,
+            source,
+            tag,
+            communicator,
+        } => {
+            let rest = after_label(handle, after(Piece::Word(Word::Mprobe), tokens));
+            let rest = after_pattern(source, tag, after(Piece::Comma, rest));
+            after_communicator(communicator, rest)
+        }
+        Arguments::Probe {
+            source,
+            tag,
+            communicator,
+        } => {
+            let rest = after_pattern(source, tag, after(Piece::Word(Word::Probe), tokens));
+            after_communicator(communicator, rest)
+        }
+        Arguments::MatchedReceive { request, handle } => {
+            let rest = after(Piece::Word(matched_word(request)), tokens);
+            after_label(handle, after_request(request, rest))
+        }
+        Arguments::Wait { request } => after_label(request, after(Piece::Word(Word::Wait), tokens)),
+        Arguments::SendReceive {
+            destination,
+            send_tag,
+            source,
+            receive_tag,
+            communicator,
+        } => {
+            let rest = after(Piece::Word(Word::Sendrecv), tokens);
+            let rest = after(Piece::Comma, after_message(destination, send_tag, rest));
+            let rest = after_pattern(source, receive_tag, rest);
+            after_communicator(communicator, rest)
+        }
+        Arguments::Collective {
+            kind,
+            root,
+            group,
+            communicator,
+        } => {
+            let rest = after_root(root, after(Piece::Word(kind_word(*kind)), tokens));
+            let rest = after_communicator(communicator, after_group(group, rest));
+            only(same(is_rooted(*kind), has_root(root)), rest)
+        }
+    }
+}
+
+/// What is left behind the requests of a `waitall`.
+pub(crate) fn after_labels<'a>(labels: &Labels, tokens: Option<&'a [Token]>) -> Option<&'a [Token]>
+    ensures { left result ≡ after_labels labels.now (left tokens.entry) }
+{
+    match labels {
+        Labels::Last(form) => after_label(form, tokens),
+        Labels::More(form, others) => {
+            let rest = after(Piece::Comma, after_label(form, tokens));
+            after_labels(others, rest)
+        }
+    }
+}

@@ -1,0 +1,86 @@
+-- The value of an expression, for a rank of so many, where names have these values.
+use Rattle.std.specs.Prelude.{ℕ, ℤ, pos, List, Bool, true, false, not, Option, Some, None, Result, Ok, Err, slice_get}
+use Rattle.spmd_tree.specs.declared.tree.Expression.{Expression}
+use Rattle.spmd_tree.specs.declared.tree.Expression.TheVariants as form
+use Rattle.spmd_tree.specs.declared.tree.Comparison.{Comparison}
+use Rattle.spmd_tree.specs.declared.tree.Operator.{Operator}
+use Rattle.spmd_tree.specs.declared.tree.Operator.TheVariants.{Minus}
+use Rattle.unroll.specs.declared.value.Value.{Value}
+use Rattle.unroll.specs.declared.value.Value.TheVariants.{Number, Null, Truth}
+use Rattle.unroll.specs.declared.value.Reason.{Reason}
+use Rattle.unroll.specs.declared.value.Reason.TheVariants as reason
+use Rattle.unroll.specs.Values.{operate, as_number, as_truth, compares}
+
+-- goes on with what was found, or stops at what is wrong
+abbrev pub on : {A B : Type 0} → Result A Reason → (A → Result B Reason) → Result B Reason
+on (Err e) go = Err e
+on (Ok x) go = go x
+
+-- where a name's value was looked up
+abbrev pub known : ℕ → Option (Option Value) → Result Value Reason
+known name None = Err (reason.NoValue name)
+known name (Some None) = Err (reason.NoValue name)
+known name (Some (Some v)) = Ok v
+
+abbrev pub truth : Result Bool Reason → Result Value Reason
+truth (Err e) = Err e
+truth (Ok b) = Ok (Truth b)
+
+abbrev pub number_in : Result Value Reason → Result ℤ Reason
+number_in r = on r (λ v. as_number v)
+
+abbrev pub truth_in : Result Value Reason → Result Bool Reason
+truth_in r = on r (λ v. as_truth v)
+
+abbrev pub as_condition : Result Value Reason → Result Value Reason
+as_condition r = truth (truth_in r)
+
+abbrev pub opposed : Result Bool Reason → Result Value Reason
+opposed (Err e) = Err e
+opposed (Ok b) = Ok (Truth (not b))
+
+-- the first of two that is wrong is told
+abbrev pub operated : Operator → Result ℤ Reason → Result ℤ Reason → Result Value Reason
+operated operator (Err e) b = Err e
+operated operator (Ok x) (Err e) = Err e
+operated operator (Ok x) (Ok y) = operate operator x y
+
+abbrev pub compared : Comparison → Result Value Reason → Result Value Reason → Result Value Reason
+compared comparison (Err e) b = Err e
+compared comparison (Ok x) (Err e) = Err e
+compared comparison (Ok x) (Ok y) = truth (compares comparison x y)
+
+-- the second condition counts only where the first holds
+abbrev pub both : Result Bool Reason → Result Value Reason → Result Value Reason
+both (Err e) second = Err e
+both (Ok false) second = Ok (Truth false)
+both (Ok true) second = as_condition second
+
+abbrev pub either : Result Bool Reason → Result Value Reason → Result Value Reason
+either (Err e) second = Err e
+either (Ok true) second = Ok (Truth true)
+either (Ok false) second = as_condition second
+
+abbrev pub choice : Result Bool Reason → Result Value Reason → Result Value Reason → Result Value Reason
+choice (Err e) first second = Err e
+choice (Ok true) first second = first
+choice (Ok false) first second = second
+
+abbrev pub value_of : Expression → ℕ → ℕ → List (Option Value) → Result Value Reason
+value_of (form.Literal n) rank size values = Ok (Number n)
+value_of form.Null rank size values = Ok Null
+value_of form.Rank rank size values = Ok (Number (pos rank))
+value_of form.Size rank size values = Ok (Number (pos size))
+value_of (form.Named name) rank size values = known name (slice_get values name)
+value_of (form.Binary' operator p a q b) rank size values = operated operator (number_in (value_of a rank size values)) (number_in (value_of b rank size values))
+value_of (form.Compare' comparison p a q b) rank size values = compared comparison (value_of a rank size values) (value_of b rank size values)
+value_of (form.Negative' p a) rank size values = operated Minus (Ok (pos 0)) (number_in (value_of a rank size values))
+value_of (form.Grouped' p a) rank size values = value_of a rank size values
+value_of (form.Negation' p a) rank size values = opposed (truth_in (value_of a rank size values))
+value_of (form.Both' p a q b) rank size values = both (truth_in (value_of a rank size values)) (value_of b rank size values)
+value_of (form.Either' p a q b) rank size values = either (truth_in (value_of a rank size values)) (value_of b rank size values)
+value_of (form.Choice' p c q a s b) rank size values = choice (truth_in (value_of c rank size values)) (value_of a rank size values) (value_of b rank size values)
+
+-- whether a condition holds
+abbrev pub truth_of : Expression → ℕ → ℕ → List (Option Value) → Result Bool Reason
+truth_of e rank size values = truth_in (value_of e rank size values)

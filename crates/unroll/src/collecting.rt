@@ -1,0 +1,76 @@
+//! What a collective call does: the calls that it stands for are made.
+
+ghost use Rattle.std.specs.Prelude.{◌≡◌};
+ghost use Rattle.unroll.specs.Collectives.{kind_for};
+ghost use Rattle.unroll.specs.Runs.{Agrees, seen, faulty, put, put_each, collective_run};
+
+use crate::call::{Call, Group, Meeting};
+use crate::collective::{calls_of, way_of};
+use crate::machine::{Machine, Scope, Stop, faulty, put};
+use crate::members::{earlier, is_member};
+use crate::value::Reason;
+use spmd_tree::Kind;
+
+/// Makes these calls, one after another.
+fn put_each(machine: &mut Machine, scope: Scope, line: u32, calls: &[Call]) -> Result<(), Stop>
+    ensures { Agrees result (put_each calls.now scope line (seen machine.old)) (seen machine.new) }
+{
+    for call in calls {
+        match put(machine, scope, line, *call) {
+            Err(stop) => return Err(stop),
+            Ok(()) => {}
+        }
+    }
+    Ok(())
+}
+
+/// The kind of a collective call whose calls are made.
+fn kind_for(barriers: bool, kind: Kind) -> Kind
+    ensures { result ≡ kind_for barriers kind }
+{
+    if barriers { Kind::Barrier } else { kind }
+}
+
+/// Makes the calls that a collective call stands for.
+pub(crate) fn perform_collective(
+    machine: &mut Machine,
+    scope: Scope,
+    line: u32,
+    kind: Kind,
+    root: u32,
+    group: Group,
+    communicator: u32,
+) -> Result<(), Stop>
+    ensures { Agrees result (collective_run scope line kind root group communicator (seen machine.old)) (seen machine.new) }
+{
+    if !is_member(group, scope.rank) {
+        return Err(faulty(
+            machine,
+            scope,
+            line,
+            Reason::NotInGroup { rank: scope.rank },
+        ));
+    }
+    if !is_member(group, root) {
+        return Err(faulty(machine, scope, line, Reason::NotInGroup { rank: root }));
+    }
+    let before = earlier(&machine.met, communicator, group);
+    if before >= 67_108_864 {
+        return Err(faulty(machine, scope, line, Reason::TooManyCollectives));
+    }
+    let way = way_of(kind, before as u32, communicator);
+    let calls = calls_of(
+        machine.alloc,
+        kind_for(scope.barriers, kind),
+        root,
+        group,
+        scope.size,
+        scope.rank,
+        way,
+    )?;
+    machine.met.push(Meeting {
+        communicator,
+        group,
+    })?;
+    put_each(machine, scope, line, calls.as_slice())
+}

@@ -1,0 +1,253 @@
+//! Collective calls (MPI 4.1, chapter 6), as the sends and receives that they stand for.
+//!
+//! Each form has the least waiting that MPI guarantees where all standard sends are buffered, and
+//! holds each rank until all have come where none is. `specs/Collectives.antt` defines the forms.
+
+ghost use Rattle.std.specs.Prelude.{◌≡◌, ◌≤◌, ◌<◌, ◌++◌, IfOk, OnOk};
+ghost use Rattle.unroll.specs.Groups.{others, earlier, before, after};
+ghost use Rattle.unroll.specs.Collectives.{number, way_of, send, receive, sends, receives, meet, spread, collect, chain, calls_of};
+
+use crate::call::{Call, Group};
+use crate::members::{after, before, earlier, others};
+use spmd_tree::{Kind, Mode};
+use std::alloc::{AllocError, Global};
+
+/// How the messages of a collective call are known: those of its first round by one tag, those of
+/// its second round by another one, in a communicator of 128 or more.
+#[derive(Clone, Copy)]
+pub(crate) struct Way {
+    pub(crate) first: u32,
+    pub(crate) second: u32,
+    pub(crate) communicator: u32,
+}
+
+/// The number of a kind of call, 0 to 8, which is part of its tags.
+fn number(kind: Kind) -> u32
+    ensures number { result ≡ number kind }
+    ensures small { result ≤ 8 }
+{
+    match kind {
+        Kind::Barrier => 0,
+        Kind::Broadcast => 1,
+        Kind::Reduce => 2,
+        Kind::AllReduce => 3,
+        Kind::Gather => 4,
+        Kind::Scatter => 5,
+        Kind::AllGather => 6,
+        Kind::AllToAll => 7,
+        Kind::Scan => 8,
+    }
+}
+
+/// How the messages are known of a collective call before which so many were made with its
+/// communicator and group: by tags below 2^31.
+pub(crate) fn way_of(kind: Kind, earlier: u32, communicator: u32) -> Way
+    requires { earlier < 67108864 }
+    ensures { result ≡ way_of kind earlier communicator }
+{
+    let first = 32 * earlier + 2 * number(kind);
+    Way {
+        first,
+        second: first + 1,
+        communicator,
+    }
+}
+
+/// A blocking send.
+fn send(mode: Mode, destination: u32, tag: u32, communicator: u32) -> Call
+    ensures { result ≡ send mode tag communicator destination }
+{
+    Call::Send {
+        mode,
+        request: None,
+        destination,
+        tag,
+        communicator,
+    }
+}
+
+/// A blocking receive.
+fn receive(source: u32, tag: u32, communicator: u32) -> Call
+    ensures { result ≡ receive tag communicator source }
+{
+    Call::Receive {
+        request: None,
+        source: Some(source),
+        tag: Some(tag),
+        communicator,
+    }
+}
+
+/// Adds a send to each of these ranks.
+fn push_sends(
+    calls: &mut Vec<Call>,
+    mode: Mode,
+    tag: u32,
+    communicator: u32,
+    ranks: &[u32],
+) -> Result<(), AllocError>
+    ensures { OnOk result (calls.new.items ≡ calls.old.items ++ sends mode tag communicator ranks.now) }
+{
+    for rank in ranks {
+        calls.push(send(mode, *rank, tag, communicator))?;
+    }
+    Ok(())
+}
+
+/// Adds a receive from each of these ranks.
+fn push_receives(
+    calls: &mut Vec<Call>,
+    tag: u32,
+    communicator: u32,
+    ranks: &[u32],
+) -> Result<(), AllocError>
+    ensures { OnOk result (calls.new.items ≡ calls.old.items ++ receives tag communicator ranks.now) }
+{
+    for rank in ranks {
+        calls.push(receive(*rank, tag, communicator))?;
+    }
+    Ok(())
+}
+
+/// Nobody goes on before all have come.
+fn meet(
+    alloc: Global,
+    is_root: bool,
+    root: u32,
+    others: &[u32],
+    way: Way,
+) -> Result<Vec<Call>, AllocError>
+    ensures { IfOk result (λ calls. calls.items ≡ meet is_root root others.now way) }
+{
+    let mut calls = Vec::new(alloc);
+    if is_root {
+        push_receives(&mut calls, way.first, way.communicator, others)?;
+        push_sends(
+            &mut calls,
+            Mode::Buffered,
+            way.second,
+            way.communicator,
+            others,
+        )?;
+        return Ok(calls);
+    }
+    calls.push(send(Mode::Buffered, root, way.first, way.communicator))?;
+    calls.push(receive(root, way.second, way.communicator))?;
+    Ok(calls)
+}
+
+/// Nobody goes on before the root has come.
+fn spread(
+    alloc: Global,
+    is_root: bool,
+    root: u32,
+    others: &[u32],
+    way: Way,
+) -> Result<Vec<Call>, AllocError>
+    ensures { IfOk result (λ calls. calls.items ≡ spread is_root root others.now way) }
+{
+    let mut calls = Vec::new(alloc);
+    if is_root {
+        push_sends(
+            &mut calls,
+            Mode::Standard,
+            way.first,
+            way.communicator,
+            others,
+        )?;
+        push_sends(
+            &mut calls,
+            Mode::Buffered,
+            way.second,
+            way.communicator,
+            others,
+        )?;
+        return Ok(calls);
+    }
+    calls.push(receive(root, way.first, way.communicator))?;
+    calls.push(receive(root, way.second, way.communicator))?;
+    Ok(calls)
+}
+
+/// The root doesn't go on before all have come.
+pub(crate) fn collect(
+    alloc: Global,
+    is_root: bool,
+    root: u32,
+    others: &[u32],
+    way: Way,
+) -> Result<Vec<Call>, AllocError>
+    ensures { IfOk result (λ calls. calls.items ≡ collect is_root root others.now way) }
+{
+    let mut calls = Vec::new(alloc);
+    if is_root {
+        push_receives(&mut calls, way.first, way.communicator, others)?;
+        push_receives(&mut calls, way.second, way.communicator, others)?;
+        return Ok(calls);
+    }
+    calls.push(send(Mode::Buffered, root, way.first, way.communicator))?;
+    calls.push(send(Mode::Standard, root, way.second, way.communicator))?;
+    Ok(calls)
+}
+
+/// Nobody goes on before those below it have come.
+fn chain(
+    alloc: Global,
+    before: Option<u32>,
+    after: Option<u32>,
+    way: Way,
+) -> Result<Vec<Call>, AllocError>
+    ensures { IfOk result (λ calls. calls.items ≡ chain before after way) }
+{
+    let mut calls = Vec::new(alloc);
+    match before {
+        None => match after {
+            None => Ok(calls),
+            Some(next) => {
+                calls.push(send(Mode::Buffered, next, way.first, way.communicator))?;
+                calls.push(send(Mode::Standard, next, way.second, way.communicator))?;
+                Ok(calls)
+            }
+        },
+        Some(last) => match after {
+            None => {
+                calls.push(receive(last, way.first, way.communicator))?;
+                calls.push(receive(last, way.second, way.communicator))?;
+                Ok(calls)
+            }
+            Some(next) => {
+                calls.push(receive(last, way.first, way.communicator))?;
+                calls.push(send(Mode::Buffered, next, way.first, way.communicator))?;
+                calls.push(send(Mode::Standard, next, way.second, way.communicator))?;
+                calls.push(receive(last, way.second, way.communicator))?;
+                Ok(calls)
+            }
+        },
+    }
+}
+
+/// The calls that a collective call stands for, on this rank of so many.
+pub(crate) fn calls_of(
+    alloc: Global,
+    kind: Kind,
+    root: u32,
+    group: Group,
+    size: u32,
+    rank: u32,
+    way: Way,
+) -> Result<Vec<Call>, AllocError>
+    ensures { IfOk result (λ calls. calls.items ≡ calls_of kind root group size rank way) }
+{
+    let others = others(alloc, group, size, rank)?;
+    match kind {
+        Kind::Barrier => meet(alloc, rank == root, root, &others, way),
+        Kind::Broadcast => spread(alloc, rank == root, root, &others, way),
+        Kind::Reduce => collect(alloc, rank == root, root, &others, way),
+        Kind::AllReduce => meet(alloc, rank == root, root, &others, way),
+        Kind::Gather => collect(alloc, rank == root, root, &others, way),
+        Kind::Scatter => spread(alloc, rank == root, root, &others, way),
+        Kind::AllGather => meet(alloc, rank == root, root, &others, way),
+        Kind::AllToAll => meet(alloc, rank == root, root, &others, way),
+        Kind::Scan => chain(alloc, before(group, rank), after(group, rank), way),
+    }
+}

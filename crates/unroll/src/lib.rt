@@ -1,0 +1,24 @@
+//! An SPMD text unrolled: for each rank the calls that it makes, and what is wrong first.
+#![tactic(auto)]
+
+mod arguments;
+mod arithmetic;
+mod call;
+mod collecting;
+mod collective;
+mod expression;
+mod laws;
+mod machine;
+mod members;
+mod parts;
+mod performing;
+mod statement;
+mod value;
+mod waiting;
+mod whole;
+
+pub use call::{Call, Fault, Group, Label, Placed, Turn};
+pub use expression::evaluate;
+pub use laws::collectives_are_apart;
+pub use value::{Reason, Value};
+pub use whole::{Limits, Refusal, Unrolled, unroll};

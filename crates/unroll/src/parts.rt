@@ -1,0 +1,301 @@
+//! The parts of a call's arguments: numbers, tags, peers, labels and groups.
+
+ghost use Rattle.std.specs.Prelude.{◌≡◌};
+ghost use Rattle.unroll.specs.Arguments.{number_of, found, some, tag_of, optional_tag, communicator_of, peered, peer_of, source_of, index_of, label_of, optional_label, rank_of, root_of, stepped, step_of, group_of, collective_communicator};
+
+use crate::arithmetic::below;
+use crate::call::{Group, Label};
+use crate::expression::{evaluate, number_in};
+use crate::value::{Reason, Value};
+use spmd_tree::{Expression, GroupForm, Kind, LabelForm};
+
+/// The number that the expression gives.
+pub(crate) fn number(
+    expression: &Expression,
+    rank: u32,
+    size: u32,
+    values: &[Option<Value>],
+) -> Result<i64, Reason>
+    ensures { result ≡ number_of expression.now rank size values.now }
+{
+    number_in(evaluate(expression, rank, size, values))
+}
+
+/// The number that was found, or else what is wrong.
+fn found(number: Option<u32>, reason: Reason) -> Result<u32, Reason>
+    ensures { result ≡ found number reason }
+{
+    match number {
+        Some(number) => Ok(number),
+        None => Err(reason),
+    }
+}
+
+/// The number that was found, as one that may be missing.
+fn some(found: Result<u32, Reason>) -> Result<Option<u32>, Reason>
+    ensures { result ≡ some found }
+{
+    match found {
+        Err(reason) => Err(reason),
+        Ok(number) => Ok(Some(number)),
+    }
+}
+
+/// A tag, 0 to 32,767.
+pub(crate) fn tag(
+    expression: &Expression,
+    rank: u32,
+    size: u32,
+    values: &[Option<Value>],
+) -> Result<u32, Reason>
+    ensures { result ≡ tag_of expression.now rank size values.now }
+{
+    match number(expression, rank, size, values) {
+        Err(reason) => Err(reason),
+        Ok(tag) => found(below(tag, 32_768), Reason::TagRange { tag }),
+    }
+}
+
+/// A tag, or none for a wildcard.
+pub(crate) fn optional_tag(
+    expression: &Option<Expression>,
+    rank: u32,
+    size: u32,
+    values: &[Option<Value>],
+) -> Result<Option<u32>, Reason>
+    ensures { result ≡ optional_tag expression.now rank size values.now }
+{
+    match expression {
+        None => Ok(None),
+        Some(expression) => some(tag(expression, rank, size, values)),
+    }
+}
+
+/// A communicator, 0 to 127; 0 where none is written.
+pub(crate) fn communicator(
+    expression: &Option<Expression>,
+    rank: u32,
+    size: u32,
+    values: &[Option<Value>],
+) -> Result<u32, Reason>
+    ensures { result ≡ communicator_of expression.now rank size values.now }
+{
+    match expression {
+        None => Ok(0),
+        Some(expression) => match number(expression, rank, size, values) {
+            Err(reason) => Err(reason),
+            Ok(communicator) => found(
+                below(communicator, 128),
+                Reason::CommunicatorRange { communicator },
+            ),
+        },
+    }
+}
+
+/// The rank that a value is, or none for `null`.
+fn peered(value: Value, size: u32) -> Result<Option<u32>, Reason>
+    ensures { result ≡ peered value size }
+{
+    match value {
+        Value::Null => Ok(None),
+        Value::Number(peer) => some(found(below(peer, size), Reason::PeerRange { peer })),
+        Value::Truth(_) => Err(Reason::Kind),
+    }
+}
+
+/// A destination: a rank, or none for `null`.
+pub(crate) fn peer(
+    expression: &Expression,
+    rank: u32,
+    size: u32,
+    values: &[Option<Value>],
+) -> Result<Option<u32>, Reason>
+    ensures { result ≡ peer_of expression.now rank size values.now }
+{
+    match evaluate(expression, rank, size, values) {
+        Err(reason) => Err(reason),
+        Ok(value) => peered(value, size),
+    }
+}
+
+/// A source: none for `null`, and else a rank or a wildcard.
+pub(crate) fn source(
+    expression: &Option<Expression>,
+    rank: u32,
+    size: u32,
+    values: &[Option<Value>],
+) -> Result<Option<Option<u32>>, Reason>
+    ensures { result ≡ source_of expression.now rank size values.now }
+{
+    match expression {
+        None => Ok(Some(None)),
+        Some(expression) => match peer(expression, rank, size, values) {
+            Err(reason) => Err(reason),
+            Ok(None) => Ok(None),
+            Ok(Some(peer)) => Ok(Some(Some(peer))),
+        },
+    }
+}
+
+/// The index of a label, 0 to 99,999, where one is written.
+fn index(
+    expression: &Option<Expression>,
+    rank: u32,
+    size: u32,
+    values: &[Option<Value>],
+) -> Result<Option<u32>, Reason>
+    ensures { result ≡ index_of expression.now rank size values.now }
+{
+    match expression {
+        None => Ok(None),
+        Some(expression) => match number(expression, rank, size, values) {
+            Err(reason) => Err(reason),
+            Ok(index) => some(found(below(index, 100_000), Reason::IndexRange { index })),
+        },
+    }
+}
+
+/// The request or handle.
+pub(crate) fn label(
+    form: &LabelForm,
+    rank: u32,
+    size: u32,
+    values: &[Option<Value>],
+) -> Result<Label, Reason>
+    ensures { result ≡ label_of form.now rank size values.now }
+{
+    match index(&form.index, rank, size, values) {
+        Err(reason) => Err(reason),
+        Ok(index) => Ok(Label {
+            name: form.name,
+            index,
+        }),
+    }
+}
+
+/// The request of a call that is started.
+pub(crate) fn optional_label(
+    form: &Option<LabelForm>,
+    rank: u32,
+    size: u32,
+    values: &[Option<Value>],
+) -> Result<Option<Label>, Reason>
+    ensures { result ≡ optional_label form.now rank size values.now }
+{
+    match form {
+        None => Ok(None),
+        Some(form) => match label(form, rank, size, values) {
+            Err(reason) => Err(reason),
+            Ok(label) => Ok(Some(label)),
+        },
+    }
+}
+
+/// A rank, and never `null`.
+fn member(
+    expression: &Expression,
+    rank: u32,
+    size: u32,
+    values: &[Option<Value>],
+) -> Result<u32, Reason>
+    ensures { result ≡ rank_of expression.now rank size values.now }
+{
+    match number(expression, rank, size, values) {
+        Err(reason) => Err(reason),
+        Ok(peer) => found(below(peer, size), Reason::PeerRange { peer }),
+    }
+}
+
+/// The root, where the call has one.
+pub(crate) fn root(
+    expression: &Option<Expression>,
+    rank: u32,
+    size: u32,
+    values: &[Option<Value>],
+) -> Result<Option<u32>, Reason>
+    ensures { result ≡ root_of expression.now rank size values.now }
+{
+    match expression {
+        None => Ok(None),
+        Some(expression) => some(member(expression, rank, size, values)),
+    }
+}
+
+/// A step that is above 0.
+fn stepped(number: Option<u32>, step: i64) -> Result<u32, Reason>
+    ensures { result ≡ stepped number step }
+{
+    match number {
+        None => Err(Reason::GroupStep { step }),
+        Some(number) => {
+            if number == 0 {
+                return Err(Reason::GroupStep { step });
+            }
+            Ok(number)
+        }
+    }
+}
+
+/// The step of a group, 1 to 65,535; 1 where none is written.
+fn step(
+    expression: &Option<Expression>,
+    rank: u32,
+    size: u32,
+    values: &[Option<Value>],
+) -> Result<u32, Reason>
+    ensures { result ≡ step_of expression.now rank size values.now }
+{
+    match expression {
+        None => Ok(1),
+        Some(expression) => match number(expression, rank, size, values) {
+            Err(reason) => Err(reason),
+            Ok(step) => stepped(below(step, 65_536), step),
+        },
+    }
+}
+
+/// The group: all ranks, where none is written.
+pub(crate) fn group(
+    form: &Option<GroupForm>,
+    rank: u32,
+    size: u32,
+    values: &[Option<Value>],
+) -> Result<Group, Reason>
+    ensures { result ≡ group_of form.now rank size values.now }
+{
+    match form {
+        None => Ok(Group {
+            first: 0,
+            last: size.saturating_sub(1),
+            step: 1,
+        }),
+        Some(form) => {
+            let first = member(&form.first, rank, size, values)?;
+            let last = member(&form.last, rank, size, values)?;
+            let step = step(&form.step, rank, size, values)?;
+            Ok(Group { first, last, step })
+        }
+    }
+}
+
+/// The communicator that the messages of a collective call have: 128 above its own, so no receive
+/// of the text takes them.
+pub(crate) fn collective_communicator(
+    expression: &Option<Expression>,
+    rank: u32,
+    size: u32,
+    values: &[Option<Value>],
+) -> Result<u32, Reason>
+    ensures { result ≡ collective_communicator expression.now rank size values.now }
+{
+    match expression {
+        None => Ok(128),
+        Some(expression) => match number(expression, rank, size, values) {
+            Err(reason) => Err(reason),
+            Ok(communicator) => match below(communicator, 128) {
+                None => Err(Reason::CommunicatorRange { communicator }),
+                Some(own) => Ok(128 + own),
+            },
+        },
+    }
+}

@@ -1,0 +1,70 @@
+//! Waits, and receives on handles: the ends of what was started.
+
+ghost use Rattle.std.specs.Prelude.{◌≡◌, IfOk};
+ghost use Rattle.unroll.specs.Runs.{Agrees, seen, put, matched, waited, wait_part, still_first};
+
+use crate::call::{Call, Label};
+use crate::machine::{Machine, Scope, Stop, forget, is_left_out, leave_request, put};
+
+/// Receives on a handle. Where its matched probe was left out the receive is left out too, and its
+/// request is remembered.
+pub(crate) fn perform_matched(
+    machine: &mut Machine,
+    scope: Scope,
+    line: u32,
+    request: Option<Label>,
+    handle: Label,
+) -> Result<(), Stop>
+    ensures { Agrees result (matched scope line request handle (seen machine.old)) (seen machine.new) }
+{
+    if is_left_out(&machine.left_out, true, handle) {
+        forget(&mut machine.left_out, true, handle);
+        return leave_request(machine, line, request);
+    }
+    put(
+        machine,
+        scope,
+        line,
+        Call::MatchedReceive { request, handle },
+    )
+}
+
+/// Waits for a request, unless its start was left out.
+pub(crate) fn perform_wait(
+    machine: &mut Machine,
+    scope: Scope,
+    line: u32,
+    request: Label,
+) -> Result<(), Stop>
+    ensures { Agrees result (waited scope line request (seen machine.old)) (seen machine.new) }
+{
+    if is_left_out(&machine.left_out, false, request) {
+        forget(&mut machine.left_out, false, request);
+        return Ok(());
+    }
+    put(machine, scope, line, Call::Wait { request })
+}
+
+/// Waits for one request of several, unless its start was left out; then answers whether the next
+/// one is the first.
+pub(crate) fn wait_part(
+    machine: &mut Machine,
+    scope: Scope,
+    line: u32,
+    first: bool,
+    request: Label,
+) -> Result<bool, Stop>
+    ensures run { Agrees result (wait_part scope line first request (seen machine.old)) (seen machine.new) }
+    ensures first { IfOk result (λ next. next ≡ still_first first request (seen machine.old)) }
+{
+    if is_left_out(&machine.left_out, false, request) {
+        forget(&mut machine.left_out, false, request);
+        return Ok(first);
+    }
+    if first {
+        put(machine, scope, line, Call::WaitAll { request })?;
+    } else {
+        put(machine, scope, line, Call::WaitAlso { request })?;
+    }
+    Ok(false)
+}
