@@ -53,12 +53,13 @@ fn beginning_of(piece: Piece, least: u32) -> Beginning {
     }
 }
 
-/// How close the joints at least bind of what stands behind the prefix.
-fn inside(prefix: Prefix) -> u32 {
+/// How close the joints at least bind of what stands behind the prefix, where joints of what it is
+/// part of bind at least so close: where a number has to stand, one stands in parentheses too.
+fn inside(prefix: Prefix, least: u32) -> u32 {
     match prefix {
         Prefix::Not => NOT,
         Prefix::Minus => FACTOR,
-        Prefix::Parentheses => ANY,
+        Prefix::Parentheses => if least >= NUMBER { NUMBER } else { ANY },
     }
 }
 
@@ -102,18 +103,25 @@ fn want(parser: &mut Parser<'_>, part: &Expression, condition: bool) {
     }
 }
 
-/// Two parts with a joint between them.
+/// Two parts with a joint between them, of which the left one goes with it.
 fn joined(
     parser: &mut Parser<'_>,
     joint: Joint,
     left: Expression,
     right: Expression,
 ) -> Expression {
-    let conditions = joins_conditions(joint);
-    want(parser, &left, conditions);
-    want(parser, &right, conditions);
+    want(parser, &right, joins_conditions(joint));
     let alloc = parser.alloc;
     kept(parser, pair(alloc, joint, left, right))
+}
+
+/// Why parentheses don't end behind the part in them.
+fn unclosed(parser: &Parser<'_>, inner: &Expression) -> ParseReason {
+    if joint_of(parser.piece()).is_some() && !is_condition(inner) {
+        ParseReason::NoNumber
+    } else {
+        ParseReason::NoClose
+    }
 }
 
 /// Notes what is wrong with the part behind the prefix, or behind what ends it.
@@ -121,7 +129,10 @@ fn end_prefix(parser: &mut Parser<'_>, prefix: Prefix, inner: &Expression) {
     match prefix {
         Prefix::Not => want(parser, inner, true),
         Prefix::Minus => want(parser, inner, false),
-        Prefix::Parentheses => parser.expect(Piece::Close, ParseReason::NoClose),
+        Prefix::Parentheses => {
+            let reason = unclosed(parser, inner);
+            parser.expect(Piece::Close, reason)
+        }
     }
 }
 
@@ -138,7 +149,6 @@ fn chosen(
     yes: Expression,
     no: Expression,
 ) -> Expression {
-    want(parser, &condition, true);
     want(parser, &yes, false);
     want(parser, &no, false);
     let alloc = parser.alloc;
@@ -171,7 +181,7 @@ fn expression(parser: &mut Parser<'_>, least: u32, depth: u32) -> Expression {
                 return failed(parser, ParseReason::TooDeep);
             }
             parser.step();
-            let inner = expression(parser, inside(prefix), depth - 1);
+            let inner = expression(parser, inside(prefix, least), depth - 1);
             prefixed(parser, prefix, inner)
         }
         Beginning::Choice => {
@@ -180,6 +190,7 @@ fn expression(parser: &mut Parser<'_>, least: u32, depth: u32) -> Expression {
             }
             parser.step();
             let condition = expression(parser, ANY, depth - 1);
+            want(parser, &condition, true);
             parser.expect(Piece::Word(Word::Then), ParseReason::NoThen);
             let yes = expression(parser, NUMBER, depth - 1);
             parser.expect(Piece::Word(Word::Else), ParseReason::NoElse);
@@ -202,6 +213,7 @@ fn expression(parser: &mut Parser<'_>, least: u32, depth: u32) -> Expression {
             Err(reason) => return failed(parser, reason),
             Ok(longer) => row = longer,
         }
+        want(parser, &left, joins_conditions(joint));
         parser.step();
         let right = expression(parser, binding + 1, depth);
         left = joined(parser, joint, left, right);
