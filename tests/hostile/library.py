@@ -24,7 +24,8 @@ CRATE = os.path.join(ROOT, 'crates', 'test_scripts')
 # Memory lacked while a file was read, which only standard error says.
 UNREAD = b'error: '
 HELD = re.compile(rb'([1-9][0-9]* rows hold\n)?')
-LACKED = re.compile(rb"(.*\n)*?[1-9][0-9]* rows don't hold\n|([1-9][0-9]* rows hold\n)?")
+# The word memory stands in place of the rows that don't hold, where memory lacked for their text.
+LACKED = re.compile(rb"(memory|(.*\n)*?)[1-9][0-9]* rows don't hold\n|([1-9][0-9]* rows hold\n)?")
 
 
 def built_library():

@@ -1,7 +1,7 @@
 //! Formulas, what satisfies them, and lines and trees that are checked over them.
 ghost use Rattle.std.specs.Prelude.{◌≡◌, ◌+◌, length};
 
-use crate::given::{Given, Show, add, put_all, tell};
+use crate::given::{Given, MEMORY, Show, add, put_all, tell};
 use crate::reading::{Part, all, assignment, cut, cut_number, formula, number, tree};
 use crate::report::{Call, Report};
 use crate::scripts::Section;
@@ -214,13 +214,16 @@ fn join(formula: &Formula, lines: &mut Vec<Line>, words: &str, given: &mut Given
     let Some(tree) = tree(words, given) else {
         return;
     };
-    match joined(formula, lines.as_slice(), &tree, given) {
-        Some(added) => put_joined(lines, added, given),
-        None => given.refuse("not made: lines or a tree that aren't accepted"),
+    if let Some(added) = joined(formula, lines.as_slice(), &tree, given) {
+        put_joined(lines, added, given);
     }
 }
 
+/// Takes the lines in, all of them or none.
 fn put_joined(lines: &mut Vec<Line>, added: Vec<Line>, given: &mut Given) {
+    if lines.reserve(added.len()).is_err() {
+        return given.refuse(MEMORY);
+    }
     for line in added {
         line.put(given);
         given.put(";");
@@ -228,13 +231,28 @@ fn put_joined(lines: &mut Vec<Line>, added: Vec<Line>, given: &mut Given) {
     }
 }
 
-fn joined(formula: &Formula, lines: &[Line], tree: &ProofTree, given: &Given) -> Option<Vec<Line>> {
+/// The lines that join an accepted tree, or what is wrong.
+fn joined(
+    formula: &Formula,
+    lines: &[Line],
+    tree: &ProofTree,
+    given: &mut Given,
+) -> Option<Vec<Line>> {
     let alloc = given.alloc;
     match check_all(alloc, formula, lines) {
         Ok(()) => match check_tree(alloc, formula, lines, tree) {
-            Ok(()) => joining_lines(alloc, formula, lines, tree).ok(),
-            Err(_fault) => None,
+            Ok(()) => {
+                let made = joining_lines(alloc, formula, lines, tree).ok();
+                given.known(made, MEMORY)
+            }
+            Err(fault) => {
+                given.show(fault);
+                None
+            }
         },
-        Err(_fault) => None,
+        Err(fault) => {
+            given.show(fault);
+            None
+        }
     }
 }
