@@ -247,9 +247,22 @@ class Fuzzer:
                 self.find(f'answered: {answer[1]}\nall runs: {"some" if stuck else "none"} ends stuck')
         return None
 
+    def try_several(self):
+        """decide of two programs tells of each what it tells of one, and ends as the graver of the two."""
+        put(self.room, 'other', 'ranks 1\npolicy any\nrank 0\nrecv 0 0\n')
+        own, other = self.call(['decide', 'program']), self.call(['decide', 'other'])
+        both = self.call(['decide', 'program', 'other', 'program'])
+        rows = b'program program: ' + own[2], b'program other: ' + other[2]
+        if both[0] != 1 or both[2] != rows[0] + rows[1] + rows[0]:
+            self.find('several programs are told otherwise than one by one')
+        twice = self.call(['decide', 'program', 'program'])
+        if twice[0] != own[0] or twice[2] != 2 * rows[0]:
+            self.find('a program is told otherwise beside itself')
+
     def try_decision(self, source, proved):
         """decide tells the judge's fault, or what prove does; of a deadlock check accepts the schedule. A race names a call."""
         put(self.room, 'schedule', 'none')
+        self.try_several()
         answer = self.call(['decide', 'program', '--out', 'schedule'])
         try:
             judge.read_program(source, judge.LONG)

@@ -151,6 +151,9 @@ def rows(trims):
     yield Row(1, ['decide', 'exchange.mpi'])
     yield Row(1, ['decide', 'wide.mpi', '--progress', *out])
     yield Row(5, ['decide', 'missing.mpi', *out])
+    for more in ([], ['--json']):
+        yield Row(1, ['decide', 'buffering-lets-it-hang.mpi', 'exchange.mpi', 'barrier.mpi', *more])
+    yield Row(5, ['decide', 'gather.mpi', 'missing.mpi'])
     yield Row(0, ['--help'])
     yield Row(6, ['prove'])
 
@@ -321,9 +324,14 @@ def try_pieces(trial, _):
     trial.note('pieces', ['check', '--pieces', '1', '4', '16', '64'], got, f'threads: {counts}', counts == sorted(set(counts)))
 
 
+# What may stand below the line that tells which file failed.
+WHY = {b'no such file or folder\n', b"its rights don't allow it\n", b'it is a folder\n', b'a part of its path is no folder\n',
+       b'its file system takes no change\n', b'the disk is full\n'}
+
+
 def fault_told(row, got):
-    """What was told on standard error behind the progress, where that was asked for."""
-    lines = got.told.splitlines(True)
+    """What was told on standard error behind the progress, where that was asked for, and without why a file failed."""
+    lines = [line for line in got.told.splitlines(True) if line not in WHY]
     return b''.join(line for line in lines if '--progress' not in row.words or not line.startswith(b'progress'))
 
 

@@ -44,6 +44,10 @@ json_rule = flag_rule (codes "json")
 abbrev pub program_rule : Rule
 program_rule = file_rule (codes "PROGRAM")
 
+-- the files PROGRAM, one or more, also with options between them
+abbrev pub programs_rule : Rule
+programs_rule = record program_rule { action = Some Append; range = Some (record { start_inclusive = 1; end_inclusive = 18446744073709551615 }) }
+
 -- the file EVIDENCE
 abbrev pub evidence_rule : Rule
 evidence_rule = file_rule (codes "EVIDENCE")
@@ -141,7 +145,7 @@ decide_app =
     (with_rule
     (with_rule
     (with_rule
-    (with_rule (new_app (codes "decide")) program_rule)
+    (with_rule (new_app (codes "decide")) programs_rule)
     out_rule)
     (flag_rule (codes "progress")))
     json_rule)

@@ -22,8 +22,10 @@ use Rattle.command_line.specs.declared.request.Request.TheVariants as ask
 -- any length by one run, with the file for the schedule of a deadlock, where one is named, whether
 -- the progress is told, and whether the answer is a JSON object; to unroll an SPMD text for so
 -- many ranks with these settings, and what is said of how collective calls wait, with the files for
--- the program and for its map, where they are named; and to decide, or to explain, what an SPMD text is unrolled to for the numbers of ranks that
--- a text tells, where one is given, with these settings and all else that goes with the command.
+-- the program and for its map, where they are named; to decide, or to explain, what an SPMD text is
+-- unrolled to for the numbers of ranks that a text tells, where one is given, with these settings and
+-- all else that goes with the command; and to decide several programs, with or without words that
+-- don't go with that, and with the answers as JSON objects or not.
 pub data Task : Type 0 where
   to_prove : Text → Option Text → ℕ → ℕ → ℕ → Bool → Bool → Task
   to_check : Text → Text → ℕ → Bool → Task
@@ -36,6 +38,7 @@ pub data Task : Type 0 where
   to_decide : Text → Option Text → Bool → Bool → Task
   to_unroll : Text → ℕ → List Text → Option Text → Option Text → Option Text → Task
   to_decide_unrolled : Text → Option Text → List Text → Option Text → Option Text → Bool → Bool → Task
+  to_decide_each : List Text → Bool → Bool → Task
   to_explain_unrolled : Text → Option Text → List Text → Option Text → Option Text → ℕ → ℕ → ℕ → Form → Option Text → Task
 
 -- the path of a file that may be named
@@ -58,6 +61,7 @@ task_of (ask.Unroll r) =
     to_unroll r.program.now r.ranks (map (λ s. s.now) r.settings.items) (path_of r.collectives) (path_of r.out) (path_of r.map)
 task_of (ask.DecideUnrolled r) =
     to_decide_unrolled r.program.now (path_of r.ranks) (map (λ s. s.now) r.settings.items) (path_of r.collectives) (path_of r.out) r.progress r.json
+task_of (ask.DecideEach r) = to_decide_each (map (λ p. p.now) r.programs.items) r.beside r.json
 task_of (ask.ExplainUnrolled r) =
     to_explain_unrolled r.program.now (path_of r.ranks) (map (λ s. s.now) r.settings.items) (path_of r.collectives) (path_of r.evidence)
     r.options.workers r.options.depth r.options.budget r.form (path_of r.map)
@@ -75,6 +79,7 @@ command_of (to_shrink program out) = codes "shrink"
 command_of (to_decide program out progress json) = codes "decide"
 command_of (to_unroll program ranks settings collectives out map) = codes "unroll"
 command_of (to_decide_unrolled program ranks settings collectives out progress json) = codes "decide"
+command_of (to_decide_each programs beside json) = codes "decide"
 command_of (to_explain_unrolled program ranks settings collectives evidence workers depth budget form map) = codes "explain"
 
 -- ---- what the words after a command give
@@ -131,6 +136,22 @@ abbrev pub is_spmd_asked : List Row → Bool
 is_spmd_asked rows =
     is_some (first_of (codes "ranks") rows) || (some_setting (settings_in rows) || is_some (first_of (codes "collectives") rows))
 
+-- the programs that are named
+abbrev pub programs_in : List Row → List Text
+programs_in rows = texts_in (all_of (codes "PROGRAM") rows)
+
+abbrev pub has_two : List Text → Bool
+has_two (one ∷ (other ∷ others)) = true
+has_two _ = false
+
+-- several programs are named
+abbrev pub is_several : List Row → Bool
+is_several rows = has_two (programs_in rows)
+
+-- words stand there that don't go with several programs
+abbrev pub is_beside_several : List Row → Bool
+is_beside_several rows = is_spmd_asked rows || (is_some (first_of (codes "out") rows) || is_true (one_of (codes "progress") rows))
+
 -- the values of a task are those of its command's arguments
 abbrev pub HasValues : List Row → Task → Type 0
 HasValues rows (to_prove program out workers depth budget progress json) =
@@ -152,14 +173,16 @@ HasValues rows (to_trim evidence out json) =
 HasValues rows (to_shrink program out) = Gives rows (codes "PROGRAM") program × (first_of (codes "out") rows ≡ out)
 HasValues rows (to_decide program out progress json) =
     Gives rows (codes "PROGRAM") program × (first_of (codes "out") rows ≡ out)
-    × Flags rows (codes "progress") progress × Flags rows (codes "json") json × (is_spmd_asked rows ≡ false)
+    × Flags rows (codes "progress") progress × Flags rows (codes "json") json × (is_spmd_asked rows ≡ false) × (is_several rows ≡ false)
 HasValues rows (to_unroll program ranks settings collectives out map) =
     Gives rows (codes "PROGRAM") program × Reads rows (codes "ranks") ranks × (settings_in rows ≡ settings) × (first_of (codes "collectives") rows ≡ collectives)
     × (first_of (codes "out") rows ≡ out) × (first_of (codes "map") rows ≡ map)
 HasValues rows (to_decide_unrolled program ranks settings collectives out progress json) =
     Gives rows (codes "PROGRAM") program × (first_of (codes "ranks") rows ≡ ranks) × (settings_in rows ≡ settings) × (first_of (codes "collectives") rows ≡ collectives)
     × (first_of (codes "out") rows ≡ out) × Flags rows (codes "progress") progress × Flags rows (codes "json") json
-    × (is_spmd_asked rows ≡ true)
+    × (is_spmd_asked rows ≡ true) × (is_several rows ≡ false)
+HasValues rows (to_decide_each programs beside json) =
+    (programs_in rows ≡ programs) × (beside ≡ is_beside_several rows) × Flags rows (codes "json") json × (is_several rows ≡ true)
 HasValues rows (to_explain_unrolled program ranks settings collectives evidence workers depth budget form map) =
     Gives rows (codes "PROGRAM") program × (first_of (codes "ranks") rows ≡ ranks) × (settings_in rows ≡ settings) × (first_of (codes "collectives") rows ≡ collectives)
     × (first_of (codes "EVIDENCE") rows ≡ evidence) × Reads rows (codes "workers") workers × Reads rows (codes "depth") depth

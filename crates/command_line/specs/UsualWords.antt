@@ -5,7 +5,7 @@ use Rattle.clap.specs.Words.{Text}
 use Rattle.settings.specs.Ranges.{IsPieces}
 use Rattle.settings.specs.declared.form.Form.{Form}
 use Rattle.settings.specs.declared.form.Form.TheVariants.{Brief, Whole, Graph, Chart, Picture, Page, Object}
-use Rattle.command_line.specs.Requests.{AskFor, Task, number_of, to_check, to_decide, to_decide_unrolled, to_encode, to_explain, to_explain_unrolled, to_export, to_prove, to_replay, to_shrink, to_trim, to_unroll}
+use Rattle.command_line.specs.Requests.{AskFor, Task, number_of, to_check, to_decide, to_decide_each, to_decide_unrolled, to_encode, to_explain, to_explain_unrolled, to_export, to_prove, to_replay, to_shrink, to_trim, to_unroll}
 
 -- the text's first byte is a hyphen
 abbrev pub begins_with_hyphen : Text → Bool
@@ -70,6 +70,8 @@ pub data PlainForm : List Text → Task → Type 0 where
       → PlainForm (name ∷ codes "decide" ∷ p ∷ codes "--json" ∷ []) (to_decide p None false true)
   decide_out_form : (name p file : Text) → IsFree p → IsFree file
       → PlainForm (name ∷ codes "decide" ∷ p ∷ codes "--out" ∷ file ∷ []) (to_decide p (Some file) false false)
+  decide_both_form : (name p q : Text) → IsFree p → IsFree q
+      → PlainForm (name ∷ codes "decide" ∷ p ∷ q ∷ []) (to_decide_each (p ∷ q ∷ []) false false)
   decide_ranks_form : (name p ranks : Text) → IsFree p → IsFree ranks
       → PlainForm (name ∷ codes "decide" ∷ p ∷ codes "--ranks" ∷ ranks ∷ []) (to_decide_unrolled p (Some ranks) [] None None false false)
   decide_ranks_set_form : (name p ranks setting : Text) → IsFree p → IsFree ranks → IsFree setting

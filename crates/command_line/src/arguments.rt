@@ -1,7 +1,7 @@
 //! The arguments of the commands.
 
 ghost use Rattle.std.specs.Prelude.{codes};
-ghost use Rattle.command_line.specs.CommandLine.{IsRuled, collectives_rule, evidence_rule, file_option_rule, file_rule, flag_rule, map_rule, number_rule, number_with, option_rule, optional_evidence_rule, out_rule, program_rule, proof_rule, ranks_rule, set_rule, several_ranks_rule};
+ghost use Rattle.command_line.specs.CommandLine.{IsRuled, collectives_rule, evidence_rule, file_option_rule, file_rule, flag_rule, map_rule, number_rule, number_with, option_rule, optional_evidence_rule, out_rule, program_rule, programs_rule, proof_rule, ranks_rule, set_rule, several_ranks_rule};
 
 use clap::builder::ValueParser;
 use clap::{Arg, ArgAction, value_parser};
@@ -51,6 +51,18 @@ pub fn program<'a>(alloc: Global) -> Arg<'a>
     ensures { IsRuled result program_rule }
 {
     file(alloc, PROGRAM, "The file with the program text")
+}
+
+pub fn programs<'a>(alloc: Global) -> Arg<'a>
+    ensures { IsRuled result programs_rule }
+{
+    file(
+        alloc,
+        PROGRAM,
+        "The file with the program text; of several each is decided, and the status is the gravest",
+    )
+    .num_args(1..)
+    .action(ArgAction::Append)
 }
 
 pub fn spmd<'a>(alloc: Global) -> Arg<'a>

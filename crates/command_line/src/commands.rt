@@ -6,8 +6,8 @@ ghost use Rattle.command_line.specs.CommandLine.{IsRuled, IsShaped, check_app, c
 
 use crate::arguments::{
     all, budget, chart, collectives, depth, dimacs, dot, evidence, html, json, lines, map, object,
-    optional_evidence, out, pieces, program, progress, proof, ranks, schedule, set, several_ranks,
-    smaller, spmd, stages, svg, trimmed, unrolled, workers, written_map,
+    optional_evidence, out, pieces, program, programs, progress, proof, ranks, schedule, set,
+    several_ranks, smaller, spmd, stages, svg, trimmed, unrolled, workers, written_map,
 };
 use crate::help_ends::{
     CHECK_END, DECIDE_END, ENCODE_END, EXPLAIN_END, EXPORT_END, HELP_END, PROVE_END, REPLAY_END,
@@ -219,7 +219,7 @@ fn decide_command<'a>(alloc: Global) -> Result<Command<'a>, AllocError>
         "Decides by one run whether some run of a program of any length gets stuck",
         DECIDE_END,
     );
-    let command = with(Ok(command), program(alloc));
+    let command = with(Ok(command), programs(alloc));
     let command = with(command, schedule(alloc));
     let command = with(command, stages(alloc));
     let command = with(command, json(alloc));

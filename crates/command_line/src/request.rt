@@ -1,9 +1,9 @@
 //! What the words of a command line ask for.
 
-ghost use Rattle.std.specs.Prelude.{◌≡◌, ◌⊎◌, IfErr, IfOk, IfSome, List, codes, map, string_bytes};
-ghost use Rattle.clap.specs.Words.{IsAmong, Row, all_of, fault_of, first_of, found_of, kind_of, rows_of, subcommand_rows_of};
+ghost use Rattle.std.specs.Prelude.{◌≡◌, ◌⊎◌, ◌||◌, IfErr, IfOk, IfSome, List, codes, false, is_some, map, string_bytes, true};
+ghost use Rattle.clap.specs.Words.{IsAmong, Row, all_of, fault_of, first_of, found_of, kind_of, one_of, rows_of, subcommand_rows_of};
 ghost use Rattle.command_line.specs.CommandLine.{command_line};
-ghost use Rattle.command_line.specs.Requests.{AskFor, Flags, Makes, MakesSome, Reads, form_in, is_spmd_asked, path_of, settings_in, task_of, texts_in};
+ghost use Rattle.command_line.specs.Requests.{AskFor, Flags, Makes, MakesSome, Reads, form_in, is_beside_several, is_several, is_spmd_asked, is_true, path_of, settings_in, task_of, texts_in};
 
 use crate::arguments::{
     ALL, BUDGET, CHART, COLLECTIVES, DEPTH, DIMACS, DOT, EVIDENCE, HTML, JSON, LINES, MAP, OUT,
@@ -14,6 +14,7 @@ use clap::error::ErrorKind;
 use clap::{ArgMatches, Error};
 use settings::{Form, Options, Pieces};
 use std::alloc::{AllocError, Global};
+use std::mem;
 
 /// To search for an answer, tell meanwhile how far the search is or not, and write its evidence to
 /// the file `out`.
@@ -122,6 +123,14 @@ pub struct ToDecideUnrolled<'a> {
     pub json: bool,
 }
 
+/// To decide several programs. `beside` tells whether words stand there that don't go with that.
+#[derive(Drop)]
+pub struct ToDecideEach<'a> {
+    pub programs: Vec<&'a str>,
+    pub beside: bool,
+    pub json: bool,
+}
+
 /// To explain what an SPMD text is unrolled to, for the number of ranks that the text `ranks` tells,
 /// in this form, with the places of its own lines. Each setting is written NAME=VALUE;
 /// collective calls wait as `collectives` says. `evidence` and `map` don't go with it.
@@ -151,6 +160,7 @@ pub enum Request<'a> {
     Decide(ToDecide<'a>),
     Unroll(ToUnroll<'a>),
     DecideUnrolled(ToDecideUnrolled<'a>),
+    DecideEach(ToDecideEach<'a>),
     ExplainUnrolled(ToExplainUnrolled<'a>),
 }
 
@@ -333,6 +343,67 @@ fn shrink_request<'a>(matches: &ArgMatches<'a>) -> Option<Request<'a>>
 
 /// The request of the matches of `decide`.
 fn decide_request<'a>(alloc: Global, matches: &ArgMatches<'a>) -> Option<Request<'a>>
+    ensures { IfSome result (λ request.
+        Makes (codes "decide") (rows_of (found_of matches.now)) (task_of request)) }
+{
+    if is_several(matches) {
+        return decide_each_request(alloc, matches);
+    }
+    decide_one_request(alloc, matches)
+}
+
+/// Whether several programs are named.
+fn is_several(matches: &ArgMatches<'_>) -> bool
+    ensures { result ≡ is_several (rows_of (found_of matches.now)) }
+{
+    match matches.get_strs(PROGRAM) {
+        None => false,
+        Some(programs) => programs.len() > 1,
+    }
+}
+
+/// The request of the matches of `decide` with several programs.
+fn decide_each_request<'a>(alloc: Global, matches: &ArgMatches<'a>) -> Option<Request<'a>>
+    requires { is_several (rows_of (found_of matches.now)) ≡ true }
+    ensures { IfSome result (λ request.
+        Makes (codes "decide") (rows_of (found_of matches.now)) (task_of request)) }
+{
+    let programs = texts_of(alloc, matches, PROGRAM)?;
+    let settings = texts_of(alloc, matches, SET)?;
+    let beside = is_beside_several(matches, &settings);
+    mem::drop(settings);
+    Some(Request::DecideEach(ToDecideEach {
+        programs,
+        beside,
+        json: is_set(matches, JSON),
+    }))
+}
+
+/// Whether words stand there that don't go with several programs.
+fn is_beside_several(matches: &ArgMatches<'_>, settings: &[&str]) -> bool
+    requires { map (λ s. s.now) settings.now ≡ settings_in (rows_of (found_of matches.now)) }
+    ensures { result ≡ is_beside_several (rows_of (found_of matches.now)) }
+{
+    if is_spmd_asked(
+        matches.get_str(RANKS),
+        settings,
+        matches.get_str(COLLECTIVES),
+    ) {
+        return true;
+    }
+    is_run_told(matches)
+}
+
+/// Whether the schedule is to be written, or the progress told.
+fn is_run_told(matches: &ArgMatches<'_>) -> bool
+    ensures { result ≡ is_some (first_of (codes "out") (rows_of (found_of matches.now))) || is_true (one_of (codes "progress") (rows_of (found_of matches.now))) }
+{
+    matches.get_str(OUT).is_some() || is_set(matches, PROGRESS)
+}
+
+/// The request of the matches of `decide` with one program.
+fn decide_one_request<'a>(alloc: Global, matches: &ArgMatches<'a>) -> Option<Request<'a>>
+    requires { is_several (rows_of (found_of matches.now)) ≡ false }
     ensures { IfSome result (λ request.
         Makes (codes "decide") (rows_of (found_of matches.now)) (task_of request)) }
 {

@@ -4,11 +4,13 @@ use crate::evidences::{put_evidence, put_step};
 use crate::forms::{object_text, plain_text};
 use crate::lines::lines_of;
 use crate::requests::put_resolve;
+use crate::sizes::{Size, size_words};
 use crate::syntax::put_syntax;
 use crate::told::{File, Help};
 use callorder::ResolveFault;
 use calltext::{Limits, ReadFault};
 use checker::Reason;
+use encode::EncodeFault;
 use semantics::End;
 use spmd_text::is_spmd;
 use std::alloc::{AllocError, Global};
@@ -65,8 +67,6 @@ fn put_shape(
 /// What is told of a reason that names no line.
 fn reason_words(reason: Reason) -> &'static str {
     match reason {
-        Reason::Pairs(_fault) => TOO_LARGE,
-        Reason::Encode(_fault) => TOO_LARGE,
         Reason::Counts => "the evidence is for another program\n",
         Reason::Line(_found) => CHANGED,
         Reason::Tree(_fault) => CHANGED,
@@ -81,6 +81,21 @@ const TOO_LARGE: &str = "the program is too large: fewer ranks, calls or rounds 
 
 const CHANGED: &str =
     "it isn't as prove writes it: is it for another program, or was it changed?\n";
+
+/// Tells how large a program is that is too large, where that is counted.
+fn put_large(
+    help: &mut Help,
+    alloc: Global,
+    program: &[u8],
+    size: Option<Size>,
+) -> Result<(), AllocError> {
+    if let Some(size) = size
+        && let Some(words) = size_words(alloc, program, size)?
+    {
+        write!(help.notes, "{words}\n")?;
+    }
+    help.notes.push_str(TOO_LARGE)
+}
 
 /// Tells what helps where a text is refused for this reason.
 fn put_help(
@@ -97,6 +112,11 @@ fn put_help(
         }
         Reason::Evidence(fault) => put_evidence(help, alloc, evidence, fault),
         Reason::Replay { at } => put_step(help, alloc, evidence, at),
+        Reason::Pairs(_fault) => put_large(help, alloc, program, Some(Size::Pairs)),
+        Reason::Encode(EncodeFault::TooManyEvents) => {
+            put_large(help, alloc, program, Some(Size::Events))
+        }
+        Reason::Encode(_fault) => put_large(help, alloc, program, None),
         _ => help.notes.push_str(reason_words(reason)),
     }
 }

@@ -10,6 +10,7 @@ mod helping;
 mod lines;
 mod requests;
 mod shapes;
+mod sizes;
 mod spelling;
 mod syntax;
 mod told;

@@ -2,6 +2,7 @@
 
 use crate::lines::{bytes_at, lines_of};
 use crate::shapes::{Slot, shape_of, slot_of};
+use crate::sizes::{Size, size_words};
 use crate::syntax::ranks_of;
 use crate::told::{File, Help};
 use callorder::CallFault;
@@ -118,5 +119,12 @@ pub fn put_resolve(
     let number = line_number(&lines, rank, place);
     help.show_call(alloc, &lines, number, rank)?;
     let words = words_of(alloc, bytes_at(&lines, number))?;
-    put_fault(help, &lines, &words, fault)
+    put_fault(help, &lines, &words, fault)?;
+    if fault != CallFault::TooManyCalls {
+        return Ok(());
+    }
+    match size_words(alloc, program, Size::Calls)? {
+        None => Ok(()),
+        Some(size) => write!(help.notes, "{size}\n"),
+    }
 }

@@ -4,7 +4,7 @@ use Rattle.clap.specs.Words.{Text}
 use Rattle.clap.specs.declared.error.kind.ErrorKind.{ErrorKind}
 use Rattle.formulas.specs.Numbering.{formula_of}
 use Rattle.command_line.specs.CommandLine.{version_line}
-use Rattle.command_line.specs.Requests.{AskFor, Task, to_check, to_decide, to_decide_unrolled, to_encode, to_explain, to_explain_unrolled, to_export, to_prove, to_replay, to_shrink, to_trim, to_unroll}
+use Rattle.command_line.specs.Requests.{AskFor, Task, to_check, to_decide, to_decide_each, to_decide_unrolled, to_encode, to_explain, to_explain_unrolled, to_export, to_prove, to_replay, to_shrink, to_trim, to_unroll}
 use Rattle.session.specs.AnyLaws.{IsRightlyTold, ToldDeadlockIsShown}
 use Rattle.session.specs.Asking.{TellsDeadlock}
 use Rattle.session.specs.Endings.{EndsUnasked, Explains, TaskEnds}
@@ -12,6 +12,7 @@ use Rattle.session.specs.Explaining.{IsDecidedFirst, IsExplained}
 use Rattle.session.specs.Lines.{early_line}
 use Rattle.session.specs.Pages.{IsEncoded}
 use Rattle.session.specs.Runs.{SessionRun}
+use Rattle.session.specs.Sweeping.{beside_several}
 use Rattle.session.specs.Unrolling.{no_way}
 use Rattle.session.specs.declared.told.Told.TheVariants as told
 use Rattle.session.proofs.DeadlockLines.{PageTells, deadlock_page, deadlock_printed, dimacs_untold, formula_untold, help_untold, line_tells, version_untold}
@@ -22,7 +23,7 @@ use Rattle.session.proofs.DecidedPages.{decided_hangs}
 use Rattle.session.proofs.RunLaws.{complaint_untold}
 use Rattle.session.proofs.FileLaws.{shrunk_hangs, trimmed_untold}
 use Rattle.session.proofs.SweepLaws.{rises}
-use Rattle.session.proofs.SweptPages.{explained_hangs, swept_hangs}
+use Rattle.session.proofs.SweptPages.{each_hangs, explained_hangs, swept_hangs}
 use Rattle.session.proofs.UnrolledPages.{unrolled_untold}
 
 -- the page of `encode` tells no deadlock
@@ -123,7 +124,7 @@ asked_told run (to_decide_unrolled p ranks settings way out progress as_json) as
     absurd (complaint_untold run told 6 (λ one. omega (arith, one)) complains says)
 asked_told run (to_decide_unrolled p ranks settings way out progress as_json) asks (same, inr (barriers, is, inr (first, last, ranked, ends))) says =
     let page = deadlock_page ends says in
-    inr (inr (inr (inr (
+    inr (inr (inr (inr (inr (
       p,
       ranked.text,
       settings,
@@ -137,14 +138,14 @@ asked_told run (to_decide_unrolled p ranks settings way out progress as_json) as
             record { first = first; last = last; is_range = ranked.is_range; above = hangs.above; below = hangs.below },
             hangs.hangs,
           ),
-    ))))
+    )))))
 asked_told run (to_explain_unrolled p ranks settings way evidence workers depth budget form map) asks (same, inl (none, complains)) says =
     absurd (complaint_untold run no_way 6 (λ one. omega (arith, one)) complains says)
 asked_told run (to_explain_unrolled p ranks settings way evidence workers depth budget form map) asks (same, inr (barriers, is, inl (told, why, complains))) says =
     absurd (complaint_untold run told 6 (λ one. omega (arith, one)) complains says)
 asked_told run (to_explain_unrolled p ranks settings way evidence workers depth budget form map) asks (same, inr (barriers, is, inr (first, last, ranked, ends))) says =
     let page = deadlock_page ends says in
-    inr (inr (inr (inr (
+    inr (inr (inr (inr (inr (
       p,
       ranked.text,
       settings,
@@ -165,7 +166,13 @@ asked_told run (to_explain_unrolled p ranks settings way evidence workers depth 
         record { first = first; last = last; is_range = ranked.is_range; above = omega arith; below = rises ranked.text first last ranked.is_range },
         explained_hangs (run.before p) p source settings barriers budget form first page.0 page.1 page.2 page.3 held,
       ),
-    ))))
+    )))))
+asked_told run (to_decide_each programs beside as_json) asks (same, inl (stands, complains)) says =
+    absurd (complaint_untold run beside_several 6 (λ one. omega (arith, one)) complains says)
+asked_told run (to_decide_each programs beside as_json) asks (same, inr (alone, ends)) says =
+    let page = deadlock_page ends says in
+    let hangs = each_hangs run.before programs as_json page.0 page.1 page.2 page.3 in
+    inr (inr (inr (inr (inl (programs, beside, as_json, asks, (hangs.path, hangs.named, hangs.hangs))))))
 
 explained_untold : (run : SessionRun) (kind : ErrorKind) → Explains run kind → TellsDeadlock run → ⊥
 explained_untold run kind (inl usage) says = complaint_untold run usage.1.0 6 (λ one. omega (arith, one)) usage.1.1 says

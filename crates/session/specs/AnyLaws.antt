@@ -1,12 +1,13 @@
 -- What follows from how any run ended.
 use Rattle.std.specs.Prelude.{◌≡◌, ◌⊎◌, ℕ, Bool, List, Option, Some, None}
+use Rattle.std.specs.List.{Contains}
 use Rattle.clap.specs.Words.{Text}
 use Rattle.calltext.specs.Limits.{long}
 use Rattle.semantics.specs.Headline.{IsStuckRunWithin}
 use Rattle.semantics.specs.declared.state.Step.{Step}
 use Rattle.settings.specs.declared.form.Form.{Form}
 use Rattle.checker.specs.Verdicts.{Shows}
-use Rattle.command_line.specs.Requests.{AskFor, Task, to_decide, to_export, to_shrink}
+use Rattle.command_line.specs.Requests.{AskFor, Task, to_decide, to_decide_each, to_export, to_shrink}
 use Rattle.command_line.specs.UsualWords.{PlainForm}
 use Rattle.session.specs.Asking.{AskToCheck, AskToExplain, AskToExplainBy, AskToProve, AskToReplay, TellsDeadlock}
 use Rattle.session.specs.Endings.{FailsEarly, SessionEnds, TaskEnds}
@@ -36,8 +37,8 @@ AskToRun words p =
     ⊎ ((budget : ℕ) × (form : Form) × AskToExplain words p None budget form)
 
 -- the words ask for a command, and a deadlock is shown of the program whose path they name, or of
--- what the SPMD text there is unrolled to for a number of ranks that they tell, as far as files are
--- told
+-- what the SPMD text there is unrolled to for a number of ranks that they tell, or of one of the
+-- programs that they name, as far as files are told
 abbrev pub IsRightlyTold : List Text → (List ℕ → Option (List ℕ)) → Type 0
 IsRightlyTold words before =
     ((p : Text) × ((out : Option Text) × (budget : ℕ) × (progress : Bool) × (as_json : Bool) × AskToProve words p out budget progress as_json)
@@ -49,9 +50,11 @@ IsRightlyTold words before =
     ⊎ (((p : Text) × (out : Option Text) × AskFor words (to_shrink p out) × ((program : List ℕ) → before p ≡ Some program → Hangs program))
     ⊎ (((p : Text) × AskToRun words p
     × ((program : List ℕ) → before p ≡ Some program → (steps : List Step) × IsStuckRunWithin long program steps))
+    ⊎ (((programs : List Text) × (beside : Bool) × (as_json : Bool) × AskFor words (to_decide_each programs beside as_json)
+    × ((p : Text) × Contains programs p × ((program : List ℕ) → before p ≡ Some program → (steps : List Step) × IsStuckRunWithin long program steps)))
     ⊎ ((p : Text) × (ranks : Text) × (settings : List Text) × (way : Option Text) × AskUnrolled words p ranks settings way
     × ((source : List ℕ) → before p ≡ Some source
-    → (barriers : Bool) × (barriers_in way ≡ Some barriers) × (number : ℕ) × IsAmongRanks ranks number × HangsFor p source settings barriers number)))))
+    → (barriers : Bool) × (barriers_in way ≡ Some barriers) × (number : ℕ) × IsAmongRanks ranks number × HangsFor p source settings barriers number))))))
 
 -- where any run told a deadlock, its words ask to prove, check, replay, explain, export, shrink or
 -- decide, and it is true of the program, and of the evidence, that are named

@@ -1,5 +1,6 @@
 -- What follows from how a run of `decide` or `explain` for an SPMD text ended.
 use Rattle.std.specs.Prelude.{◌≡◌, ◌≤◌, ◌⊎◌, ℕ, Bool, true, List, Option, Some}
+use Rattle.std.specs.List.{Contains}
 use Rattle.clap.specs.Words.{Text}
 use Rattle.calltext.specs.Limits.{long}
 use Rattle.semantics.specs.Headline.{IsNeverStuckWithin, IsStuckRunWithin}
@@ -7,7 +8,7 @@ use Rattle.semantics.specs.declared.state.Step.{Step}
 use Rattle.settings.specs.declared.form.Form.{Form}
 use Rattle.spmd_program.specs.Ranges.{IsRange}
 use Rattle.spmd_program.specs.Unrolling.{IsUnrolling}
-use Rattle.command_line.specs.Requests.{AskFor, to_decide_unrolled, to_explain_unrolled}
+use Rattle.command_line.specs.Requests.{AskFor, to_decide_each, to_decide_unrolled, to_explain_unrolled}
 use Rattle.session.specs.Endings.{SessionEnds}
 use Rattle.session.specs.Runs.{SessionRun}
 use Rattle.session.specs.Unrolling.{barriers_in}
@@ -53,3 +54,13 @@ pub record UnrolledRunsAreRight : Type 0 where
   pub stuck : (run : SessionRun) (p ranks : Text) (settings : List Text) (way : Option Text) (source : List ℕ) → SessionEnds run → AskUnrolled run.words p ranks settings way
       → run.before p ≡ Some source → run.status ≡ 1
       → (barriers : Bool) × (barriers_in way ≡ Some barriers) × (number : ℕ) × IsAmongRanks ranks number × HangsFor p source settings barriers number
+
+-- A run of `decide` for several programs with the status 0: none of these programs has a run that
+-- gets stuck, as far as files are told. One with the status 1: one of them has.
+pub record EachRunIsRight : Type 0 where
+  pub safe : (run : SessionRun) (programs : List Text) (beside as_json : Bool) (path : Text) (program : List ℕ) → SessionEnds run
+      → AskFor run.words (to_decide_each programs beside as_json) → run.status ≡ 0 → Contains programs path → run.before path ≡ Some program
+      → IsNeverStuckWithin long program
+  pub stuck : (run : SessionRun) (programs : List Text) (beside as_json : Bool) → SessionEnds run → AskFor run.words (to_decide_each programs beside as_json)
+      → run.status ≡ 1 → (path : Text) × Contains programs path
+      × ((program : List ℕ) → run.before path ≡ Some program → (steps : List Step) × IsStuckRunWithin long program steps)

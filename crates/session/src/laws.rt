@@ -2,7 +2,7 @@
 ghost use Rattle.session.specs.AnyLaws.{PlainWordsAreAnswered, ToldDeadlockIsShown};
 ghost use Rattle.session.specs.CheckLaws.{CheckedDeadlockIsPrinted, CheckedDeadlockIsShown, CheckedSafetyIsPrinted, CheckedSafetyIsTrue, EncodedFormulaIsPrinted, ReadFilesAreNotBlamed, RefutedIsChecked, ReplayedDeadlockIsShown, ReplayedRunIsPrinted, ShownDeadlockIsChecked, ShownDeadlockIsReplayed};
 ghost use Rattle.session.specs.FileLaws.{ExportedAnswerIsPrinted, ExportedProofIsWritten, ExportedSafetyIsTrue, ShrunkProgramHangs, TrimmedRefutationIsWritten};
-ghost use Rattle.session.specs.SweepLaws.{UnrolledRunsAreRight};
+ghost use Rattle.session.specs.SweepLaws.{EachRunIsRight, UnrolledRunsAreRight};
 ghost use Rattle.session.specs.UnrollLaws.{UnrolledTextIsPrinted};
 ghost use Rattle.session.specs.SearchLaws.{DecidedRunsAreRight, ExplainedDeadlockIsShown, ExplainedSafetyIsTrue, ExplainedUnknownFinishes, ProvedDeadlockIsPrinted, ProvedDeadlockIsShown, ProvedSafetyIsPrinted, ProvedSafetyIsTrue, ProvedUnknownFinishes, WrittenDeadlockIsShown, WrittenSafetyIsRefuted};
 
@@ -177,6 +177,12 @@ pub fn unrolled_text_is_printed()
 /// it ended with the status 1, it has a run that does for one of them.
 pub fn unrolled_runs_are_right()
     ensures { UnrolledRunsAreRight }
+{}
+
+/// Where words ask to decide several programs, and the run ended with the status 0, none of them has
+/// a run that gets stuck; and where it ended with the status 1, one of them has.
+pub fn each_run_is_right()
+    ensures { EachRunIsRight }
 {}
 
 /// Where any run printed the line of a deadlock or ended with the status 1, its words ask to prove,

@@ -19,7 +19,7 @@ mod unrolled;
 
 pub use laws::{
     checked_deadlock_is_printed, checked_deadlock_is_shown, checked_safety_is_printed,
-    checked_safety_is_true, decided_runs_are_right, encoded_formula_is_printed,
+    checked_safety_is_true, decided_runs_are_right, each_run_is_right, encoded_formula_is_printed,
     explained_deadlock_is_shown, explained_safety_is_true, explained_unknown_finishes,
     exported_answer_is_printed, exported_proof_is_written, exported_safety_is_true,
     plain_words_are_answered, proved_deadlock_is_printed, proved_deadlock_is_shown,

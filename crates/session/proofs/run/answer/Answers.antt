@@ -32,6 +32,9 @@ returns-in-Unroll g c = λ words. rw c.in-Unroll.is (c.unroll.ensures words c.ar
 pub returns-in-DecideUnrolled : goal.returns-in-DecideUnrolled
 returns-in-DecideUnrolled g c = λ words. rw c.in-DecideUnrolled.is (c.decide_unrolled.ensures words c.args.is_terminal)
 
+pub returns-in-DecideEach : goal.returns-in-DecideEach
+returns-in-DecideEach g c = λ words. rw c.in-DecideEach.is (c.decide_each.ensures words c.args.is_terminal)
+
 pub returns-in-ExplainUnrolled : goal.returns-in-ExplainUnrolled
 returns-in-ExplainUnrolled g c = λ words. rw c.in-ExplainUnrolled.is (c.explain_unrolled.ensures words c.args.is_terminal)
 

@@ -1,0 +1,5 @@
+use Rattle.session.proofs.SweepLaws.{each_run}
+use Rattle.session.proofs.laws.each_run_is_right.Goals as goal
+
+pub returns : goal.returns
+returns c = each_run
