@@ -2,8 +2,9 @@
 
 Run by tests/refusals library [--most N] [--seed N] [FILE..]: FILE is the name of a file of calls
 (pools, trees, ..; crates/test_scripts/args has all). The program of crates/test_scripts makes each
-call that lacks memory once more. So in a run in which one allocation is refused each row still has
-to hold; and a run in which that one and all later ones are may only tell that memory lacks.
+call that lacks memory once more. So in a run in which one allocation is refused all rows still have
+to hold, those aside that stand behind a search which lacked memory and can't go on; and a run in
+which that one and all later ones are may only tell that memory lacks.
 """
 import argparse
 import os
@@ -21,9 +22,11 @@ SECONDS = 60
 SHOWN = 3
 CRATE = os.path.join(ROOT, 'crates', 'test_scripts')
 
+# Files with searches.
+SEARCHES = ('solvers', 'states')
+SOME_HELD = re.compile(rb'([1-9][0-9]* rows hold\n)?')
 # Memory lacked while a file was read, which only standard error says.
 UNREAD = b'error: '
-HELD = re.compile(rb'([1-9][0-9]* rows hold\n)?')
 # The word memory stands in place of the rows that don't hold, where memory lacked for their text.
 LACKED = re.compile(rb"(memory|(.*\n)*?)[1-9][0-9]* rows don't hold\n|([1-9][0-9]* rows hold\n)?")
 
@@ -46,6 +49,19 @@ class Library:
         self.program, self.folder, self.chance, self.most = program, folder, chance, most
         self.shim = built_shim(folder)
         self.runs, self.wrong = 0, 0
+        self.held = {}
+
+    def have_held(self, file, printed):
+        """Whether the rows have held that have to, where one allocation was refused."""
+        return SOME_HELD.fullmatch(printed) if file in SEARCHES else printed == self.rows_held(file)
+
+    def rows_held(self, file):
+        """What is printed of the file where nothing is refused."""
+        if file not in self.held:
+            status, self.held[file], told = run(self.program, [f'{file}.calls'], os.path.join(CRATE, 'data'), SECONDS)
+            if status != 0 or told != b'':
+                sys.exit(f'{file}: ended with {status} with nothing refused')
+        return self.held[file]
 
     def was_refused(self, file, place, how):
         """Makes a run, judges it, and answers whether an allocation was refused."""
@@ -57,7 +73,7 @@ class Library:
         self.runs += 1
         was_refused = os.path.exists(refused)
         if how == 'alone':
-            right = status == 0 and told == b'' and HELD.fullmatch(printed)
+            right = status == 0 and told == b'' and self.have_held(file, printed)
         else:
             right = status in (0, 1) and told == b'' and LACKED.fullmatch(printed)
         if not right and not (was_refused and status == 1 and told.startswith(UNREAD)):

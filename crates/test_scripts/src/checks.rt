@@ -69,6 +69,9 @@ fn answer<R: Threads + Sync>(
 /// Takes in lines, unchecked.
 fn take_in(lines: &mut Vec<Line>, words: &str, given: &mut Given) {
     let mut more = all::<Line>(words, ';', given);
+    if given.is_refused() {
+        return;
+    }
     tell(&lines.append(&mut more), given);
 }
 
@@ -129,6 +132,7 @@ fn checked_in_turn(formula: &Formula, words: &str, given: &mut Given) {
             given.put(", ");
             put_in_turn(&mut known, formula, second, first, given);
         }
+        (Err(_error), _) => given.refuse(MEMORY),
         _ => given.refuse("not made: no two lines"),
     }
 }

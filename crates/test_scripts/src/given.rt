@@ -72,17 +72,19 @@ impl Given {
         !self.trouble.is_empty()
     }
 
-    /// Says this in place of what is written.
+    /// Says this in place of what is written, unless something was said before.
     pub fn refuse(&mut self, why: &'static str) {
-        self.trouble = why;
-    }
-
-    /// The value, without which the call isn't made.
-    pub fn known<T: Drop>(&mut self, value: Option<T>, why: &'static str) -> Option<T> {
-        if value.is_none() {
+        if self.trouble.is_empty() {
             self.trouble = why;
         }
-        value
+    }
+
+    /// The value, without which the call isn't made; nor is it where something was said before.
+    pub fn known<T: Drop>(&mut self, value: Option<T>, why: &'static str) -> Option<T> {
+        if value.is_none() {
+            self.refuse(why);
+        }
+        if self.is_refused() { None } else { value }
     }
 
     pub fn put(&mut self, text: &str) {

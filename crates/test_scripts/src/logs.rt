@@ -1,6 +1,6 @@
 //! Logs of lines in pages, and lists that are handed out.
-use crate::given::{Given, Show, add};
-use crate::reading::{cut, number};
+use crate::given::{Given, MEMORY, Show, add};
+use crate::reading::{cut, line_made, number};
 use crate::report::Report;
 use crate::scripts::{Section, Subject, judge_calls};
 use pages::{Extended, Lines, Log};
@@ -78,9 +78,9 @@ fn put_from_vec(word: &str, given: &mut Given) {
 fn numbered(first: u32, word: &str, given: &mut Given) -> Vec<Line> {
     let mut lines = Vec::new(given.alloc);
     for place in 0..number(word, given) {
-        match Line::make(given.alloc, &[], &[first.wrapping_add(place)]) {
-            Ok(line) => add(&mut lines, line, given),
-            Err(_fault) => given.refuse("not made: no line"),
+        let made = Line::make(given.alloc, &[], &[first.wrapping_add(place)]);
+        if let Some(line) = line_made(made, given) {
+            add(&mut lines, line, given);
         }
     }
     lines
@@ -94,6 +94,9 @@ fn next(log: &Log) -> u32 {
 /// Appends so many lines, numbered on.
 fn append(log: &mut Log, word: &str, given: &mut Given) {
     let lines = numbered(next(log), word, given);
+    if given.is_refused() {
+        return;
+    }
     match log.append(given.alloc, lines) {
         Ok(()) => given.number(log.len()),
         Err(_error) => given.refuse("memory"),
@@ -139,12 +142,14 @@ fn after(log: &Log, word: &str, given: &mut Given) -> Option<Lines> {
     if from > log.len() {
         return given.known(None, "not made: past the end");
     }
-    log.after(given.alloc, from).ok()
+    let lines = log.after(given.alloc, from).ok();
+    given.known(lines, MEMORY)
 }
 
 fn from_vec(word: &str, given: &mut Given) -> Option<Lines> {
     let lines = numbered(1, word, given);
-    Lines::from_vec(given.alloc, lines).ok()
+    let lines = Lines::from_vec(given.alloc, lines).ok();
+    given.known(lines, MEMORY)
 }
 
 fn put_taken(lines: &Option<Lines>, given: &mut Given) {

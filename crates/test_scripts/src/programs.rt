@@ -2,7 +2,7 @@
 ghost use Rattle.std.specs.Prelude.{◌≡◌};
 ghost use Rattle.candidates.specs.Pairs.{pairs_of};
 
-use crate::given::{Given, put_all};
+use crate::given::{Given, MEMORY, put_all};
 use crate::reading::place;
 use crate::report::Report;
 use crate::scripts::{Section, Subject, judge_calls};
@@ -30,6 +30,7 @@ pub fn judge<R: Threads + Sync>(
     if let Some(program) = program_of(section.heading, given) {
         match pairs(given.alloc, &program) {
             Ok(pairs) => judge_pairs(rt, &program, pairs, section, given, report),
+            Err(PairFault::Memory) => given.refuse(MEMORY),
             Err(mut fault) => judge_calls(&mut fault, section.calls, given, report),
         }
     }

@@ -1,9 +1,9 @@
 //! What the words of a script stand for. Where they stand for nothing, the reply says so.
-use crate::given::{Given, add};
+use crate::given::{Given, MEMORY, add};
 use batches::{Batch, BatchLine, Hint};
-use clauses::{Assignment, Clause, Formula, Lit};
+use clauses::{Assignment, Clause, ClauseFault, Formula, Lit};
 use pool::{Event, Why};
-use refutations::{Line, Node, ProofTree};
+use refutations::{Line, MakeLineFault, Node, ProofTree};
 use semantics::Step;
 
 /// What is written as a word, or as a part of a text.
@@ -81,8 +81,11 @@ impl Part for Lit {
 impl Part for Clause {
     fn read(text: &str, given: &mut Given) -> Option<Clause> {
         let literals = all::<Lit>(text, ' ', given);
-        let clause = Clause::make(given.alloc, literals.as_slice()).ok();
-        given.known(clause, "not made: no clause")
+        match Clause::make(given.alloc, literals.as_slice()) {
+            Ok(clause) => given.known(Some(clause), MEMORY),
+            Err(ClauseFault::Memory) => given.known(None, MEMORY),
+            Err(_fault) => given.known(None, "not made: no clause"),
+        }
     }
 }
 
@@ -125,8 +128,17 @@ impl Part for Line {
         let (words, hints) = halves(text, given);
         let literals = all::<Lit>(words, ' ', given);
         let hints = all::<u32>(hints, ' ', given);
-        let line = Line::make(given.alloc, literals.as_slice(), hints.as_slice()).ok();
-        given.known(line, "not made: no line")
+        let made = Line::make(given.alloc, literals.as_slice(), hints.as_slice());
+        line_made(made, given)
+    }
+}
+
+/// The line that was made, without which the call isn't made.
+pub fn line_made(made: Result<Line, MakeLineFault>, given: &mut Given) -> Option<Line> {
+    match made {
+        Ok(line) => given.known(Some(line), MEMORY),
+        Err(MakeLineFault::Memory) => given.known(None, MEMORY),
+        Err(_fault) => given.known(None, "not made: no line"),
     }
 }
 
@@ -208,11 +220,11 @@ pub fn event(name: &str, words: &str, given: &mut Given) -> Option<Event> {
         "publish" => {
             let lines = all::<BatchLine>(words, ';', given);
             let batch = Batch { lines };
-            Some(Event::Publish { worker, batch })
+            given.known(Some(Event::Publish { worker, batch }), MEMORY)
         }
         "found" => {
             let steps = all::<Step>(words, '/', given);
-            Some(Event::Found { worker, steps })
+            given.known(Some(Event::Found { worker, steps }), MEMORY)
         }
         "leave" => {
             let why = why_of(words);

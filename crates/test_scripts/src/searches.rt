@@ -1,15 +1,15 @@
 //! Searches. Each line that a search learns is checked, and none is taken in where one isn't derived.
 use crate::beside::{beside, misled};
 use crate::encodings::encoded;
-use crate::given::{Given, add, put_all, tell};
-use crate::reading::{Part, all, cut_number, formula};
+use crate::given::{Given, MEMORY, add, put_all, tell};
+use crate::reading::{Part, all, cut_number, formula, line_made};
 use crate::report::Report;
 use crate::scripts::{Section, Subject, judge_calls};
 use batches::{Batch, BatchLine, Hint};
 use cdcl::{Found, SolveFault, Solver};
 use clauses::{Assignment, Clause, Formula, Lit};
 use encode::Encoded;
-use refutations::{Line, check_line, clause_at};
+use refutations::{Line, LineFault, check_line, clause_at};
 use statesearch::StateSearch;
 use std::alloc::Global;
 use std::mem;
@@ -204,6 +204,9 @@ fn called(
     let budget = u64::from(budget);
     let cube = all::<Lit>(words, ' ', given);
     let cube = cube.as_slice();
+    if given.is_refused() {
+        return;
+    }
     match name {
         "search" => search_on(formula, searcher, lines, cube, budget, 1, given),
         "search_on" => search_on(formula, searcher, lines, cube, budget, 1_000, given),
@@ -323,7 +326,8 @@ fn line_of(base: u32, found: &BatchLine, given: &mut Given) -> Option<Line> {
     for hint in &found.hints {
         add(&mut hints, number_of(base, hint), given);
     }
-    Line::make(given.alloc, found.clause.literals(), hints.as_slice()).ok()
+    let made = Line::make(given.alloc, found.clause.literals(), hints.as_slice());
+    line_made(made, given)
 }
 
 /// Has each line of the batch checked, and takes it in.
@@ -338,8 +342,10 @@ pub fn accept(formula: &Formula, lines: &mut Vec<Line>, batch: &Batch, given: &m
 }
 
 fn accept_line(formula: &Formula, lines: &mut Vec<Line>, line: Line, given: &mut Given) {
-    if check_line(given.alloc, formula, &lines.as_slice(), &line).is_err() {
-        given.refuse("a line that isn't derived");
+    match check_line(given.alloc, formula, &lines.as_slice(), &line) {
+        Ok(()) => (),
+        Err(LineFault::Memory) => given.refuse(MEMORY),
+        Err(_fault) => given.refuse("a line that isn't derived"),
     }
     add(lines, line, given);
 }
@@ -355,8 +361,10 @@ fn take_batch(
     let mut number = next_number(formula, lines.as_slice());
     accept(formula, lines, batch, given);
     for found in &batch.lines {
-        if searcher.import(given.alloc, number, &found.clause).is_err() {
-            given.refuse("a line that doesn't come back");
+        match searcher.import(given.alloc, number, &found.clause) {
+            Ok(()) => (),
+            Err(SolveFault::Memory) => given.refuse(MEMORY),
+            Err(_fault) => given.refuse("a line that doesn't come back"),
         }
         number = number.saturating_add(1);
     }

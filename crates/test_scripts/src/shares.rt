@@ -127,7 +127,7 @@ fn put_evidence(pool: &Pool, given: &mut Given) {
 fn publish_derived(pool: &mut Pool, words: &str, given: &mut Given) {
     match event("publish", words, given) {
         Some(Event::Publish { worker, batch }) => {
-            match derived(given.alloc, pool, &batch) {
+            match derived_once_more(given.alloc, pool, &batch) {
                 Some(lines) => {
                     tell(
                         &pool.publish_as(given.alloc, worker, &batch, Some(lines)),
@@ -139,6 +139,17 @@ fn publish_derived(pool: &mut Pool, words: &str, given: &mut Given) {
             mem::drop(batch);
         }
         other => mem::drop(other),
+    }
+}
+
+/// The lines, asked for twice where there are none: memory may have been wanting the first time.
+fn derived_once_more(alloc: Global, pool: &Pool, batch: &Batch) -> Option<DerivedLines>
+    ensures lines { IfSome result (λ d. AreOfBatch batch.now.lines.items d) }
+    ensures derived { IfSome result (λ _. DeriveAfter pool.now.held.formula pool.now.held.log (resolved_lines (next_number pool.now.held) batch.now.lines.items)) }
+{
+    match derived(alloc, pool, batch) {
+        Some(lines) => Some(lines),
+        None => derived(alloc, pool, batch),
     }
 }
 
