@@ -7,6 +7,7 @@ command on a small program that was worked by hand, with the status that it ends
 import errno
 import os
 import random
+import re
 import resource
 import shlex
 import shutil
@@ -238,6 +239,18 @@ class Trial:
         same = got.status == plain.status and told_of(row, got) == told_of(row, plain)
         return same and (got.told == plain.told or '--progress' in row.words) and self.has_whole_file(row, got)
 
+    def lacks_in_rows(self, row, got):
+        """Of several programs each is told as without a refusal, or that memory lacked for it, and the status is the gravest."""
+        own, rows = rows_of(self.plain_outcome(row)), rows_of(got)
+        if len(own) < 2 or len(rows) != len(own) or got.told != b'':
+            return False
+        for mine, told in zip(own, rows):
+            head = MEMORY_ROW.fullmatch(told)
+            if told != mine and not (head and mine.startswith(head[1])):
+                return False
+        told = got.printed.replace(b'no deadlock', b'')
+        return got.status == next((status for words, status in GRAVEST if words in told), 0)
+
     def note(self, kind, words, got, settings, is_right):
         """Counts a run, and tells a wrong one with how to repeat it: the settings of the shim, or in words."""
         self.runs[kind] = self.runs.get(kind, 0) + 1
@@ -259,6 +272,16 @@ class Trial:
             print(f'  cd {self.room} && {again}', flush=True)
         if got.status == 'hang' and self.shown[kind, tuple(words)] >= SHOWN:
             raise Hangs
+
+
+# A row of `decide` for a program for which memory lacked, and words of answers with their status, the gravest first.
+MEMORY_ROW = re.compile(rb'(program [^:]*: |{"program":"[^"]*","answer":")unknown memory("[^\n]*)?\n')
+GRAVEST = ((b'deadlock', 1), (b'unknown memory', 4), (b'unknown', 2), (b'refused', 3))
+
+
+def rows_of(got):
+    """The rows of an answer on several programs."""
+    return re.split(rb'(?m)^(?=program |{"program":)', got.printed)[1:]
 
 
 def is_searched(row):
@@ -293,7 +316,8 @@ def try_memory(trial, row):
             settings = {'REFUSE': f'memory:{place}:{how}:0'}
             got = trial.outcome(row.words, settings)
             own = trial.is_own_answer(row, got)
-            trial.note('memory', row.words, got, settings, own or (trial.first_refusal() and is_want_of_memory(row, got)))
+            lacks = is_want_of_memory(row, got) or trial.lacks_in_rows(row, got)
+            trial.note('memory', row.words, got, settings, own or (trial.first_refusal() and lacks))
 
 
 def try_threads(trial, row):
@@ -424,7 +448,7 @@ def is_right_under_limit(trial, row, got, kind):
     if trial.is_own_answer(row, got):
         return True
     if kind in (resource.RLIMIT_AS, resource.RLIMIT_STACK):
-        return is_want_of_memory(row, got) or (got.status == 127 and b'shared' in got.told)
+        return is_want_of_memory(row, got) or trial.lacks_in_rows(row, got) or (got.status == 127 and b'shared' in got.told)
     faults = [b'file %s\n' % word.encode() for word in row.words]
     return (got.status, got.printed) == (5, b'') and fault_told(row, got) in faults
 
@@ -434,7 +458,7 @@ def try_limits(trial, row):
     plain = trial.plain_outcome(row)
     sizes = {
         'RLIMIT_AS': [million << 20 for million in (6, 8, 10, 12, 14, 16, 20, 24, 32, 48, 64, 80, 100, 150, 300)],
-        'RLIMIT_STACK': [thousand << 10 for thousand in (64, 128, 256)],
+        'RLIMIT_STACK': [thousand << 10 for thousand in (80, 128, 256)],
         'RLIMIT_FSIZE': [0, 1, 10, 30, 60, 100],
     }
     for name, limits in sizes.items():

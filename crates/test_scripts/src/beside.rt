@@ -226,6 +226,10 @@ fn take(
             given.refuse("a model");
             true
         }
+        Err(SolveFault::Memory) => {
+            given.refuse("memory");
+            true
+        }
         Err(_fault) => {
             given.refuse("a refused search");
             true
