@@ -1,7 +1,7 @@
 //! What decided a run: which sends were buffered, where that is free, and which message a wildcard took, or a probe with a
 //! star saw, where another one fitted too.
 
-ghost use Rattle.semantics.specs.Machine.{IsStuckRun};
+ghost use Rattle.semantics.specs.Machine.{IsRun, opening};
 
 use callorder::{LongProgram, Policy};
 use semantics::{State, Step};
@@ -132,13 +132,13 @@ fn choice_of(
     }
 }
 
-/// The choices of a run that ends stuck, in the order of its steps. The only error is want of memory.
+/// The choices of a run, in the order of its steps. The only error is want of memory.
 pub fn choices_of(
     alloc: Global,
     program: &LongProgram,
     steps: &[Step],
 ) -> Result<Vec<Choice>, AllocError>
-    requires { IsStuckRun program.now steps.now }
+    requires { IsRun program.now (opening program.now) steps.now }
 {
     let mut choices = Vec::new(alloc);
     let mut state = State::start(alloc, program)?;

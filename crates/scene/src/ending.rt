@@ -1,7 +1,7 @@
-//! The end of a run that ends stuck.
+//! The end of a run.
 
 ghost use Rattle.std.specs.Prelude.{◌≡◌, ◌↔◌, ℕ, IfOk};
-ghost use Rattle.semantics.specs.Machine.{opening, after_all, IsStuckRun};
+ghost use Rattle.semantics.specs.Machine.{opening, after_all, IsRun};
 ghost use Rattle.waits.specs.Cycles.{HasEdge};
 ghost use Rattle.waits.specs.Waiting.{WaitsFor};
 ghost use Rattle.scene.specs.Ends.{AreStandings, IsCycleOrNone};
@@ -239,7 +239,7 @@ fn cycle_of(
     }
 }
 
-/// The end of a run that ends stuck, with the calls of its program as they are told, by `text`, the program's text, and `source`, what
+/// The end of a run, with the calls of its program as they are told, by `text`, the program's text, and `source`, what
 /// it says; `whole` tells that no list is to be cut. The only error is want of memory.
 pub fn scene_of<'a>(
     alloc: Global,
@@ -249,7 +249,7 @@ pub fn scene_of<'a>(
     steps: &[Step],
     whole: bool,
 ) -> Result<Scene<'a>, AllocError>
-    requires { IsStuckRun program.now steps.now }
+    requires { IsRun program.now (opening program.now) steps.now }
     ensures labels { IfOk result (λ scene. scene.labels.items ≡ call_labels text.now source.now program.now) }
     ensures state { IfOk result (λ scene. scene.state ≡ after_all (opening program.now) steps.now) }
     ensures standings { IfOk result (λ scene. AreStandings program.now (after_all (opening program.now) steps.now) program.now.ranks scene.standings.items) }

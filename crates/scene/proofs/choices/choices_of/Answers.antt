@@ -8,7 +8,7 @@ apply-requires-clause-of c = c.loop-place.invariant.of
 
 pub apply-requires-clause-enabled : goal.apply-requires-clause-enabled
 apply-requires-clause-enabled c =
-    next_enabled c.args.program.now c.args.steps.now c.loop-place.place c.loop-place.state _ c.requires.run (omega arith) c.loop-place.invariant
+    next_enabled c.args.program.now c.args.steps.now c.loop-place.place c.loop-place.state _ c.requires (omega arith) c.loop-place.invariant
 
 pub loop-place-init : goal.loop-place-init
 loop-place-init c = record { of = c.in_ok-state.ensures.of; now = c.in_ok-state.ensures.opening }
