@@ -1,5 +1,5 @@
 -- A timeline as a picture, in SVG: a row for each rank, from the top, and time to the right. Numbers are pixels; x counts from the left, y from the top.
-use Rattle.std.specs.Prelude.{◌≡◌, ◌↔◌, codes, ℕ, ◌+◌, ◌-◌, ◌*◌, ◌==◌, ◌&&◌, nat_le, nat_lt, not, Bool, true, false, if◌then◌else◌, is_some, List, [], ◌∷◌, ◌++◌, length, drop, take_while, Option, Some, None, slice_get, slice_index}
+use Rattle.std.specs.Prelude.{◌≡◌, ◌↔◌, ◌⊎◌, IsTrue, codes, ℕ, ◌+◌, ◌-◌, ◌*◌, ◌==◌, ◌&&◌, nat_le, nat_lt, not, Bool, true, false, if◌then◌else◌, is_some, List, [], ◌∷◌, ◌++◌, length, drop, take_while, Option, Some, None, slice_get, slice_index}
 use Rattle.std.specs.List.{flat_map, list_any, slice_index_or}
 use Rattle.std.specs.Option.{unwrap_or}
 use Rattle.std.specs.Global.{Vec}
@@ -12,7 +12,7 @@ use Rattle.callorder.specs.declared.calls.Kind.TheVariants.{Send, Receive, Match
 use Rattle.callorder.specs.Calls.{message_of}
 use Rattle.callorder.specs.Programs.{MpiProgram, call_at}
 use Rattle.semantics.specs.declared.state.Step.{Step}
-use Rattle.semantics.specs.Machine.{Configuration, opening, after_all, is_fetched, is_rank_finished}
+use Rattle.semantics.specs.Machine.{Configuration, opening, after_all, is_fetched, is_rank_finished, IsFinished, IsFinishedRun, IsStuckRun}
 use Rattle.waits.specs.Cycles.{HasEdge}
 use Rattle.waits.specs.Waiting.{WaitsFor}
 use Rattle.scene.specs.declared.acts.Act.{Act}
@@ -265,36 +265,47 @@ arc_at ranks count cycle place = arc ranks count (slice_index cycle place) (slic
 
 -- ---- the picture
 
+-- how the run ends, told by whether all ranks finish
+abbrev pub end_words : Bool → List ℕ
+end_words false = codes "ends in a deadlock"
+end_words true = codes "ends well"
+
 -- the size, the title, the heads of arrows, a white ground, and what colours mean
-abbrev pub head : ℕ → ℕ → List ℕ
-head width height =
+abbrev pub head : Bool → ℕ → ℕ → List ℕ
+head well width height =
     codes "<svg xmlns=\"http://www.w3.org/2000/svg\" viewBox=\"0 0 "
-    ++ (numeral width ++ (codes " " ++ (numeral height ++ (codes "\" width=\"" ++ (numeral width ++ (codes "\" height=\"" ++ (numeral height ++ codes "\" font-family=\"DejaVu Sans,Helvetica,sans-serif\" font-size=\"12\">\n<title>Timeline of a run that ends in a deadlock</title>\n<defs><marker id=\"taken\" viewBox=\"0 0 8 8\" refX=\"7\" refY=\"4\" markerWidth=\"7\" markerHeight=\"7\" markerUnits=\"userSpaceOnUse\" orient=\"auto\"><path d=\"M0 0L8 4L0 8z\" fill=\"#333\"/></marker><marker id=\"chosen\" viewBox=\"0 0 8 8\" refX=\"7\" refY=\"4\" markerWidth=\"9\" markerHeight=\"9\" markerUnits=\"userSpaceOnUse\" orient=\"auto\"><path d=\"M0 0L8 4L0 8z\" fill=\"#e8870e\"/></marker><marker id=\"cycle\" viewBox=\"0 0 8 8\" refX=\"7\" refY=\"4\" markerWidth=\"9\" markerHeight=\"9\" markerUnits=\"userSpaceOnUse\" orient=\"auto\"><path d=\"M0 0L8 4L0 8z\" fill=\"#d62728\"/></marker></defs>\n<rect width=\"100%\" height=\"100%\" fill=\"white\"/>\n<g class=\"legend\" font-size=\"11\"><rect x=\"10\" y=\"12\" width=\"14\" height=\"12\" rx=\"3\" fill=\"#8fb8de\"/><text x=\"28\" y=\"22\">send</text><rect x=\"64\" y=\"12\" width=\"14\" height=\"12\" rx=\"3\" fill=\"#d6e4f2\"/><text x=\"82\" y=\"22\">buffered send</text><rect x=\"172\" y=\"12\" width=\"14\" height=\"12\" rx=\"3\" fill=\"#a3d39c\"/><text x=\"190\" y=\"22\">receive</text><rect x=\"242\" y=\"12\" width=\"14\" height=\"12\" rx=\"3\" fill=\"#d5b3d6\"/><text x=\"260\" y=\"22\">probe</text><rect x=\"302\" y=\"12\" width=\"14\" height=\"12\" rx=\"3\" fill=\"#cfcac6\"/><text x=\"320\" y=\"22\">wait</text><rect x=\"354\" y=\"12\" width=\"14\" height=\"12\" rx=\"3\" fill=\"#fbdada\" stroke=\"#d62728\"/><text x=\"372\" y=\"22\">never returns</text><path d=\"M460 18H480\" stroke=\"#e8870e\" stroke-width=\"2\" marker-end=\"url(#chosen)\"/><text x=\"486\" y=\"22\">others fitted too</text></g>\n")))))))
+    ++ (numeral width ++ (codes " " ++ (numeral height ++ (codes "\" width=\"" ++ (numeral width ++ (codes "\" height=\"" ++ (numeral height ++ (codes "\" font-family=\"DejaVu Sans,Helvetica,sans-serif\" font-size=\"12\">\n<title>Timeline of a run that " ++ (end_words well ++ codes "</title>\n<defs><marker id=\"taken\" viewBox=\"0 0 8 8\" refX=\"7\" refY=\"4\" markerWidth=\"7\" markerHeight=\"7\" markerUnits=\"userSpaceOnUse\" orient=\"auto\"><path d=\"M0 0L8 4L0 8z\" fill=\"#333\"/></marker><marker id=\"chosen\" viewBox=\"0 0 8 8\" refX=\"7\" refY=\"4\" markerWidth=\"9\" markerHeight=\"9\" markerUnits=\"userSpaceOnUse\" orient=\"auto\"><path d=\"M0 0L8 4L0 8z\" fill=\"#e8870e\"/></marker><marker id=\"cycle\" viewBox=\"0 0 8 8\" refX=\"7\" refY=\"4\" markerWidth=\"9\" markerHeight=\"9\" markerUnits=\"userSpaceOnUse\" orient=\"auto\"><path d=\"M0 0L8 4L0 8z\" fill=\"#d62728\"/></marker></defs>\n<rect width=\"100%\" height=\"100%\" fill=\"white\"/>\n<g class=\"legend\" font-size=\"11\"><rect x=\"10\" y=\"12\" width=\"14\" height=\"12\" rx=\"3\" fill=\"#8fb8de\"/><text x=\"28\" y=\"22\">send</text><rect x=\"64\" y=\"12\" width=\"14\" height=\"12\" rx=\"3\" fill=\"#d6e4f2\"/><text x=\"82\" y=\"22\">buffered send</text><rect x=\"172\" y=\"12\" width=\"14\" height=\"12\" rx=\"3\" fill=\"#a3d39c\"/><text x=\"190\" y=\"22\">receive</text><rect x=\"242\" y=\"12\" width=\"14\" height=\"12\" rx=\"3\" fill=\"#d5b3d6\"/><text x=\"260\" y=\"22\">probe</text><rect x=\"302\" y=\"12\" width=\"14\" height=\"12\" rx=\"3\" fill=\"#cfcac6\"/><text x=\"320\" y=\"22\">wait</text><rect x=\"354\" y=\"12\" width=\"14\" height=\"12\" rx=\"3\" fill=\"#fbdada\" stroke=\"#d62728\"/><text x=\"372\" y=\"22\">never returns</text><path d=\"M460 18H480\" stroke=\"#e8870e\" stroke-width=\"2\" marker-end=\"url(#chosen)\"/><text x=\"486\" y=\"22\">others fitted too</text></g>\n")))))))))
 
 -- what stands above the rows
-abbrev pub top : ℕ → ℕ → List ℕ
-top ranks count = head (edge count + 460) (y_of ranks ranks + 20)
+abbrev pub top : Bool → ℕ → ℕ → List ℕ
+top well ranks count = head well (edge count + 460) (y_of ranks ranks + 20)
 
 -- The parts of a picture: the head, how many steps come before the drawn ones, a row for each rank, a box for each issue, in order, an arrow
--- for each message that is taken or seen, in order, an arc for each rank of the cycle, and the foot. So many columns, the steps in
--- them, the cycle, and the marks of those that find a chosen message are given.
-abbrev pub picture_at : MpiProgram → Configuration → List Label → ℕ → (ℕ → ℕ) → List Placed → List ℕ → List Bool → ℕ → List ℕ
-picture_at p m calls count at steps cycle marks before =
-    top p.ranks count
+-- for each message that is taken or seen, in order, an arc for each rank of the cycle, and the foot. Whether all ranks finish, so many columns,
+-- the steps in them, the cycle, and the marks of those that find a chosen message are given.
+abbrev pub picture_at : Bool → MpiProgram → Configuration → List Label → ℕ → (ℕ → ℕ) → List Placed → List ℕ → List Bool → ℕ → List ℕ
+picture_at well p m calls count at steps cycle marks before =
+    top well p.ranks count
     ++ (undrawn_text before ++ (columns (row p m calls count at cycle) p.ranks ++ (flat_map (box_of p m calls count) steps ++ (flat_map (arrow_of p.ranks calls count at marks) steps ++ (columns (arc_at p.ranks count cycle) (length cycle) ++ codes "</svg>\n")))))
 
-abbrev pub picture_with : MpiProgram → Configuration → List Label → ℕ → List Placed → List ℕ → List Bool → ℕ → List ℕ
-picture_with p m calls count steps cycle marks before = picture_at p m calls count (column_of steps) steps cycle marks before
+abbrev pub picture_with : Bool → MpiProgram → Configuration → List Label → ℕ → List Placed → List ℕ → List Bool → ℕ → List ℕ
+picture_with well p m calls count steps cycle marks before = picture_at well p m calls count (column_of steps) steps cycle marks before
+
+-- the steps are a run that gets stuck, or one in which all ranks finish
+abbrev pub IsRunToEnd : MpiProgram → List Step → Type 0
+IsRunToEnd p steps = IsStuckRun p steps ⊎ IsFinishedRun p steps
 
 -- The text draws the run of these steps: those that are drawn stand in columns, and the cycle is one of ranks that wait for one another at the
--- run's end, or none where there is none. Which messages are marked as chosen is left open.
+-- run's end, or none where there is none. Its title tells whether all ranks finish. Which messages are marked as chosen is left open.
 pub record IsPicture (text : List ℕ) (source : ProgramText) (p : MpiProgram) (steps : List Step) (picture : List ℕ) : Type 0 where
+  pub well : Bool
   pub count : ℕ
   pub placed : List Placed
   pub awaited : List (Vec ℕ)
   pub cycle : List ℕ
   pub marks : List Bool
+  pub is_well : IsTrue well ↔ IsFinished p (after_all (opening p) steps)
   pub in_columns : AreColumns p (call_labels text source p) (drop (undrawn p (length (acts_from (opening p) steps))) (acts_from (opening p) steps)) count placed
   pub edges : (from to : ℕ) → HasEdge awaited from to ↔ WaitsFor p (after_all (opening p) steps) from to
   pub is_cycle : IsCycleOrNone awaited cycle
-  pub drawn : picture ≡ picture_with p (after_all (opening p) steps) (call_labels text source p) count placed cycle marks (undrawn p (length (acts_from (opening p) steps)))
+  pub drawn : picture ≡ picture_with well p (after_all (opening p) steps) (call_labels text source p) count placed cycle marks (undrawn p (length (acts_from (opening p) steps)))

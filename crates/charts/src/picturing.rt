@@ -1,12 +1,12 @@
 //! The steps of a run as a timeline, in SVG.
 
-ghost use Rattle.std.specs.Prelude.{◌≡◌, ◌+◌, ◌*◌, ◌<◌, ◌≤◌, ◌++◌, OnOk, ◌-◌, codes, not, ◌==◌, take_while, IfOk, Some, drop, length, slice_get, slice_index};
+ghost use Rattle.std.specs.Prelude.{◌≡◌, ◌+◌, ◌*◌, ◌<◌, ◌≤◌, ◌++◌, OnOk, ◌-◌, ◌↔◌, IsTrue, codes, not, ◌==◌, take_while, IfOk, Some, drop, length, slice_get, slice_index};
 ghost use Rattle.std.specs.List.{flat_map, slice_index_or};
 ghost use Rattle.plaintext.specs.Plain.{numeral};
 ghost use Rattle.scene.specs.Labels.{shortened};
-ghost use Rattle.semantics.specs.Machine.{IsStuckRun};
+ghost use Rattle.semantics.specs.Machine.{IsFinished, IsRun, opening};
 ghost use Rattle.charts.specs.Chart.{columns};
-ghost use Rattle.charts.specs.Picture.{IsPicture, arc, arc_at, arc_between, arc_title, arrow_of, bar, bend, box, box_head, box_of, by_width, colour_of_call, colour_of_kind, dash_of, drawn_arrow, drawn_box, drawn_find, drawn_find_of, drawn_issue, drawn_issue_of, edge, escape, find_title, finished, head, hop, is_chosen, is_in, is_left, link_of, mark_of, name, name_colour, picture_at, rank_end, row, row_head, straight, stroke_of, stub, tip_of, title, told_words, top, verb, waiting, waits_in, way, x_of, y_of};
+ghost use Rattle.charts.specs.Picture.{IsPicture, IsRunToEnd, arc, arc_at, arc_between, arc_title, arrow_of, bar, bend, box, box_head, box_of, by_width, colour_of_call, colour_of_kind, dash_of, drawn_arrow, drawn_box, drawn_find, drawn_find_of, drawn_issue, drawn_issue_of, edge, end_words, escape, find_title, finished, head, hop, is_chosen, is_in, is_left, link_of, mark_of, name, name_colour, picture_at, rank_end, row, row_head, straight, stroke_of, stub, tip_of, title, told_words, top, verb, waiting, waits_in, way, x_of, y_of};
 
 use crate::cutting::{behind, put_undrawn_text, undrawn};
 use crate::placing::{Columns, Placed, columns_of, issued_in};
@@ -939,9 +939,20 @@ fn put_arcs(out: &mut Vec<u8>, ranks: u32, count: usize, cycle: &[u32]) -> Resul
     Ok(())
 }
 
+/// How a run ends.
+fn end_words(well: bool) -> &'static str
+    ensures { result.now ≡ end_words well }
+{
+    if well {
+        "ends well"
+    } else {
+        "ends in a deadlock"
+    }
+}
+
 /// Writes the size, the title, the heads of arrows, a white ground, and what colours mean.
-fn put_head(out: &mut Vec<u8>, width: u128, height: u128) -> Result<(), AllocError>
-    ensures { OnOk result (out.new.items ≡ out.old.items ++ head width height) }
+fn put_head(out: &mut Vec<u8>, well: bool, width: u128, height: u128) -> Result<(), AllocError>
+    ensures { OnOk result (out.new.items ≡ out.old.items ++ head well width height) }
 {
     put_parts(
         out,
@@ -955,7 +966,11 @@ fn put_head(out: &mut Vec<u8>, width: u128, height: u128) -> Result<(), AllocErr
             Part::Text("\" height=\""),
             Part::Number(height),
             Part::Text(
-                "\" font-family=\"DejaVu Sans,Helvetica,sans-serif\" font-size=\"12\">\n<title>Timeline of a run that ends in a deadlock</title>\n<defs><marker id=\"taken\" viewBox=\"0 0 8 8\" refX=\"7\" refY=\"4\" markerWidth=\"7\" markerHeight=\"7\" markerUnits=\"userSpaceOnUse\" orient=\"auto\"><path d=\"M0 0L8 4L0 8z\" fill=\"#333\"/></marker><marker id=\"chosen\" viewBox=\"0 0 8 8\" refX=\"7\" refY=\"4\" markerWidth=\"9\" markerHeight=\"9\" markerUnits=\"userSpaceOnUse\" orient=\"auto\"><path d=\"M0 0L8 4L0 8z\" fill=\"#e8870e\"/></marker><marker id=\"cycle\" viewBox=\"0 0 8 8\" refX=\"7\" refY=\"4\" markerWidth=\"9\" markerHeight=\"9\" markerUnits=\"userSpaceOnUse\" orient=\"auto\"><path d=\"M0 0L8 4L0 8z\" fill=\"#d62728\"/></marker></defs>\n<rect width=\"100%\" height=\"100%\" fill=\"white\"/>\n<g class=\"legend\" font-size=\"11\"><rect x=\"10\" y=\"12\" width=\"14\" height=\"12\" rx=\"3\" fill=\"#8fb8de\"/><text x=\"28\" y=\"22\">send</text><rect x=\"64\" y=\"12\" width=\"14\" height=\"12\" rx=\"3\" fill=\"#d6e4f2\"/><text x=\"82\" y=\"22\">buffered send</text><rect x=\"172\" y=\"12\" width=\"14\" height=\"12\" rx=\"3\" fill=\"#a3d39c\"/><text x=\"190\" y=\"22\">receive</text><rect x=\"242\" y=\"12\" width=\"14\" height=\"12\" rx=\"3\" fill=\"#d5b3d6\"/><text x=\"260\" y=\"22\">probe</text><rect x=\"302\" y=\"12\" width=\"14\" height=\"12\" rx=\"3\" fill=\"#cfcac6\"/><text x=\"320\" y=\"22\">wait</text><rect x=\"354\" y=\"12\" width=\"14\" height=\"12\" rx=\"3\" fill=\"#fbdada\" stroke=\"#d62728\"/><text x=\"372\" y=\"22\">never returns</text><path d=\"M460 18H480\" stroke=\"#e8870e\" stroke-width=\"2\" marker-end=\"url(#chosen)\"/><text x=\"486\" y=\"22\">others fitted too</text></g>\n",
+                "\" font-family=\"DejaVu Sans,Helvetica,sans-serif\" font-size=\"12\">\n<title>Timeline of a run that ",
+            ),
+            Part::Text(end_words(well)),
+            Part::Text(
+                "</title>\n<defs><marker id=\"taken\" viewBox=\"0 0 8 8\" refX=\"7\" refY=\"4\" markerWidth=\"7\" markerHeight=\"7\" markerUnits=\"userSpaceOnUse\" orient=\"auto\"><path d=\"M0 0L8 4L0 8z\" fill=\"#333\"/></marker><marker id=\"chosen\" viewBox=\"0 0 8 8\" refX=\"7\" refY=\"4\" markerWidth=\"9\" markerHeight=\"9\" markerUnits=\"userSpaceOnUse\" orient=\"auto\"><path d=\"M0 0L8 4L0 8z\" fill=\"#e8870e\"/></marker><marker id=\"cycle\" viewBox=\"0 0 8 8\" refX=\"7\" refY=\"4\" markerWidth=\"9\" markerHeight=\"9\" markerUnits=\"userSpaceOnUse\" orient=\"auto\"><path d=\"M0 0L8 4L0 8z\" fill=\"#d62728\"/></marker></defs>\n<rect width=\"100%\" height=\"100%\" fill=\"white\"/>\n<g class=\"legend\" font-size=\"11\"><rect x=\"10\" y=\"12\" width=\"14\" height=\"12\" rx=\"3\" fill=\"#8fb8de\"/><text x=\"28\" y=\"22\">send</text><rect x=\"64\" y=\"12\" width=\"14\" height=\"12\" rx=\"3\" fill=\"#d6e4f2\"/><text x=\"82\" y=\"22\">buffered send</text><rect x=\"172\" y=\"12\" width=\"14\" height=\"12\" rx=\"3\" fill=\"#a3d39c\"/><text x=\"190\" y=\"22\">receive</text><rect x=\"242\" y=\"12\" width=\"14\" height=\"12\" rx=\"3\" fill=\"#d5b3d6\"/><text x=\"260\" y=\"22\">probe</text><rect x=\"302\" y=\"12\" width=\"14\" height=\"12\" rx=\"3\" fill=\"#cfcac6\"/><text x=\"320\" y=\"22\">wait</text><rect x=\"354\" y=\"12\" width=\"14\" height=\"12\" rx=\"3\" fill=\"#fbdada\" stroke=\"#d62728\"/><text x=\"372\" y=\"22\">never returns</text><path d=\"M460 18H480\" stroke=\"#e8870e\" stroke-width=\"2\" marker-end=\"url(#chosen)\"/><text x=\"486\" y=\"22\">others fitted too</text></g>\n",
             ),
         ],
     )?;
@@ -963,16 +978,16 @@ fn put_head(out: &mut Vec<u8>, width: u128, height: u128) -> Result<(), AllocErr
 }
 
 /// Writes what stands above the rows.
-fn put_top(out: &mut Vec<u8>, ranks: u32, count: usize) -> Result<(), AllocError>
-    ensures { OnOk result (out.new.items ≡ out.old.items ++ top ranks count) }
+fn put_top(out: &mut Vec<u8>, well: bool, ranks: u32, count: usize) -> Result<(), AllocError>
+    ensures { OnOk result (out.new.items ≡ out.old.items ++ top well ranks count) }
 {
-    put_head(out, edge(count) + 460, y_of(ranks, ranks) + 20)?;
+    put_head(out, well, edge(count) + 460, y_of(ranks, ranks) + 20)?;
     Ok(())
 }
 
 /// Of each call whether it finds a message where others fitted too. Of large programs it isn't asked, since that takes long.
 fn marks_of(alloc: Global, program: &LongProgram, steps: &[Step]) -> Result<Vec<bool>, AllocError>
-    requires { IsStuckRun program.now steps.now }
+    requires { IsRun program.now (opening program.now) steps.now }
 {
     let mut marks = vec![in alloc; false; program.calls().len()]?;
     if is_large(program) {
@@ -988,10 +1003,18 @@ fn marks_of(alloc: Global, program: &LongProgram, steps: &[Step]) -> Result<Vec<
     Ok(marks)
 }
 
+/// Whether all ranks are finished.
+fn ends_well(program: &LongProgram, end: &State) -> bool
+    ensures { IsTrue result ↔ IsFinished program.now end.now }
+{
+    end.unfinished(program).is_none()
+}
+
 /// Writes a picture of steps in columns, behind so many others.
 fn put_picture(
     out: &mut Vec<u8>,
     alloc: Global,
+    well: bool,
     program: &LongProgram,
     end: &State,
     calls: &[CallLabel],
@@ -1000,10 +1023,10 @@ fn put_picture(
     marks: &[bool],
     before: usize,
 ) -> Result<(), AllocError>
-    ensures { OnOk result (out.new.items ≡ out.old.items ++ picture_at program.now end.now calls.now placed.now.count (slice_index placed.now.issues.items) placed.now.steps.items cycle.now marks.now before) }
+    ensures { OnOk result (out.new.items ≡ out.old.items ++ picture_at well program.now end.now calls.now placed.now.count (slice_index placed.now.issues.items) placed.now.steps.items cycle.now marks.now before) }
 {
     let ranks = program.ranks();
-    put_top(out, ranks, placed.count)?;
+    put_top(out, well, ranks, placed.count)?;
     put_undrawn_text(out, before)?;
     put_rows(out, alloc, program, end, calls, placed, cycle)?;
     put_boxes(out, alloc, program, end, calls, placed.count, &placed.steps)?;
@@ -1016,6 +1039,7 @@ fn put_picture(
 /// A picture of steps in columns, behind so many others.
 fn picture_of(
     alloc: Global,
+    well: bool,
     program: &LongProgram,
     end: &State,
     calls: &[CallLabel],
@@ -1024,27 +1048,28 @@ fn picture_of(
     marks: &[bool],
     before: usize,
 ) -> Result<Vec<u8>, AllocError>
-    ensures { IfOk result (λ picture. picture.items ≡ picture_at program.now end.now calls.now placed.now.count (slice_index placed.now.issues.items) placed.now.steps.items cycle.now marks.now before) }
+    ensures { IfOk result (λ picture. picture.items ≡ picture_at well program.now end.now calls.now placed.now.count (slice_index placed.now.issues.items) placed.now.steps.items cycle.now marks.now before) }
 {
     let mut out = Vec::new(alloc);
     put_picture(
-        &mut out, alloc, program, end, calls, placed, cycle, marks, before,
+        &mut out, alloc, well, program, end, calls, placed, cycle, marks, before,
     )?;
     Ok(out)
 }
 
-/// A timeline of a run of a program that ends stuck, as a picture in SVG that stands alone: each rank has a row, rank 0 the uppermost, time
-/// goes to the right, and steps that don't wait for one another may share a column. An issue is a group of class `step` with a box in its
-/// rank's row, in which the call's line stands, and its verb where there are up to 14 columns; waits of one line, as those of a
-/// `waitall`, lie over one another. Sends are blue, buffered ones pale, receives green, probes purple, waits grey; a send
-/// whose message is never received has a red stub. A match is a group of class `step` with an arrow from the box of the send to the
-/// row of the rank that takes the message, and a see a dashed one; it is orange where the call could have found another message
+/// A timeline of a run of a program that ends stuck, or in which all ranks finish, as a picture in SVG that stands alone: each rank has a
+/// row, rank 0 the uppermost, time goes to the right, and steps that don't wait for one another may share a column. An issue is a group
+/// of class `step` with a box in its rank's row, in which the call's line stands, and its verb where there are up to 14 columns; waits of
+/// one line, as those of a `waitall`, lie over one another. Sends are blue, buffered ones pale, receives green, probes purple, waits
+/// grey; a send whose message is never received has a red stub. A match is a group of class `step` with an arrow from the box of the send
+/// to the row of the rank that takes the message, and a see a dashed one; it is orange where the call could have found another message
 /// too, which isn't asked of programs of more than 64 ranks or 1,024 calls. In the row of a rank that waits at the end a red bar leads
 /// from the call that it waits in to the right edge, behind which the call's line and words stand; behind the other rows stands
-/// `finished`. Ranks of a cycle of ranks that wait for one another have a red name, and red arcs lead from each to the next. Each group has a
-/// title with ranks, lines and words. Of a run of a program of more than 64 ranks or 1,024 calls the last 400 steps are drawn, and above the
-/// rows stands how many come before. `text` is the program's text, `source` what it says, and `program` its calls. The only error is
-/// want of memory.
+/// `finished`. Ranks of a cycle of ranks that wait for one another have a red name, and red arcs lead from each to the next. Each group
+/// has a title with ranks, lines and words. Where all ranks finish there is no bar and no cycle, behind each row stands `finished`, and
+/// the picture's title says that the run ends well. Of a run of a program of more than 64 ranks or 1,024 calls the last 400 steps are
+/// drawn, however it ends, and above the rows stands how many come before. `text` is the program's text, `source` what it says, and
+/// `program` its calls. The only error is want of memory.
 pub fn picture(
     alloc: Global,
     text: &[u8],
@@ -1052,7 +1077,7 @@ pub fn picture(
     program: &LongProgram,
     steps: &[Step],
 ) -> Result<Vec<u8>, AllocError>
-    requires { IsStuckRun program.now steps.now }
+    requires { IsRunToEnd program.now steps.now }
     ensures { IfOk result (λ picture. IsPicture text.now source.now program.now steps.now picture.items) }
 {
     let scene = scene_of(alloc, text, source, program, steps, false)?;
@@ -1064,6 +1089,7 @@ pub fn picture(
     let placed = columns_of(alloc, program, &scene.labels, acts)?;
     let out = picture_of(
         alloc,
+        ends_well(program, &scene.state),
         program,
         &scene.state,
         &scene.labels,

@@ -1,5 +1,5 @@
 -- What the explanation of an answer says.
-use Rattle.std.specs.Prelude.{◌≡◌, ℕ, List, [], ◌++◌, codes, decimal, length, nat_lt, Bool, true, false, if◌then◌else◌}
+use Rattle.std.specs.Prelude.{◌≡◌, ℕ, List, [], ◌++◌, codes, decimal, length, nat_lt, Bool, true, false, if◌then◌else◌, Option, Some, None}
 use Rattle.std.specs.List.{filter}
 use Rattle.settings.specs.declared.form.Form.{Form}
 use Rattle.settings.specs.declared.form.Form.TheVariants as forms
@@ -14,6 +14,7 @@ use Rattle.charts.specs.Chart.{chart_of}
 use Rattle.explain.specs.Losing.{TellsLosses}
 use Rattle.explain.specs.Often.{BeginsWith, often_line}
 use Rattle.frequency.specs.declared.judging.Frequency.{Frequency}
+use Rattle.frequency.specs.declared.judging.Frequency.TheVariants as often
 use Rattle.frequency.specs.Frequencies.{IsFrequency}
 use Rattle.charts.specs.Picture.{IsPicture}
 use Rattle.htmlpage.specs.Page.{IsPage}
@@ -128,12 +129,26 @@ counts_text form = numbers_text (marks_of form)
 abbrev pub SaysHowOften : MpiProgram → List ℕ → Type 0
 SaysHowOften p text = (often : Frequency) × IsFrequency p often × BeginsWith (often_line often) text
 
+-- the steps of a run that ends well, where one is known
+abbrev pub well_steps : Frequency → Option (List Step)
+well_steps often.Always = None
+well_steps (often.Sometimes steps) = Some steps.items
+well_steps often.Unknown = None
+
+-- The page has such a text, draws the run of these steps, and exactly where the text says that other runs end well it draws one, too.
+pub record IsExplainedPage (program : List ℕ) (source : ProgramText) (p : MpiProgram) (steps : List Step) (page : List ℕ) : Type 0 where
+  pub often : Frequency
+  pub is_often : IsFrequency p often
+  pub words : List ℕ
+  pub says : BeginsWith (often_line often) words
+  pub is_page : IsPage program source p steps (well_steps often) words page
+
 -- the text draws the run of these steps, as a chart or as a picture, where the form is one of these, and as a text says how often the
--- program gets stuck; a page has such a text, and draws the run
+-- program gets stuck; a page does both
 abbrev pub IsDrawnFrom : Form → List ℕ → ProgramText → MpiProgram → List Step → List ℕ → Type 0
 IsDrawnFrom forms.Chart program source p steps text = text ≡ chart_of program source p steps
 IsDrawnFrom forms.Picture program source p steps text = IsPicture program source p steps text
-IsDrawnFrom forms.Page program source p steps text = (words : List ℕ) × SaysHowOften p words × IsPage program source p steps words text
+IsDrawnFrom forms.Page program source p steps text = IsExplainedPage program source p steps text
 IsDrawnFrom forms.Brief program source p steps text = SaysHowOften p text
 IsDrawnFrom forms.Whole program source p steps text = SaysHowOften p text
 IsDrawnFrom forms.Graph program source p steps text = Unit {0}

@@ -1,10 +1,11 @@
 //! A run that ends stuck in each form, and what decided it.
 
-ghost use Rattle.std.specs.Prelude.{IfOk};
+ghost use Rattle.std.specs.Prelude.{◌≡◌, IfOk, option_copied};
 ghost use Rattle.callorder.specs.Resolving.{IsTextOf};
 ghost use Rattle.semantics.specs.Machine.{IsStuckRun};
 ghost use Rattle.frequency.specs.Frequencies.{IsFrequency};
-ghost use Rattle.reports.specs.Explanations.{IsDrawnFrom, SaysHowOften};
+ghost use Rattle.explain.specs.Often.{BeginsWith, often_line};
+ghost use Rattle.reports.specs.Explanations.{IsDrawnFrom, SaysHowOften, well_steps};
 
 use crate::deciders::deciders_of;
 use callorder::LongProgram;
@@ -130,6 +131,28 @@ fn often(alloc: Global, program: &LongProgram) -> Result<Frequency, AllocError>
     }
 }
 
+/// The text that explains a run of the program of this text, and says that its runs get stuck so
+/// often, with all lists whole or not.
+fn words_of(
+    alloc: Global,
+    text: &[u8],
+    source: &LongSource,
+    program: &LongProgram,
+    steps: &[Step],
+    asked: &Asked,
+    frequency: &Frequency,
+    whole: bool,
+) -> Result<Vec<u8>, AllocError>
+    requires stuck { IsStuckRun program.now steps.now }
+    requires frequency { IsFrequency program.now frequency.now }
+    ensures { IfOk result (λ told. BeginsWith (often_line frequency.now) told.items) }
+{
+    let decided = asked_text(alloc, text, asked)?;
+    explanation(
+        alloc, text, source, program, steps, frequency, &decided, whole,
+    )
+}
+
 /// The text that explains a run of the program of this text, with all lists whole or not.
 fn explained_text(
     alloc: Global,
@@ -144,13 +167,23 @@ fn explained_text(
     ensures { IfOk result (λ told. SaysHowOften program.now told.items) }
 {
     let frequency = often(alloc, program)?;
-    let decided = asked_text(alloc, text, asked)?;
-    explanation(
-        alloc, text, source, program, steps, &frequency, &decided, whole,
+    words_of(
+        alloc, text, source, program, steps, asked, &frequency, whole,
     )
 }
 
-/// The page that explains a run of the program of this text.
+/// The steps of a run that ends well, where one is known.
+fn well_steps(frequency: &Frequency) -> Option<&[Step]>
+    ensures { option_copied result ≡ well_steps frequency.now }
+{
+    match frequency {
+        Frequency::Always | Frequency::Unknown => None,
+        Frequency::Sometimes(steps) => Some(steps.as_slice()),
+    }
+}
+
+/// The page that explains a run of the program of this text, with the timeline of a run that ends
+/// well below its own, where one is known.
 fn explained_page(
     alloc: Global,
     text: &[u8],
@@ -162,8 +195,12 @@ fn explained_page(
     requires { IsStuckRun program.now steps.now }
     ensures { IfOk result (λ told. IsDrawnFrom Form.Page text.now source.now program.now steps.now told.items) }
 {
-    let words = explained_text(alloc, text, source, program, steps, asked, false)?;
-    page(alloc, text, source, program, steps, &words)
+    let frequency = often(alloc, program)?;
+    let words = words_of(
+        alloc, text, source, program, steps, asked, &frequency, false,
+    )?;
+    let well = well_steps(&frequency);
+    page(alloc, text, source, program, steps, well, &words)
 }
 
 /// The object that explains a run of the program of this text.

@@ -1,12 +1,22 @@
-use Rattle.std.proofs.Common.{◌≡◌, ℕ, List, length, drop, slice_index, ap, ◌∙◌, subst}
-use Rattle.semantics.specs.Machine.{opening}
+use Rattle.std.proofs.Common.{◌≡◌, ◌↔◌, IsTrue, ℕ, List, length, drop, slice_index, ap, ◌∙◌, subst}
+use Rattle.semantics.specs.Machine.{Configuration, IsFinished, opening}
 use Rattle.scene.specs.declared.acts.Act.{Act}
 use Rattle.scene.specs.Acts.{acts_from}
 use Rattle.scene.specs.Labels.{Label, call_labels}
 use Rattle.charts.specs.Columns.{AreColumns, column_of}
 use Rattle.charts.specs.Cuts.{undrawn}
 use Rattle.charts.specs.Picture.{picture_at}
+use Rattle.charts.proofs.Ended.{run_of}
 use Rattle.charts.proofs.picturing.picture.Goals as goal
+
+pub scene_of-requires : goal.scene_of-requires
+scene_of-requires c = run_of c.args.program.now c.args.steps.now c.requires
+
+pub play-requires : goal.play-requires
+play-requires c = run_of c.args.program.now c.args.steps.now c.requires
+
+pub marks_of-requires : goal.marks_of-requires
+marks_of-requires c = run_of c.args.program.now c.args.steps.now c.requires
 
 pub returns : goal.returns
 returns c =
@@ -23,13 +33,15 @@ returns c =
     let same_labels : c.deref-2.result.now ≡ calls = c.deref-2.ensures.value ∙ c.in_ok-scene.ensures.labels in
     let at : slice_index placed.issues.items ≡ column_of placed.steps.items = λ i place. c.in_ok-placed.ensures.issues place i in
     record {
+      well = c.ends_well.result;
       count = placed.count;
       placed = placed.steps.items;
       awaited = scene.awaited.items;
       cycle = scene.cycle.items;
       marks = c.in_ok-marks.marks.items;
+      is_well = subst (λ (m : Configuration). IsTrue c.ends_well.result ↔ IsFinished p m) c.in_ok-scene.ensures.state c.ends_well.ensures;
       in_columns = subst (λ (xs : List Label). AreColumns p xs (drop before acts) placed.count placed.steps.items) labels_are (subst (λ (xs : List Act). AreColumns p c.deref.result.now xs placed.count placed.steps.items) drawn_are c.in_ok-placed.ensures.columns);
       edges = c.in_ok-scene.ensures.awaited;
       is_cycle = c.in_ok-scene.ensures.cycle;
-      drawn = c.in_ok-out.ensures ∙ (λ i. picture_at p (c.in_ok-scene.ensures.state i) (same_labels i) placed.count (at i) placed.steps.items (c.deref-3.ensures.value i) (c.deref-4.ensures.value i) (before_is i));
+      drawn = c.in_ok-out.ensures ∙ (λ i. picture_at c.ends_well.result p (c.in_ok-scene.ensures.state i) (same_labels i) placed.count (at i) placed.steps.items (c.deref-3.ensures.value i) (c.deref-4.ensures.value i) (before_is i));
     }

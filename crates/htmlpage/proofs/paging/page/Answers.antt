@@ -9,6 +9,6 @@ returns c =
     let labels_are : c.deref.result.now ≡ call_labels c.args.text.now c.args.source.now p = c.deref.ensures.value ∙ c.in_ok-calls.ensures in
     record {
       drawn = c.in_ok-drawn.drawn.items;
-      is_picture = c.in_ok-drawn.ensures;
+      are_timelines = c.in_ok-drawn.ensures;
       is = c.in_ok-out.ensures ∙ (λ i. page_with c.args.words.now (c.deref-2.ensures.value i) (listing c.args.text.now p (c.in_ok-played.ensures.end i) (labels_are i)));
     }

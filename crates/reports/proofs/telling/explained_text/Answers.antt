@@ -3,4 +3,4 @@ use Rattle.reports.proofs.telling.explained_text.Goals as goal
 
 pub returns : goal.returns
 returns c =
-    says_how_often c.explanation.result c.args.program.now c.in_ok-frequency.frequency c.in_ok-frequency.ensures c.explanation.ensures
+    says_how_often c.words_of.result c.args.program.now c.in_ok-frequency.frequency c.in_ok-frequency.ensures c.words_of.ensures
