@@ -1,9 +1,11 @@
 -- What a text says.
-use Rattle.std.specs.Prelude.{◌≡◌, ◌⊎◌, ℕ, ◌<◌, ◌≤◌, true, List, [], ◌∷◌, ◌++◌, length, map, Some, Ok, Err}
+use Rattle.std.specs.Prelude.{◌≡◌, ◌⊎◌, ℕ, ◌<◌, ◌≤◌, Bool, true, false, List, [], ◌∷◌, ◌++◌, length, map, Some, Ok, Err}
 use Rattle.spmd_tree.specs.declared.tree.Statement.{Statement}
 use Rattle.spmd_tree.specs.declared.tree.Statement.TheVariants as statement
 use Rattle.spmd_text.specs.declared.reading.Text.{Text}
 use Rattle.spmd_text.specs.declared.fault.ParseFault.{ParseFault}
+use Rattle.spmd_text.specs.declared.fault.ParseReason.{ParseReason}
+use Rattle.spmd_text.specs.declared.fault.ParseReason.TheVariants as reason
 use Rattle.spmd_text.specs.declared.fault.TextFault.{TextFault}
 use Rattle.spmd_text.specs.declared.fault.TextFault.TheVariants.{Memory, TooLarge, Pieces, Grammar}
 use Rattle.spmd_text.specs.Tokens.{Cutting, pieces_of}
@@ -27,21 +29,25 @@ pub record IsText (text : Text) (bytes : List ℕ) : Type 0 where
   pub labels : all_fit text.names.items text.program ≡ true
   pub parameters : text.parameters.items ≡ parameters_of text.program
 
+abbrev pub is_memory : ParseReason → Bool
+is_memory reason.Memory = true
+is_memory _ = false
+
 -- A text is refused for what is told: it is too large; or it can't be cut into pieces, and this is
 -- the first fault of it; or it has pieces. So a fault of the pieces is told exactly where there is
--- one, unless memory runs out or the text is too large.
+-- one, unless memory runs out or the text is too large; and want of memory is told as that alone.
 abbrev pub HasFault : List ℕ → TextFault → Type 0
 HasFault bytes Memory = Unit {0}
 HasFault bytes TooLarge = 65536 < length bytes
 HasFault bytes (Pieces fault) = (length bytes ≤ 65536) × (pieces_of bytes ≡ Err fault)
-HasFault bytes (Grammar fault) = (length bytes ≤ 65536) × (state : Cutting) × (pieces_of bytes ≡ Ok state)
+HasFault bytes (Grammar fault) = (length bytes ≤ 65536) × (state : Cutting) × (pieces_of bytes ≡ Ok state) × (is_memory fault.reason ≡ false)
 
 -- what may be told of a text that has pieces
 abbrev pub IsOfGrammar : TextFault → Type 0
 IsOfGrammar Memory = Unit {0}
 IsOfGrammar TooLarge = ⊥
 IsOfGrammar (Pieces fault) = ⊥
-IsOfGrammar (Grammar fault) = Unit {0}
+IsOfGrammar (Grammar fault) = is_memory fault.reason ≡ false
 
 -- A fault of the pieces is told, whatever else is wrong: the text is not read, and no other fault
 -- is told but want of memory.

@@ -1,6 +1,7 @@
 //! Why a text is no SPMD text.
 
 ghost use Rattle.std.specs.Prelude.{◌≡◌};
+ghost use Rattle.spmd_text.specs.Faults.{reason_words};
 ghost use Rattle.spmd_text.specs.declared.fault.ParseReason.TheVariants.{Memory};
 
 use std::alloc::{AllocError, AllocFailed};
@@ -53,7 +54,9 @@ pub enum ParseReason {
 
 impl ParseReason {
     /// What is wrong, in words.
-    pub fn text(self) -> &'static str {
+    pub fn text(self) -> &'static str
+        ensures { result.now ≡ reason_words self }
+    {
         match self {
             ParseReason::Memory => "memory",
             ParseReason::TextTooLarge => "the text has more than 65536 bytes",

@@ -1,7 +1,7 @@
 //! A text is read whole, and compared with its pieces once more.
 
 ghost use Rattle.std.specs.Prelude.{◌≡◌, ◌++◌, IfErr, IfOk, OnOk};
-ghost use Rattle.spmd_text.specs.Texts.{HasFault, IsOfGrammar, IsText, parameters_of};
+ghost use Rattle.spmd_text.specs.Texts.{HasFault, IsOfGrammar, IsText, is_memory, parameters_of};
 
 use crate::blocks::sequence;
 use crate::cutting::cut;
@@ -108,14 +108,24 @@ fn misread() -> TextFault
     })
 }
 
+/// Whether the allocator refused memory.
+fn is_memory(reason: ParseReason) -> bool
+    ensures { result ≡ is_memory reason }
+{
+    match reason {
+        ParseReason::Memory => true,
+        _ => false,
+    }
+}
+
 /// What is told of a text that has pieces.
 fn grammar_fault(fault: ParseFault) -> TextFault
     ensures { IsOfGrammar result }
 {
-    match fault.reason {
-        ParseReason::Memory => TextFault::Memory,
-        _ => TextFault::Grammar(fault),
+    if is_memory(fault.reason) {
+        return TextFault::Memory;
     }
+    TextFault::Grammar(fault)
 }
 
 /// Reads a text. What is read is what the text says, as `specs/Texts.antt` defines it: it is

@@ -1,6 +1,6 @@
 //! Whether pieces are those of a text, and no others.
 
-ghost use Rattle.std.specs.Prelude.{◌≡◌, [], true, Some};
+ghost use Rattle.std.specs.Prelude.{◌≡◌, [], false, true, Some};
 ghost use Rattle.spmd_text.specs.Spelling.{left, only, begins, after, after_statement, are_parameters, has_none, is_ordered, policy_word, is_any, after_policy, after_text};
 
 use crate::piece::{Piece, Token, Word};
@@ -93,7 +93,8 @@ fn after_text<'a>(
 
 /// Whether the pieces are those of a text with this policy and these statements, and no others.
 pub(crate) fn is_spelled(policy: Policy, statements: &Statement, tokens: &[Token]) -> bool
-    ensures { result ≡ true → after_text policy statements.now (Some tokens.now) ≡ Some [] }
+    ensures spelled { result ≡ true → after_text policy statements.now (Some tokens.now) ≡ Some [] }
+    ensures other { result ≡ false → after_text policy statements.now (Some tokens.now) ≡ Some [] → ⊥ }
 {
     match after_text(policy, statements, Some(tokens)) {
         None => false,
