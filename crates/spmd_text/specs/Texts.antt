@@ -1,5 +1,5 @@
 -- What a text says.
-use Rattle.std.specs.Prelude.{◌≡◌, ◌⊎◌, ℕ, ◌<◌, ◌≤◌, Bool, true, false, List, [], ◌∷◌, ◌++◌, length, map, Some, Ok, Err}
+use Rattle.std.specs.Prelude.{◌≡◌, ◌⊎◌, ℕ, ◌<◌, ◌≤◌, Bool, true, false, List, [], ◌∷◌, ◌++◌, length, map, Some, Ok, Err, if◌then◌else◌}
 use Rattle.spmd_tree.specs.declared.tree.Statement.{Statement}
 use Rattle.spmd_tree.specs.declared.tree.Statement.TheVariants as statement
 use Rattle.spmd_text.specs.declared.reading.Text.{Text}
@@ -48,6 +48,10 @@ IsOfGrammar Memory = Unit {0}
 IsOfGrammar TooLarge = ⊥
 IsOfGrammar (Pieces fault) = ⊥
 IsOfGrammar (Grammar fault) = is_memory fault.reason ≡ false
+
+-- what is told of a text that has pieces and was not read: its fault, or want of memory as that
+abbrev pub grammar_fault : ParseFault → TextFault
+grammar_fault fault = if is_memory fault.reason then Memory else Grammar fault
 
 -- A fault of the pieces is told, whatever else is wrong: the text is not read, and no other fault
 -- is told but want of memory.

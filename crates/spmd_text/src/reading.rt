@@ -1,7 +1,7 @@
 //! A text is read whole, and compared with its pieces once more.
 
 ghost use Rattle.std.specs.Prelude.{◌≡◌, ◌++◌, IfErr, IfOk, OnOk};
-ghost use Rattle.spmd_text.specs.Texts.{HasFault, IsOfGrammar, IsText, is_memory, parameters_of};
+ghost use Rattle.spmd_text.specs.Texts.{HasFault, IsOfGrammar, IsText, grammar_fault, is_memory, parameters_of};
 
 use crate::blocks::sequence;
 use crate::cutting::cut;
@@ -120,7 +120,8 @@ fn is_memory(reason: ParseReason) -> bool
 
 /// What is told of a text that has pieces.
 fn grammar_fault(fault: ParseFault) -> TextFault
-    ensures { IsOfGrammar result }
+    ensures told { result ≡ grammar_fault fault }
+    ensures grammar { IsOfGrammar result }
 {
     if is_memory(fault.reason) {
         return TextFault::Memory;
