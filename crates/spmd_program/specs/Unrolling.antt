@@ -3,8 +3,11 @@
 use Rattle.std.specs.Prelude.{codes, ◌≡◌, ◌⊎◌, ℕ, Bool, true, false, List, ◌++◌, Option, Some, None, Ok, Err}
 use Rattle.plaintext.specs.Plain.{numeral}
 use Rattle.spmd_text.specs.declared.reading.Text.{Text}
+use Rattle.spmd_text.specs.declared.fault.ParseFault.{ParseFault}
+use Rattle.spmd_text.specs.declared.fault.ParseReason.TheVariants as why
 use Rattle.spmd_text.specs.declared.fault.TextFault.{TextFault}
 use Rattle.spmd_text.specs.declared.fault.TextFault.TheVariants as reading
+use Rattle.spmd_text.specs.Faults.{reason_words}
 use Rattle.spmd_text.specs.Texts.{HasFault, IsText}
 use Rattle.unroll.specs.declared.value.Value.{Value}
 use Rattle.unroll.specs.declared.call.Fault.{Fault}
@@ -54,15 +57,15 @@ pub record IsUnrolling (path bytes : List ℕ) (ranks : ℕ) (settings : List (L
 -- ---- what is told
 
 -- the text at a path is told by its line and what is wrong there
-abbrev pub IsToldAt : List ℕ → ℕ → List ℕ → Type 0
-IsToldAt path line told = (why : List ℕ) × (told ≡ path ++ (codes ":" ++ (numeral line ++ (codes ": " ++ why))))
+abbrev pub told_at : List ℕ → ParseFault → List ℕ
+told_at path fault = path ++ (codes ":" ++ (numeral fault.line ++ (codes ": " ++ reason_words fault.reason)))
 
--- what is told of bytes that are no text; its words aren't stated
+-- what is told of bytes that are no text
 abbrev pub IsToldUnread : List ℕ → TextFault → List ℕ → Type 0
 IsToldUnread path reading.Memory told = ⊥
-IsToldUnread path reading.TooLarge told = IsToldAt path 1 told
-IsToldUnread path (reading.Pieces fault) told = IsToldAt path fault.line told
-IsToldUnread path (reading.Grammar fault) told = IsToldAt path fault.line told
+IsToldUnread path reading.TooLarge told = told ≡ told_at path (record { line = 1; reason = why.TextTooLarge })
+IsToldUnread path (reading.Pieces fault) told = told ≡ told_at path fault
+IsToldUnread path (reading.Grammar fault) told = told ≡ told_at path fault
 
 abbrev pub setting_words : SettingFault → List ℕ
 setting_words setting.NoEquals = codes "it is not written NAME=VALUE"

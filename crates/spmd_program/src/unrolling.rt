@@ -8,7 +8,7 @@ ghost use Rattle.spmd_program.specs.Programs.{IsProgramText};
 ghost use Rattle.spmd_program.specs.Requests.{AreOrdered, IsUnordered};
 ghost use Rattle.spmd_program.specs.Settings.{values_of};
 ghost use Rattle.spmd_program.specs.Told.{fault_text};
-ghost use Rattle.spmd_program.specs.Unrolling.{IsMapWanted, IsMissetOf, IsRefusal, IsToldAt, IsToldUnread, IsUnrolling, IsUnrollingOf, IsWrongOf, Tells, setting_text, setting_words};
+ghost use Rattle.spmd_program.specs.Unrolling.{IsMapWanted, IsMissetOf, IsRefusal, IsToldUnread, IsUnrolling, IsUnrollingOf, IsWrongOf, Tells, setting_text, setting_words, told_at};
 ghost use Rattle.spmd_program.specs.declared.unrolling.NotUnrolled.TheVariants.{Memory};
 
 use crate::maps::map_text;
@@ -61,7 +61,7 @@ fn put_line(out: &mut Vec<u8>, path: &str, line: u32) -> Result<(), AllocError>
 
 /// What is told of a line that can't be read.
 fn told_at(alloc: Global, path: &str, fault: ParseFault) -> Result<Vec<u8>, AllocError>
-    ensures { IfOk result (λ told. IsToldAt path.now fault.line told.items) }
+    ensures { IfOk result (λ told. told.items ≡ told_at path.now fault) }
 {
     let mut told = Vec::new(alloc);
     put_line(&mut told, path, fault.line)?;
