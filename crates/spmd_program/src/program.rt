@@ -1,6 +1,6 @@
 //! The text of a program.
 
-ghost use Rattle.std.specs.Prelude.{◌≡◌, ◌++◌, ◌≤◌, [], IfOk, OnOk};
+ghost use Rattle.std.specs.Prelude.{◌≡◌, ◌++◌, ◌≤◌, ◌<◌, [], IfOk, OnErr, OnOk};
 ghost use Rattle.std.specs.List.{AllByRecursion};
 ghost use Rattle.calltext.specs.Grammar.{policy_word};
 ghost use Rattle.calltext.specs.Printed.{heads, rank_text};
@@ -70,6 +70,7 @@ fn put_rank(
 fn some_ranks(ranks: u32) -> Result<(), AllocError>
     ensures some { OnOk result (1 ≤ ranks) }
     ensures most { OnOk result (ranks ≤ 2147483647) }
+    ensures none { OnErr result (1 ≤ ranks → 2147483647 < ranks) }
 {
     if ranks == 0 || ranks > 2_147_483_647 {
         return Err(AllocError);
@@ -79,7 +80,8 @@ fn some_ranks(ranks: u32) -> Result<(), AllocError>
 
 /// That no call is left.
 fn none_left(calls: &[Placed]) -> Result<(), AllocError>
-    ensures { OnOk result (calls.now ≡ []) }
+    ensures none { OnOk result (calls.now ≡ []) }
+    ensures some { OnErr result (calls.now ≡ [] → ⊥) }
 {
     if calls.is_empty() {
         return Ok(());

@@ -19,5 +19,5 @@ returns c =
     let head : c.put_heads.new.out.items ≡ heads c.args.ranks (policy_of c.args.policy) =
     c.in_ok-put_heads.ensures ∙ ap (λ (t : List ℕ). t ++ heads c.args.ranks (policy_of c.args.policy)) c.new-out.ensures.items in
     all_ranks_begun c.args.policy c.args.names.now c.args.calls.now c.loop-rank.left.now c.args.ranks c.put_heads.new.out.items c.loop-rank.out.items head
-    c.in_ok-none_left.ensures c.in_ok-some_ranks.ensures.some c.in_ok-some_ranks.ensures.most (omega (arith, c.loop-rank.out.small))
+    c.in_ok-none_left.ensures.none c.in_ok-some_ranks.ensures.some c.in_ok-some_ranks.ensures.most (omega (arith, c.loop-rank.out.small))
     (subst (λ (rank : ℕ). AreRanksBegun c.args.names.now c.args.calls.now c.loop-rank.left.now rank c.put_heads.new.out.items c.loop-rank.out.items) whole c.loop-rank.invariant)
