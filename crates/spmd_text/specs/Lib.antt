@@ -5,3 +5,9 @@ pub mod Labels
 pub mod Faults
 pub mod Texts
 pub mod Headings
+pub mod Joints
+pub mod Limits
+pub mod Reading
+pub mod Growing
+pub mod Found
+pub mod Parts

@@ -253,21 +253,31 @@ abbrev pub has_root : Option Expression → Bool
 has_root None = false
 has_root (Some e) = true
 
+-- the word that a call begins with
+abbrev pub call_word : Arguments → Word
+call_word (call.Send mode request d t c) = send_word mode request
+call_word (call.Receive request s t c) = receive_word request
+call_word (call.MatchedProbe handle s t c) = word.Mprobe
+call_word (call.Probe s t c) = word.Probe
+call_word (call.MatchedReceive request handle) = matched_word request
+call_word (call.Wait request) = word.Wait
+call_word (call.SendReceive d t s u c) = word.Sendrecv
+call_word (call.Collective k root g c) = kind_word k
+
+-- what stands behind the word
+abbrev pub after_arguments : Arguments → Rest → Rest
+after_arguments (call.Send mode request d t c) rest = after_communicator c (after_message d t (after_request request rest))
+after_arguments (call.Receive request s t c) rest = after_communicator c (after_pattern s t (after_request request rest))
+after_arguments (call.MatchedProbe handle s t c) rest = after_communicator c (after_pattern s t (after piece.Comma (after_label handle rest)))
+after_arguments (call.Probe s t c) rest = after_communicator c (after_pattern s t rest)
+after_arguments (call.MatchedReceive request handle) rest = after_label handle (after_request request rest)
+after_arguments (call.Wait request) rest = after_label request rest
+after_arguments (call.SendReceive d t s u c) rest = after_communicator c (after_pattern s u (after piece.Comma (after_message d t rest)))
+after_arguments (call.Collective k root g c) rest =
+    only (same (is_rooted k) (has_root root)) (after_communicator c (after_group g (after_root root rest)))
+
 abbrev pub after_call : Arguments → Rest → Rest
-after_call (call.Send mode request d t c) rest =
-    after_communicator c (after_message d t (after_request request (after (piece.Word (send_word mode request)) rest)))
-after_call (call.Receive request s t c) rest =
-    after_communicator c (after_pattern s t (after_request request (after (piece.Word (receive_word request)) rest)))
-after_call (call.MatchedProbe handle s t c) rest =
-    after_communicator c (after_pattern s t (after piece.Comma (after_label handle (after (piece.Word word.Mprobe) rest))))
-after_call (call.Probe s t c) rest = after_communicator c (after_pattern s t (after (piece.Word word.Probe) rest))
-after_call (call.MatchedReceive request handle) rest =
-    after_label handle (after_request request (after (piece.Word (matched_word request)) rest))
-after_call (call.Wait request) rest = after_label request (after (piece.Word word.Wait) rest)
-after_call (call.SendReceive d t s u c) rest =
-    after_communicator c (after_pattern s u (after piece.Comma (after_message d t (after (piece.Word word.Sendrecv) rest))))
-after_call (call.Collective k root g c) rest =
-    only (same (is_rooted k) (has_root root)) (after_communicator c (after_group g (after_root root (after (piece.Word (kind_word k)) rest))))
+after_call c rest = after_arguments c (after (piece.Word (call_word c)) rest)
 
 abbrev pub after_labels : Labels → Rest → Rest
 after_labels (Last f) rest = after_label f rest

@@ -3,6 +3,12 @@
 //! What is wrong is noted, and no piece is read behind it: what is then made of the parts is never
 //! used.
 
+ghost use Rattle.std.specs.Prelude.{◌≡◌, ◌+◌, IfOk, IfSome, None, Some, false, slice_get, true};
+ghost use Rattle.spmd_text.specs.Labels.{name_fits};
+ghost use Rattle.spmd_text.specs.Parts.{IsRight, Keeps, Reads, arguments_part, form_of, group_part, index_part, label_part, labels_part, optional_part, request_part, root_part, value_part, wild_part};
+ghost use Rattle.spmd_text.specs.Reading.{Goes};
+ghost use Rattle.spmd_text.specs.Spelling.{begins, is_rooted};
+
 use crate::blocks::stated;
 use crate::expressions::expression_at;
 use crate::fault::ParseReason;
@@ -13,7 +19,9 @@ use spmd_tree::{Arguments, Expression, GroupForm, Kind, LabelForm, Labels, Mode,
 use std::alloc::AllocError;
 
 /// Whether the name can be that of a request or handle.
-fn can_be_label(names: &[Vec<u8>], name: u32, indexed: bool) -> bool {
+fn can_be_label(names: &[Vec<u8>], name: u32, indexed: bool) -> bool
+    ensures { result ≡ name_fits (slice_get names.now name) indexed }
+{
     match names.get(name as usize) {
         None => false,
         Some(word) => is_label(word.as_slice(), indexed),
@@ -21,7 +29,9 @@ fn can_be_label(names: &[Vec<u8>], name: u32, indexed: bool) -> bool {
 }
 
 /// The index of a request or handle, where brackets stand.
-fn index(parser: &mut Parser<'_>) -> Option<Expression> {
+fn index(parser: &mut Parser<'_>) -> Option<Expression>
+    ensures { Reads (index_part parser.old.in_parameter) parser.old parser.new result }
+{
     if !parser.take(Piece::OpenIndex) {
         return None;
     }
@@ -30,26 +40,50 @@ fn index(parser: &mut Parser<'_>) -> Option<Expression> {
     Some(index)
 }
 
-/// A request or handle: a name, and maybe an index in brackets.
-fn label(parser: &mut Parser<'_>) -> LabelForm {
-    let name = parser.name();
-    let index = index(parser);
-    if !can_be_label(parser.names, name, index.is_some()) {
+/// Notes where the name can't be that of a request or handle.
+fn refuse_label(parser: &mut Parser<'_>, name: u32, indexed: bool)
+    ensures goes { Goes parser.old parser.new }
+    ensures sound { parser.new.fault ≡ None → (parser.new ≡ parser.old) × (name_fits (slice_get parser.old.names.now name) indexed ≡ true) }
+    ensures fits { name_fits (slice_get parser.old.names.now name) indexed ≡ true → parser.new ≡ parser.old }
+{
+    if !can_be_label(parser.names, name, indexed) {
         parser.fail(ParseReason::Label);
     }
+}
+
+/// A request or handle: a name, and maybe an index in brackets.
+fn label(parser: &mut Parser<'_>) -> LabelForm
+    ensures { Reads (label_part parser.old.in_parameter parser.old.names.now) parser.old parser.new result }
+{
+    let name = parser.name();
+    let index = index(parser);
+    refuse_label(parser, name, index.is_some());
     LabelForm { name, index }
 }
 
-/// A destination, which is no wildcard (MPI 4.1, section 3.2.4).
-fn destination(parser: &mut Parser<'_>) -> Expression {
+/// Notes where a wildcard stands.
+fn refuse_star(parser: &mut Parser<'_>)
+    ensures goes { Goes parser.old parser.new }
+    ensures sound { parser.new.fault ≡ None → parser.new ≡ parser.old }
+    ensures other { begins Piece.Star (Some parser.old.rest.now) ≡ false → parser.new ≡ parser.old }
+{
     if parser.is(Piece::Star) {
         parser.fail(ParseReason::StarDestination);
     }
+}
+
+/// A destination, which is no wildcard (MPI 4.1, section 3.2.4).
+fn destination(parser: &mut Parser<'_>) -> Expression
+    ensures { Reads (value_part parser.old.in_parameter) parser.old parser.new result }
+{
+    refuse_star(parser);
     expression_at(parser)
 }
 
 /// A source or a tag, or `*` for a wildcard.
-fn wild(parser: &mut Parser<'_>) -> Option<Expression> {
+fn wild(parser: &mut Parser<'_>) -> Option<Expression>
+    ensures { Reads (wild_part parser.old.in_parameter) parser.old parser.new result }
+{
     if parser.take(Piece::Star) {
         return None;
     }
@@ -57,7 +91,9 @@ fn wild(parser: &mut Parser<'_>) -> Option<Expression> {
 }
 
 /// An expression behind a word, where the word stands.
-fn optional(parser: &mut Parser<'_>, word: Word) -> Option<Expression> {
+fn optional(parser: &mut Parser<'_>, word: Word) -> Option<Expression>
+    ensures { Reads (optional_part parser.old.in_parameter word) parser.old parser.new result }
+{
     if !parser.take(Piece::Word(word)) {
         return None;
     }
@@ -65,7 +101,9 @@ fn optional(parser: &mut Parser<'_>, word: Word) -> Option<Expression> {
 }
 
 /// The request of a call that is started, with its comma.
-fn request(parser: &mut Parser<'_>, started: bool) -> Option<LabelForm> {
+fn request(parser: &mut Parser<'_>, started: bool) -> Option<LabelForm>
+    ensures { Reads (request_part parser.old.in_parameter parser.old.names.now started) parser.old parser.new result }
+{
     if !started {
         return None;
     }
@@ -75,7 +113,9 @@ fn request(parser: &mut Parser<'_>, started: bool) -> Option<LabelForm> {
 }
 
 /// A send after its word: the request where it is started, the destination and the tag.
-fn send(parser: &mut Parser<'_>, mode: Mode, started: bool) -> Arguments {
+fn send(parser: &mut Parser<'_>, mode: Mode, started: bool) -> Arguments
+    ensures { Reads (arguments_part parser.old.in_parameter parser.old.names.now (Form.Send mode started)) parser.old parser.new result }
+{
     let request = request(parser, started);
     let destination = destination(parser);
     parser.comma();
@@ -91,7 +131,9 @@ fn send(parser: &mut Parser<'_>, mode: Mode, started: bool) -> Arguments {
 }
 
 /// A receive after its word: the request where it is started, the source and the tag.
-fn receive(parser: &mut Parser<'_>, started: bool) -> Arguments {
+fn receive(parser: &mut Parser<'_>, started: bool) -> Arguments
+    ensures { Reads (arguments_part parser.old.in_parameter parser.old.names.now (Form.Receive started)) parser.old parser.new result }
+{
     let request = request(parser, started);
     let source = wild(parser);
     parser.comma();
@@ -106,7 +148,9 @@ fn receive(parser: &mut Parser<'_>, started: bool) -> Arguments {
 }
 
 /// A matched probe after its word: the handle, the source and the tag.
-fn matched_probe(parser: &mut Parser<'_>) -> Arguments {
+fn matched_probe(parser: &mut Parser<'_>) -> Arguments
+    ensures { Reads (arguments_part parser.old.in_parameter parser.old.names.now Form.MatchedProbe) parser.old parser.new result }
+{
     let handle = label(parser);
     parser.comma();
     let source = wild(parser);
@@ -122,7 +166,9 @@ fn matched_probe(parser: &mut Parser<'_>) -> Arguments {
 }
 
 /// A probe after its word: the source and the tag.
-fn probe(parser: &mut Parser<'_>) -> Arguments {
+fn probe(parser: &mut Parser<'_>) -> Arguments
+    ensures { Reads (arguments_part parser.old.in_parameter parser.old.names.now Form.Probe) parser.old parser.new result }
+{
     let source = wild(parser);
     parser.comma();
     let tag = wild(parser);
@@ -135,7 +181,9 @@ fn probe(parser: &mut Parser<'_>) -> Arguments {
 }
 
 /// The ranks of a collective call.
-fn group(parser: &mut Parser<'_>) -> Option<GroupForm> {
+fn group(parser: &mut Parser<'_>) -> Option<GroupForm>
+    ensures { Reads (group_part parser.old.in_parameter) parser.old parser.new result }
+{
     if !parser.take(Piece::Word(Word::Among)) {
         return None;
     }
@@ -147,7 +195,9 @@ fn group(parser: &mut Parser<'_>) -> Option<GroupForm> {
 }
 
 /// The root of a collective call that has one.
-fn root(parser: &mut Parser<'_>, rooted: bool) -> Option<Expression> {
+fn root(parser: &mut Parser<'_>, rooted: bool) -> Option<Expression>
+    ensures { Reads (root_part parser.old.in_parameter rooted) parser.old parser.new result }
+{
     if !rooted {
         return None;
     }
@@ -155,7 +205,9 @@ fn root(parser: &mut Parser<'_>, rooted: bool) -> Option<Expression> {
 }
 
 /// A collective call after its word: the root where it has one, and its group.
-fn collective(parser: &mut Parser<'_>, kind: Kind, rooted: bool) -> Arguments {
+fn collective(parser: &mut Parser<'_>, kind: Kind, rooted: bool) -> Arguments
+    ensures { rooted ≡ is_rooted kind → Reads (arguments_part parser.old.in_parameter parser.old.names.now (Form.Collective kind rooted)) parser.old parser.new result }
+{
     let root = root(parser, rooted);
     let group = group(parser);
     let communicator = optional(parser, Word::Comm);
@@ -168,14 +220,18 @@ fn collective(parser: &mut Parser<'_>, kind: Kind, rooted: bool) -> Arguments {
 }
 
 /// A receive on a handle after its word: the request where it is started, and the handle.
-fn matched_receive(parser: &mut Parser<'_>, started: bool) -> Arguments {
+fn matched_receive(parser: &mut Parser<'_>, started: bool) -> Arguments
+    ensures { Reads (arguments_part parser.old.in_parameter parser.old.names.now (Form.MatchedReceive started)) parser.old parser.new result }
+{
     let request = request(parser, started);
     let handle = label(parser);
     Arguments::MatchedReceive { request, handle }
 }
 
 /// A joined send and receive after its word.
-fn send_receive(parser: &mut Parser<'_>) -> Arguments {
+fn send_receive(parser: &mut Parser<'_>) -> Arguments
+    ensures { Reads (arguments_part parser.old.in_parameter parser.old.names.now Form.SendReceive) parser.old parser.new result }
+{
     let destination = destination(parser);
     parser.comma();
     let send_tag = expression_at(parser);
@@ -194,13 +250,18 @@ fn send_receive(parser: &mut Parser<'_>) -> Arguments {
 }
 
 /// A wait after its word.
-fn wait(parser: &mut Parser<'_>) -> Arguments {
+fn wait(parser: &mut Parser<'_>) -> Arguments
+    ensures { Reads (arguments_part parser.old.in_parameter parser.old.names.now Form.Wait) parser.old parser.new result }
+{
     let request = label(parser);
     Arguments::Wait { request }
 }
 
 /// The requests of a `waitall`, in their order, of which so many may follow the first.
-fn labels(parser: &mut Parser<'_>, most: u32) -> Result<Labels, AllocError> {
+fn labels(parser: &mut Parser<'_>, most: u32) -> Result<Labels, AllocError>
+    ensures goes { Keeps parser.old parser.new }
+    ensures reads { IfOk result (λ found. Reads (labels_part parser.old.in_parameter parser.old.names.now (most + 1)) parser.old parser.new found) }
+{
     let form = label(parser);
     if !parser.take(Piece::Comma) {
         return Ok(Labels::Last(form));
@@ -234,7 +295,10 @@ enum Form {
 }
 
 /// What the word begins, where that is a call.
-fn form_of(word: Word) -> Option<Form> {
+fn form_of(word: Word) -> Option<Form>
+    ensures form { result ≡ form_of word }
+    ensures right { IfSome result IsRight }
+{
     match word {
         Word::Send => Some(Form::Send(Mode::Standard, false)),
         Word::Ssend => Some(Form::Send(Mode::Synchronous, false)),
@@ -264,7 +328,9 @@ fn form_of(word: Word) -> Option<Form> {
 }
 
 /// The arguments of a call of this form.
-fn arguments(parser: &mut Parser<'_>, form: Form) -> Arguments {
+fn arguments(parser: &mut Parser<'_>, form: Form) -> Arguments
+    ensures { IsRight form → Reads (arguments_part parser.old.in_parameter parser.old.names.now form) parser.old parser.new result }
+{
     match form {
         Form::Send(mode, started) => send(parser, mode, started),
         Form::Receive(started) => receive(parser, started),

@@ -1,6 +1,13 @@
 //! What joins the parts of expressions, and how they are put together.
 
-ghost use Rattle.std.specs.Prelude.{◌≤◌};
+ghost use Rattle.std.specs.Prelude.{◌≡◌, ◌≤◌, true, Ok, IfOk};
+ghost use Rattle.spmd_tree.specs.declared.tree.Expression.{Expression};
+ghost use Rattle.spmd_tree.specs.declared.tree.Expression.TheVariants as form;
+ghost use Rattle.spmd_text.specs.declared.joints.Row.{Row};
+ghost use Rattle.spmd_text.specs.Found.{IsLonger};
+ghost use Rattle.spmd_text.specs.Growing.{enclosed, leaf_of, IsRow};
+ghost use Rattle.spmd_text.specs.Joints.{binding_of, goes_on, is_lone, joined, joint_ahead, joint_of, joins_conditions, may_join, Place};
+ghost use Rattle.spmd_text.specs.Limits.{parts};
 
 use crate::fault::ParseReason;
 use crate::piece::{Piece, Word};
@@ -28,7 +35,9 @@ pub(crate) enum Prefix {
 }
 
 /// What the piece joins two parts by, where it does.
-pub(crate) fn joint_of(piece: Piece) -> Option<Joint> {
+pub(crate) fn joint_of(piece: Piece) -> Option<Joint>
+    ensures { result ≡ joint_of piece }
+{
     match piece {
         Piece::Word(Word::Or) => Some(Joint::Or),
         Piece::Word(Word::And) => Some(Joint::And),
@@ -52,7 +61,8 @@ pub(crate) fn joint_of(piece: Piece) -> Option<Joint> {
 
 /// How close a joint binds.
 pub(crate) fn binding_of(joint: Joint) -> u32
-    ensures { result ≤ 5 }
+    ensures most { result ≤ 5 }
+    ensures binding { result ≡ binding_of joint }
 {
     match joint {
         Joint::Or => 0,
@@ -65,7 +75,9 @@ pub(crate) fn binding_of(joint: Joint) -> u32
 }
 
 /// Whether the joint has to stand alone between two factors.
-fn is_lone(joint: Joint) -> bool {
+fn is_lone(joint: Joint) -> bool
+    ensures { result ≡ is_lone joint }
+{
     match joint {
         Joint::Or => false,
         Joint::And => false,
@@ -78,7 +90,9 @@ fn is_lone(joint: Joint) -> bool {
 }
 
 /// Whether the joint is one of conditions.
-pub(crate) fn joins_conditions(joint: Joint) -> bool {
+pub(crate) fn joins_conditions(joint: Joint) -> bool
+    ensures { result ≡ joins_conditions joint }
+{
     match joint {
         Joint::Or => true,
         Joint::And => true,
@@ -96,16 +110,39 @@ pub(crate) struct Row {
     pub(crate) lone: bool,
 }
 
-/// Whether a joint that binds so close goes on with the row: comparisons stand alone.
-pub(crate) fn goes_on(row: Row, binding: u32) -> bool {
-    if row.binding == COMPARISON {
-        return binding < COMPARISON;
+/// Whether a joint that binds so close goes on with a row of joints that bind so close: comparisons
+/// stand alone.
+fn goes_on(row: u32, binding: u32) -> bool
+    ensures { result ≡ goes_on row binding }
+{
+    if row == COMPARISON {
+        binding < COMPARISON
+    } else {
+        binding <= row
     }
-    binding <= row.binding
+}
+
+/// The joint of the piece, where it binds at least so close and goes on with the row.
+pub(crate) fn joint_ahead(piece: Piece, row: u32, least: u32) -> Option<Joint>
+    ensures { result ≡ joint_ahead (joint_of piece) row least }
+{
+    let Some(joint) = joint_of(piece) else {
+        return None;
+    };
+    let binding = binding_of(joint);
+    if least <= binding && goes_on(row, binding) {
+        Some(joint)
+    } else {
+        None
+    }
 }
 
 /// The row with one joint more: 256 parts at most.
-pub(crate) fn longer(row: Row, joint: Joint, binding: u32) -> Result<Row, ParseReason> {
+pub(crate) fn longer(row: Row, joint: Joint) -> Result<Row, ParseReason>
+    ensures complete { (a b : Expression) (p q : Place) → IsRow row a → may_join joint a b ≡ true → parts (joined joint p a q b) ≤ 256 → (next : Row) × (result ≡ Ok next) × IsRow next (joined joint p a q b) }
+    ensures sound { (next : Row) (a b : Expression) (p q : Place) → result ≡ Ok next → IsRow row a → IsLonger row next joint p a q b }
+{
+    let binding = binding_of(joint);
     let lone = is_lone(joint);
     if row.binding != binding {
         return Ok(Row {
@@ -132,7 +169,9 @@ fn two(
     alloc: Global,
     a: Expression,
     b: Expression,
-) -> Result<(Box<Expression>, Box<Expression>), AllocError> {
+) -> Result<(Box<Expression>, Box<Expression>), AllocError>
+    ensures { IfOk result (λ both. (both.0.value ≡ a) × (both.1.value ≡ b)) }
+{
     let a = Box::new(alloc, a)?;
     let b = Box::new(alloc, b)?;
     Ok((a, b))
@@ -144,7 +183,9 @@ pub(crate) fn pair(
     joint: Joint,
     a: Expression,
     b: Expression,
-) -> Result<Expression, AllocError> {
+) -> Result<Expression, AllocError>
+    ensures { IfOk result (λ made. (p : Place) × (q : Place) × (made ≡ joined joint p a q b)) }
+{
     let (a, b) = two(alloc, a, b)?;
     Ok(match joint {
         Joint::Or => Expression::Either(a, b),
@@ -159,7 +200,9 @@ pub(crate) fn enclosed(
     alloc: Global,
     prefix: Prefix,
     inner: Expression,
-) -> Result<Expression, AllocError> {
+) -> Result<Expression, AllocError>
+    ensures { IfOk result (λ made. (p : Place) × (made ≡ enclosed prefix p inner)) }
+{
     let inner = Box::new(alloc, inner)?;
     Ok(match prefix {
         Prefix::Not => Expression::Negation(inner),
@@ -174,14 +217,18 @@ pub(crate) fn choice(
     condition: Expression,
     yes: Expression,
     no: Expression,
-) -> Result<Expression, AllocError> {
+) -> Result<Expression, AllocError>
+    ensures { IfOk result (λ made. (p : Place) × (q : Place) × (s : Place) × (made ≡ form.Choice' p condition q yes s no)) }
+{
     let (yes, no) = two(alloc, yes, no)?;
     let condition = Box::new(alloc, condition)?;
     Ok(Expression::Choice(condition, yes, no))
 }
 
 /// An expression of one piece.
-pub(crate) fn leaf_of(piece: Piece) -> Option<Expression> {
+pub(crate) fn leaf_of(piece: Piece) -> Option<Expression>
+    ensures { result ≡ leaf_of piece }
+{
     match piece {
         Piece::Number(number) => Some(Expression::Literal(number)),
         Piece::Name(name) => Some(Expression::Named(name)),

@@ -9,7 +9,7 @@ use crate::fault::{ParseFault, ParseReason, TextFault};
 use crate::labels::all_fit;
 use crate::lines::lines;
 use crate::parser::Parser;
-use crate::piece::Pieces;
+use crate::piece::{Pieces, Token};
 use crate::spelled_text::is_spelled;
 use spmd_tree::Statement;
 use std::alloc::{AllocError, Global};
@@ -40,13 +40,21 @@ pub struct Text {
     pub parameters: Vec<u32>,
 }
 
+/// The line of the last piece; 1 where there is none.
+fn last_line(tokens: &[Token]) -> u32 {
+    match tokens.last() {
+        Some(token) => token.line,
+        None => 1,
+    }
+}
+
 /// Reads the statements.
 fn read(alloc: Global, found: &Pieces) -> Result<Program, ParseFault> {
     let mut parser = Parser {
         alloc,
-        tokens: found.tokens.as_slice(),
+        rest: found.tokens.as_slice(),
         names: found.names.as_slice(),
-        at: 0,
+        last_line: last_line(&found.tokens),
         parameters: Vec::new(alloc),
         loops: Vec::new(alloc),
         in_parameter: false,

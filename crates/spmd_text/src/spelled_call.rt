@@ -1,7 +1,7 @@
 //! What is left of pieces behind a call.
 
 ghost use Rattle.std.specs.Prelude.{◌≡◌};
-ghost use Rattle.spmd_text.specs.Spelling.{left, after, only, same, after_label, after_request, after_communicator, after_message, after_pattern, after_root, after_group, send_word, receive_word, matched_word, kind_word, is_rooted, has_root, after_call, after_labels};
+ghost use Rattle.spmd_text.specs.Spelling.{left, after, only, same, after_label, after_request, after_communicator, after_message, after_pattern, after_root, after_group, send_word, receive_word, matched_word, kind_word, is_rooted, has_root, call_word, after_arguments, after_call, after_labels};
 
 use crate::piece::{Piece, Token, Word};
 use crate::precedence::same;
@@ -92,23 +92,35 @@ fn has_root(root: &Option<Expression>) -> bool
     }
 }
 
-/// What is left behind a call.
-pub(crate) fn after_call<'a>(
-    arguments: &Arguments,
-    tokens: Option<&'a [Token]>,
-) -> Option<&'a [Token]>
-    ensures { left result ≡ after_call arguments.now (left tokens.entry) }
+/// The word that a call begins with.
+fn call_word(arguments: &Arguments) -> Word
+    ensures { result ≡ call_word arguments.now }
+{
+    match arguments {
+        Arguments::Send { mode, request, .. } => send_word(*mode, request),
+        Arguments::Receive { request, .. } => receive_word(request),
+        Arguments::MatchedProbe { .. } => Word::Mprobe,
+        Arguments::Probe { .. } => Word::Probe,
+        Arguments::MatchedReceive { request, .. } => matched_word(request),
+        Arguments::Wait { .. } => Word::Wait,
+        Arguments::SendReceive { .. } => Word::Sendrecv,
+        Arguments::Collective { kind, .. } => kind_word(*kind),
+    }
+}
+
+/// What is left behind a call, of what stands behind its word.
+fn after_arguments<'a>(arguments: &Arguments, tokens: Option<&'a [Token]>) -> Option<&'a [Token]>
+    ensures { left result ≡ after_arguments arguments.now (left tokens.entry) }
 {
     match arguments {
         Arguments::Send {
-            mode,
             request,
             destination,
             tag,
             communicator,
+            ..
         } => {
-            let rest = after(Piece::Word(send_word(*mode, request)), tokens);
-            let rest = after_message(destination, tag, after_request(request, rest));
+            let rest = after_message(destination, tag, after_request(request, tokens));
             after_communicator(communicator, rest)
         }
         Arguments::Receive {
@@ -117,8 +129,7 @@ pub(crate) fn after_call<'a>(
             tag,
             communicator,
         } => {
-            let rest = after(Piece::Word(receive_word(request)), tokens);
-            let rest = after_pattern(source, tag, after_request(request, rest));
+            let rest = after_pattern(source, tag, after_request(request, tokens));
             after_communicator(communicator, rest)
         }
         Arguments::MatchedProbe {
@@ -127,23 +138,18 @@ pub(crate) fn after_call<'a>(
             tag,
             communicator,
         } => {
-            let rest = after_label(handle, after(Piece::Word(Word::Mprobe), tokens));
-            let rest = after_pattern(source, tag, after(Piece::Comma, rest));
-            after_communicator(communicator, rest)
+            let rest = after(Piece::Comma, after_label(handle, tokens));
+            after_communicator(communicator, after_pattern(source, tag, rest))
         }
         Arguments::Probe {
             source,
             tag,
             communicator,
-        } => {
-            let rest = after_pattern(source, tag, after(Piece::Word(Word::Probe), tokens));
-            after_communicator(communicator, rest)
-        }
+        } => after_communicator(communicator, after_pattern(source, tag, tokens)),
         Arguments::MatchedReceive { request, handle } => {
-            let rest = after(Piece::Word(matched_word(request)), tokens);
-            after_label(handle, after_request(request, rest))
+            after_label(handle, after_request(request, tokens))
         }
-        Arguments::Wait { request } => after_label(request, after(Piece::Word(Word::Wait), tokens)),
+        Arguments::Wait { request } => after_label(request, tokens),
         Arguments::SendReceive {
             destination,
             send_tag,
@@ -151,10 +157,8 @@ pub(crate) fn after_call<'a>(
             receive_tag,
             communicator,
         } => {
-            let rest = after(Piece::Word(Word::Sendrecv), tokens);
-            let rest = after(Piece::Comma, after_message(destination, send_tag, rest));
-            let rest = after_pattern(source, receive_tag, rest);
-            after_communicator(communicator, rest)
+            let rest = after(Piece::Comma, after_message(destination, send_tag, tokens));
+            after_communicator(communicator, after_pattern(source, receive_tag, rest))
         }
         Arguments::Collective {
             kind,
@@ -162,11 +166,21 @@ pub(crate) fn after_call<'a>(
             group,
             communicator,
         } => {
-            let rest = after_root(root, after(Piece::Word(kind_word(*kind)), tokens));
-            let rest = after_communicator(communicator, after_group(group, rest));
+            let rest = after_group(group, after_root(root, tokens));
+            let rest = after_communicator(communicator, rest);
             only(same(is_rooted(*kind), has_root(root)), rest)
         }
     }
+}
+
+/// What is left behind a call.
+pub(crate) fn after_call<'a>(
+    arguments: &Arguments,
+    tokens: Option<&'a [Token]>,
+) -> Option<&'a [Token]>
+    ensures { left result ≡ after_call arguments.now (left tokens.entry) }
+{
+    after_arguments(arguments, after(Piece::Word(call_word(arguments)), tokens))
 }
 
 /// What is left behind the requests of a `waitall`.
