@@ -20,7 +20,7 @@ use Rattle.spmd_text.specs.declared.piece.Token.{Token}
 use Rattle.spmd_text.specs.Spelling.{Rest, after, after_expression, fits, is_condition}
 use Rattle.spmd_text.specs.Joints.{joint_of, joint_piece, joint_ahead, binding_of, closeness, joins_conditions, goes_on, Place, joined, may_join, is_below, stops}
 use Rattle.spmd_text.specs.Limits.{parts, is_narrow, has_no_rank, IsWithin}
-use Rattle.spmd_text.specs.Growing.{is_operand, opening, begun, enclosed, ends_prefix, inside, IsRow, Part, whole, Grows, done, more, Growing, MayBegin}
+use Rattle.spmd_text.specs.Growing.{is_operand, opening, begun, enclosed, ends_prefix, inside, IsRow, Joining, whole, Becomes, done, more, Growing, MayBegin}
 use Rattle.spmd_text.specs.Reading.{next, next_of, behind, Ahead, Alike, Finds, Goes, MayStand, Stands}
 use Rattle.spmd_text.proofs.Alike.{alike_condition}
 use Rattle.spmd_text.proofs.Going.{goes_on as goes_further, same_kind, found_then}
@@ -75,12 +75,12 @@ first_joint j here rest is =
 
 -- the part that stands ahead, with this joint
 pub record Next (depth : ℕ) (in_parameter : Bool) (e : Expression) (rest : List Token) (tree : Expression) (here : List Token) (j : Joint) : Type 0 where
-  pub part : Part depth in_parameter tree here
-  pub grows : Grows depth in_parameter e rest (whole part) part.behind
+  pub part : Joining depth in_parameter tree here
+  pub grows : Becomes depth in_parameter e rest (whole part) part.behind
   pub by_is : part.by ≡ j
 
 next_at : (depth : ℕ) (in_parameter : Bool) (e : Expression) (rest : List Token) (tree : Expression) (here : List Token) (row least : ℕ) (j : Joint)
-    → Grows depth in_parameter e rest tree here → stops least rest ≡ true → joint_ahead (joint_of (next_of None here)) row least ≡ Some j → Next depth in_parameter e rest tree here j
+    → Becomes depth in_parameter e rest tree here → stops least rest ≡ true → joint_ahead (joint_of (next_of None here)) row least ≡ Some j → Next depth in_parameter e rest tree here j
 next_at depth in_parameter e rest tree here row least j (done is ends) stop ahead =
     let never : None ≡ Some j = sym (stops_ahead rest row least stop) ∙ (ap (λ (x : List Token). joint_ahead (joint_of (next_of None x)) row least) (sym ends) ∙ ahead) in
     absurd cc
@@ -93,7 +93,7 @@ next_sound s sound = ap (λ (f : Option _). next_of f s.rest.now) sound
 
 -- there is no part more
 ended_at : (depth : ℕ) (in_parameter : Bool) (e : Expression) (rest : List Token) (tree : Expression) (here : List Token) (row : Row) (least : ℕ)
-    → IsRow row tree → Grows depth in_parameter e rest tree here → least ≤ closeness e
+    → IsRow row tree → Becomes depth in_parameter e rest tree here → least ≤ closeness e
     → ((j : Joint) → joint_ahead (joint_of (next_of None here)) row.binding least ≡ Some j → ⊥) → (tree ≡ e) × (here ≡ rest)
 ended_at depth in_parameter e rest tree here row least is_row (done is ends) close none = (is, ends)
 ended_at depth in_parameter e rest tree here row least is_row (more part g) close none =
@@ -179,11 +179,11 @@ grown s s2 s3 s4 s5 left right made row longer j least depth close kind found e 
     (read part.right part.behind ahead stand) goes5.sticks
     (λ stands4 alike. put g.tree part.right part.left_place part.right_place part.behind stands4 g.alike alike fit))
     long kind5
-    (subst (λ (x : Joint). Grows depth s.in_parameter e rest (joined x part.left_place g.tree part.right_place part.right) part.behind) n.by_is n.grows)
+    (subst (λ (x : Joint). Becomes depth s.in_parameter e rest (joined x part.left_place g.tree part.right_place part.right) part.behind) n.by_is n.grows)
     g.close g.ends
   where
     grown_from : (t : Parser) (made : Expression) (longer : Row) (least depth : ℕ) (e : Expression) (rest : List Token) (tree : Expression) (here : List Token) (in_parameter : Bool)
-        → Finds t here (Alike made tree) → IsRow longer tree → t.in_parameter ≡ in_parameter → Grows depth in_parameter e rest tree here → least ≤ closeness e → stops least rest ≡ true
+        → Finds t here (Alike made tree) → IsRow longer tree → t.in_parameter ≡ in_parameter → Becomes depth in_parameter e rest tree here → least ≤ closeness e → stops least rest ≡ true
         → (t.fault ≡ Some Memory) ⊎ Growing t made longer least depth e rest
     grown_from t made longer least depth e rest tree here in_parameter (inl memory) is_row kind g close ends = inl memory
     grown_from t made longer least depth e rest tree here in_parameter (inr found) is_row kind g close ends = inr (record {
@@ -191,7 +191,7 @@ grown s s2 s3 s4 s5 left right made row longer j least depth close kind found e 
       tree = tree;
       alike = found.1;
       row_so = is_row;
-      grows = subst (λ (x : List Token). Grows depth t.in_parameter e rest tree x) (sym found.0.left) (subst (λ (k : Bool). Grows depth k e rest tree here) (sym kind) g);
+      grows = subst (λ (x : List Token). Becomes depth t.in_parameter e rest tree x) (sym found.0.left) (subst (λ (k : Bool). Becomes depth k e rest tree here) (sym kind) g);
       close = close;
       ends = ends;
     })

@@ -151,3 +151,16 @@ group_ends c here rest e line =
     (both_true (lacks (piece.Word word.Among) here) (lacks (piece.Word word.Step) here)
     (line_or_comm (lacks (piece.Word word.Among)) (λ q. not (is_piece (piece.Word word.Among) q)) (lacks_tests (piece.Word word.Among)) refl refl c here rest e line)
     (line_or_comm (lacks (piece.Word word.Step)) (λ q. not (is_piece (piece.Word word.Step) q)) (lacks_tests (piece.Word word.Step)) refl refl c here rest e line))
+
+pub line_end_stops : (here rest : List Token) → after piece.LineEnd (Some here) ≡ Some rest → stops 4 here ≡ true
+unfolding stop_test
+line_end_stops here rest e = before_piece (stops 4) stop_test (stops_tests 4) piece.LineEnd refl here rest e
+
+pub line_end_labels : (here rest : List Token) → after piece.LineEnd (Some here) ≡ Some rest → (lacks piece.OpenIndex here && lacks piece.Comma here) ≡ true
+line_end_labels here rest e =
+    both_true (lacks piece.OpenIndex here) (lacks piece.Comma here)
+    (before_piece (lacks piece.OpenIndex) (λ q. not (is_piece piece.OpenIndex q)) (lacks_tests piece.OpenIndex) piece.LineEnd refl here rest e)
+    (before_piece (lacks piece.Comma) (λ q. not (is_piece piece.Comma q)) (lacks_tests piece.Comma) piece.LineEnd refl here rest e)
+
+pub line_end_begins : (here rest : List Token) → after piece.LineEnd (Some here) ≡ Some rest → begins piece.LineEnd (Some here) ≡ true
+line_end_begins here rest e = before_piece (λ xs. begins piece.LineEnd (Some xs)) (is_piece piece.LineEnd) (λ t ts. refl) piece.LineEnd refl here rest e

@@ -16,7 +16,7 @@ goes_on a b c f g = record {
   sticks = λ why e. g.sticks why (f.sticks why e);
 }
 
-noted_sticks : (fault : Option ParseReason) (reason why : ParseReason) → fault ≡ Some why → noted fault reason ≡ Some why
+pub noted_sticks : (fault : Option ParseReason) (reason why : ParseReason) → fault ≡ Some why → noted fault reason ≡ Some why
 noted_sticks None reason why e = absurd cc
 noted_sticks (Some first) reason why e = e
 
@@ -52,7 +52,7 @@ pub ended_or : (s : Parser) (rest : List Token) (P Q : Type 0) → (s.fault ≡ 
 ended_or s rest P Q (inl memory) go = inl memory
 ended_or s rest P Q (inr p) go = inr (go p)
 
-sound_or : (old new : Option ParseReason) → ((why : ParseReason) → old ≡ Some why → new ≡ Some why) → new ≡ None → old ≡ None
+pub sound_or : (old new : Option ParseReason) → ((why : ParseReason) → old ≡ Some why → new ≡ Some why) → new ≡ None → old ≡ None
 sound_or None new sticks is = refl
 sound_or (Some why) new sticks is = let never : None ≡ Some why = sym is ∙ sticks why refl in absurd cc
 
@@ -60,7 +60,7 @@ sound_or (Some why) new sticks is = let never : None ≡ Some why = sym is ∙ s
 pub sound_before : (s t : Parser) → Goes s t → t.fault ≡ None → s.fault ≡ None
 sound_before s t g is = sound_or s.fault t.fault g.sticks is
 
-noted_never : (fault : Option ParseReason) (reason : ParseReason) → noted fault reason ≡ None → ⊥
+pub noted_never : (fault : Option ParseReason) (reason : ParseReason) → noted fault reason ≡ None → ⊥
 noted_never None reason e = cc
 noted_never (Some why) reason e = cc
 

@@ -13,7 +13,7 @@ use Rattle.spmd_text.specs.declared.piece.Token.{Token}
 use Rattle.spmd_text.specs.Spelling.{Rest, only, after, after_expression, is_condition, binding, same, fits}
 use Rattle.spmd_text.specs.Joints.{joint_of, joint_piece, binding_of, closeness, joins_conditions, Place, joined, left_least, right_least, may_join, is_below, stops, goes_on}
 use Rattle.spmd_text.specs.Limits.{nesting, parts, row_of, is_narrow, has_no_rank, IsWithin}
-use Rattle.spmd_text.specs.Growing.{is_operand, whole, Grows, done, more}
+use Rattle.spmd_text.specs.Growing.{is_operand, whole, Becomes, done, more}
 use Rattle.spmd_text.proofs.Pieces.{taken}
 
 -- ---- nothing begins with nothing
@@ -220,18 +220,18 @@ pub record First (depth : ℕ) (in_parameter : Bool) (e : Expression) (rest here
   pub operand : is_operand part ≡ true
   pub spelled : after_expression part (Some here) ≡ Some behind
   pub within : IsWithin depth in_parameter part
-  pub grows : Grows depth in_parameter e rest part behind
+  pub grows : Becomes depth in_parameter e rest part behind
 
 -- the left part, with what goes on from it
 pub record Left (depth : ℕ) (in_parameter : Bool) (e : Expression) (rest : List Token) (a : Expression) (here : List Token) : Type 0 where
   pub behind : List Token
   pub spelled : after_expression a (Some here) ≡ Some behind
   pub within : IsWithin depth in_parameter a
-  pub grows : Grows depth in_parameter e rest a behind
+  pub grows : Becomes depth in_parameter e rest a behind
 
 left_first : (depth : ℕ) (in_parameter : Bool) (e : Expression) (rest : List Token) (j : Joint) (p : Place) (a : Expression) (q : Place) (b : Expression) (here behind : List Token)
     → after_expression (joined j p a q b) (Some here) ≡ Some behind → IsWithin depth in_parameter (joined j p a q b)
-    → Grows depth in_parameter e rest (joined j p a q b) behind → Left depth in_parameter e rest a here
+    → Becomes depth in_parameter e rest (joined j p a q b) behind → Left depth in_parameter e rest a here
 left_first depth in_parameter e rest j p a q b here behind is w g =
     let fit = only_so (may_join j a b) (after_expression b (after (joint_piece j) (after_expression a (Some here)))) behind (sym (spelled_joined j p a q b (Some here)) ∙ is) in
     let before = some_before b (after (joint_piece j) (after_expression a (Some here))) behind fit.1 in
@@ -257,7 +257,7 @@ left_first depth in_parameter e rest j p a q b here behind is w g =
     }
 
 pub first : (depth : ℕ) (in_parameter : Bool) (e : Expression) (rest : List Token) (a : Expression) (here behind : List Token)
-    → after_expression a (Some here) ≡ Some behind → IsWithin depth in_parameter a → Grows depth in_parameter e rest a behind → First depth in_parameter e rest here
+    → after_expression a (Some here) ≡ Some behind → IsWithin depth in_parameter a → Becomes depth in_parameter e rest a behind → First depth in_parameter e rest here
 first depth in_parameter e rest (form.Binary' o p a q b) here behind is w g =
     let l = left_first depth in_parameter e rest (joint.Between o) p a q b here behind is w g in
     first depth in_parameter e rest a here l.behind l.spelled l.within l.grows
@@ -306,21 +306,21 @@ stops_at j here next k is h =
 pub stops_before : (p : Piece) (here next : List Token) (k : ℕ) → after p (Some here) ≡ Some next → joint_of p ≡ None → stops k here ≡ true
 stops_before p here next k is none = joint_of_first p here next k is ∙ ap (λ (o : Option Joint). is_below o k) none
 
-pub grown_close : (depth : ℕ) (in_parameter : Bool) (e : Expression) (rest : List Token) (a : Expression) (here : List Token) → Grows depth in_parameter e rest a here → closeness e ≤ closeness a
+pub grown_close : (depth : ℕ) (in_parameter : Bool) (e : Expression) (rest : List Token) (a : Expression) (here : List Token) → Becomes depth in_parameter e rest a here → closeness e ≤ closeness a
 grown_close depth in_parameter e rest a here (done is ends) = omega (arith, ap closeness is)
 grown_close depth in_parameter e rest a here (more part g) =
     omega (arith, grown_close depth in_parameter e rest (whole part) part.behind g, closeness_joined part.by part.left_place a part.right_place part.right, left_of_joint part.by a part.right part.joins)
 
 -- no joint follows that binds closer than what was read
 pub grown_stops : (depth : ℕ) (in_parameter : Bool) (e : Expression) (rest : List Token) (a : Expression) (here : List Token) (least : ℕ)
-    → Grows depth in_parameter e rest a here → least ≤ closeness e → stops least rest ≡ true → stops (closeness a + 1) here ≡ true
+    → Becomes depth in_parameter e rest a here → least ≤ closeness e → stops least rest ≡ true → stops (closeness a + 1) here ≡ true
 grown_stops depth in_parameter e rest a here least (done is ends) h stop =
     subst (λ (x : List Token). stops (closeness a + 1) x ≡ true) (sym ends) (stops_more rest least (closeness a + 1) (omega (arith, ap closeness is)) stop)
 grown_stops depth in_parameter e rest a here least (more part g) h stop =
     stops_at part.by here part.next (closeness a + 1) part.begins (omega (arith, left_of_joint part.by a part.right part.joins))
 
 pub operand_stops : (depth : ℕ) (in_parameter : Bool) (e : Expression) (rest : List Token) (a : Expression) (here : List Token) (least : ℕ)
-    → Grows depth in_parameter e rest a here → is_operand a ≡ true → least ≤ closeness e → stops least rest ≡ true → stops (closeness a) here ≡ true
+    → Becomes depth in_parameter e rest a here → is_operand a ≡ true → least ≤ closeness e → stops least rest ≡ true → stops (closeness a) here ≡ true
 operand_stops depth in_parameter e rest a here least (done is ends) f h stop =
     subst (λ (x : List Token). stops (closeness a) x ≡ true) (sym ends) (stops_more rest least (closeness a) (omega (arith, ap closeness is)) stop)
 operand_stops depth in_parameter e rest a here least (more part g) f h stop =
@@ -328,7 +328,7 @@ operand_stops depth in_parameter e rest a here least (more part g) f h stop =
 
 -- where a number has to stand, its first part is one
 pub grown_number : (depth : ℕ) (in_parameter : Bool) (e : Expression) (rest : List Token) (a : Expression) (here : List Token)
-    → Grows depth in_parameter e rest a here → 4 ≤ closeness e → is_condition e ≡ false → is_condition a ≡ false
+    → Becomes depth in_parameter e rest a here → 4 ≤ closeness e → is_condition e ≡ false → is_condition a ≡ false
 grown_number depth in_parameter e rest a here (done is ends) h number = ap is_condition is ∙ number
 grown_number depth in_parameter e rest a here (more part g) h number =
     left_number part.by a part.right part.joins

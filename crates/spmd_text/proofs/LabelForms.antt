@@ -1,10 +1,10 @@
 -- A request or handle is read: a name and an index, where the name may be one.
-use Rattle.std.proofs.Common.{◌≡◌, ℕ, ◌+◌, ◌≤◌, arith, ◌&&◌, Box, Global, Bool, true, false, List, Option, Some, None, is_some, slice_get, refl, ap, sym, subst, ◌∙◌, inl, inr}
+use Rattle.std.proofs.Common.{◌≡◌, ℕ, ◌+◌, ◌≤◌, arith, ◌&&◌, Bool, true, false, List, Option, Some, None, is_some, slice_get, refl, ap, sym, subst, ◌∙◌, inl, inr}
 use Rattle.std.specs.Global.{Vec}
 use Rattle.spmd_tree.specs.declared.tree.Expression.{Expression}
 use Rattle.spmd_tree.specs.declared.tree.LabelForm.{LabelForm}
 use Rattle.spmd_tree.specs.declared.tree.Labels.{Labels}
-use Rattle.spmd_tree.specs.declared.tree.Labels.TheVariants.{Last, More, More'}
+use Rattle.spmd_tree.specs.declared.tree.Labels.TheVariants.{Last, More'}
 use Rattle.spmd_text.specs.declared.fault.ParseReason.{ParseReason}
 use Rattle.spmd_text.specs.declared.fault.ParseReason.TheVariants.{Memory}
 use Rattle.spmd_text.specs.declared.parser.Parser.{Parser}
@@ -18,6 +18,8 @@ use Rattle.spmd_text.specs.Parts.{IfThere, Keeps, MayLabel, MayLabels, Reads, co
 use Rattle.spmd_text.proofs.Parts.{IsAs, found_as, keeps_on, keeps_same, sound_before, still_found}
 use Rattle.spmd_text.proofs.NoStar.{left_before}
 use Rattle.spmd_text.proofs.Following.{and_left, and_right, comma_unindexed, lacks_not}
+use Rattle.spmd_text.specs.Statements.{IsMore, Makes}
+use Rattle.spmd_text.proofs.Made.{finds_made, made_goes, made_sound}
 use Rattle.spmd_text.proofs.Strict.{labels_strict}
 
 has_is : (index : Option Expression) → has_index index ≡ is_some index
@@ -150,30 +152,38 @@ labels_too_long {old} {mid} {new} f why most none r goes there before fault = re
     finds (More' g p others) rest sound e may ends = absurd (omega (arith, may.1, none, count_positive others))
 
 -- a request, a comma, and others
-pub labels_more : {old mid new : Parser} (f : LabelForm) (others : Labels) (most : ℕ) (box : Box Labels Global) → box.value ≡ others
-    → Reads (label_part old.in_parameter old.names.now) old mid f → Keeps mid new → (mid.fault ≡ None → begins piece.Comma (Some mid.rest.now) ≡ true)
-    → Reads (then_part (then_part (label_part old.in_parameter old.names.now) (piece_part piece.Comma)) (labels_part old.in_parameter old.names.now most)) old new ((f, tt {0}), others)
-    → Reads (labels_part old.in_parameter old.names.now (most + 1)) old new (More f box)
-labels_more {old} {mid} {new} f others most box same r goes there all = record {
-  goes = all.goes;
+pub labels_more : {old mid last new : Parser} (f : LabelForm) (others made : Labels) (most : ℕ)
+    → Reads (label_part old.in_parameter old.names.now) old mid f → Keeps mid last → (mid.fault ≡ None → begins piece.Comma (Some mid.rest.now) ≡ true)
+    → Reads (then_part (then_part (label_part old.in_parameter old.names.now) (piece_part piece.Comma)) (labels_part old.in_parameter old.names.now most)) old last ((f, tt {0}), others)
+    → Makes last new (IsMore f others made) → Reads (labels_part old.in_parameter old.names.now (most + 1)) old new made
+labels_more {old} {mid} {last} {new} f others made most r goes there all makes = record {
+  goes = keeps_on all.goes (made_goes makes);
   finds = finds;
-  stands = λ sound. ap (λ (w : Labels). after_labels w (after piece.Comma (after_label f (Some old.rest.now)))) same ∙ all.stands sound;
+  stands = λ sound.
+      let m = made_sound makes sound in
+      ap (λ (w : Labels). after_labels w (Some old.rest.now)) m.1.is
+      ∙ (ap (λ (w : Labels). after_labels w (after piece.Comma (after_label f (Some old.rest.now)))) m.1.holds
+      ∙ (all.stands (sound_before (made_goes makes) sound) ∙ ap (λ (s : Parser). Some s.rest.now) (sym m.0)));
   may = λ sound.
-      let m = all.may sound in (
-        (m.0.0, subst (MayLabels old.in_parameter old.names.now) (sym same) m.1.0),
-        omega (arith, m.1.1, ap count_labels same),
-      );
+      let m = made_sound makes sound in
+      let n = all.may (sound_before (made_goes makes) sound) in
+      subst (λ (w : Labels). MayLabels old.in_parameter old.names.now w × (count_labels w ≤ most + 1)) (sym m.1.is)
+      ((n.0.0, subst (MayLabels old.in_parameter old.names.now) (sym m.1.holds) n.1.0), omega (arith, n.1.1, ap count_labels m.1.holds));
 }
   where
-    by_found : (rest : List Token) → lacks piece.Comma rest ≡ true → Finds mid rest (Unit {0}) → Finds new rest (Unit {0})
+    by_found : (rest : List Token) → lacks piece.Comma rest ≡ true → Finds mid rest (Unit {0}) → Finds last rest (Unit {0})
     by_found rest ends (inl memory) = inl (goes.sticks Memory memory)
     by_found rest ends (inr (stands, any)) =
         absurd (no_comma piece.Comma rest (ap (λ (xs : List Token). begins piece.Comma (Some xs)) (sym stands.left) ∙ there stands.sound) ends)
 
-    finds : (w : Labels) (rest : List Token) → old.fault ≡ None → after_labels w (Some old.rest.now) ≡ Some rest
-        → MayLabels old.in_parameter old.names.now w × (count_labels w ≤ most + 1) → (lacks piece.OpenIndex rest && lacks piece.Comma rest) ≡ true → Finds new rest (Unit {0})
-    finds (Last g) rest sound e may ends =
+    in_last : (w : Labels) (rest : List Token) → old.fault ≡ None → after_labels w (Some old.rest.now) ≡ Some rest
+        → MayLabels old.in_parameter old.names.now w × (count_labels w ≤ most + 1) → (lacks piece.OpenIndex rest && lacks piece.Comma rest) ≡ true → Finds last rest (Unit {0})
+    in_last (Last g) rest sound e may ends =
         by_found rest (and_right (lacks piece.OpenIndex rest) (lacks piece.Comma rest) ends)
         (r.finds g rest sound e may.0 (and_left (lacks piece.OpenIndex rest) (lacks piece.Comma rest) ends))
-    finds (More' g p more) rest sound e may ends =
+    in_last (More' g p more) rest sound e may ends =
         found_as (λ any. tt) (all.finds ((g, tt), more) rest sound e ((may.0.0, tt), (may.0.1, omega (arith, may.1))) ends)
+
+    finds : (w : Labels) (rest : List Token) → old.fault ≡ None → after_labels w (Some old.rest.now) ≡ Some rest
+        → MayLabels old.in_parameter old.names.now w × (count_labels w ≤ most + 1) → (lacks piece.OpenIndex rest && lacks piece.Comma rest) ≡ true → Finds new rest (Unit {0})
+    finds w rest sound e may ends = finds_made makes (in_last w rest sound e may ends)

@@ -1,5 +1,5 @@
 -- Parts that are read one after another are read as one part.
-use Rattle.std.proofs.Common.{◌≡◌, ℕ, Bool, true, List, Option, Some, None, refl, ap, sym, subst, ◌∙◌, inl, inr}
+use Rattle.std.proofs.Common.{◌≡◌, ℕ, Bool, true, arith, List, Option, Some, None, refl, ap, sym, subst, ◌∙◌, inl, inr}
 use Rattle.std.specs.Global.{Vec}
 use Rattle.std.proofs.lemmas.Option.{same_Some}
 use Rattle.spmd_text.specs.declared.fault.ParseReason.{ParseReason}
@@ -18,7 +18,7 @@ IsStrict {X} part = (x : X) → part.behind x None ≡ None
 abbrev pub Follows : {X Y : Type 0} → Part X → Part Y → Type 0
 Follows {X} {Y} one other = (y : Y) (here rest : List Token) → other.May y → other.behind y (Some here) ≡ Some rest → other.ends rest ≡ true → one.ends here ≡ true
 
-none_some : {A : Type 0} (x : A) → None ≡ Some x → ⊥
+pub none_some : {A : Type 0} (x : A) → None ≡ Some x → ⊥
 none_some x e = cc
 
 pub keeps_of : {old new : Parser} → Goes old new → Keeps old new
@@ -27,6 +27,7 @@ keeps_of goes = record {
   in_parameter = ap (λ (s : Parser). s.in_parameter) goes.frame;
   parameters = ap (λ (s : Parser). s.parameters.items) goes.frame;
   loops = ap (λ (s : Parser). s.loops.items) goes.frame;
+  shorter = goes.shorter;
   sticks = goes.sticks;
 }
 
@@ -36,13 +37,14 @@ keeps_on f g = record {
   in_parameter = g.in_parameter ∙ f.in_parameter;
   parameters = g.parameters ∙ f.parameters;
   loops = g.loops ∙ f.loops;
+  shorter = omega (arith, f.shorter, g.shorter);
   sticks = λ why e. g.sticks why (f.sticks why e);
 }
 
 pub keeps_same : {old new : Parser} → new ≡ old → Keeps old new
 keeps_same {old} {new} same =
     subst (λ (s : Parser). Keeps old s) (sym same)
-    (record { names = refl; in_parameter = refl; parameters = refl; loops = refl; sticks = λ why e. e })
+    (record { names = refl; in_parameter = refl; parameters = refl; loops = refl; shorter = omega arith; sticks = λ why e. e })
 
 -- no fault at the end: none before
 pub sound_before : {old new : Parser} → Keeps old new → new.fault ≡ None → old.fault ≡ None

@@ -21,7 +21,7 @@ told_by : (bytes : List ℕ) (f : ParseFault) → length bytes ≤ 65536 → pie
 told_by bytes f le is Memory h = inl refl
 told_by bytes f le is TooLarge h = absurd (omega (arith, le, h))
 told_by bytes f le is (Pieces g) h = inr (ap Pieces (one_fault f g (pieces_of bytes) is h.1))
-told_by bytes f le is (Grammar g) h = absurd (clash h.1 f (pieces_of bytes) h.2 is)
+told_by bytes f le is (Grammar g) h = absurd (clash h.1.state f (pieces_of bytes) h.1.cut is)
 
 not_read : (bytes : List ℕ) (f : ParseFault) → pieces_of bytes ≡ Err f → (t : Text) → IsText t bytes → ⊥
 not_read bytes f is t h = clash h.state f (pieces_of bytes) h.cut is

@@ -6,23 +6,25 @@ use Rattle.spmd_tree.specs.declared.tree.LabelForm.{LabelForm}
 use Rattle.spmd_tree.specs.declared.tree.GroupForm.{GroupForm}
 use Rattle.spmd_tree.specs.declared.tree.Labels.{Labels}
 use Rattle.spmd_tree.specs.declared.tree.Labels.TheVariants.{Last, More'}
+use Rattle.spmd_tree.specs.declared.tree.Arguments.{Arguments}
+use Rattle.spmd_tree.specs.declared.tree.Arguments.TheVariants as call
 use Rattle.spmd_text.specs.declared.piece.Word.TheVariants as word
 use Rattle.spmd_text.specs.declared.piece.Piece.{Piece}
 use Rattle.spmd_text.specs.declared.piece.Piece.TheVariants as piece
-use Rattle.spmd_text.specs.Spelling.{Rest, after, after_expression, after_group, after_index, after_label, after_labels, after_optional, after_request, after_root, after_value, after_wild, comparison_piece, only, operator_piece}
+use Rattle.spmd_text.specs.Spelling.{Rest, after, after_arguments, after_expression, after_group, after_index, after_label, after_labels, after_optional, after_request, after_root, after_value, after_wild, comparison_piece, only, operator_piece}
 
-only_none : (b : Bool) → only b None ≡ None
+pub only_none : (b : Bool) → only b None ≡ None
 only_none true = refl
 only_none false = refl
 
 -- the same, where it is none by its parts
-only_of : (b : Bool) (z : Rest) → z ≡ None → only b z ≡ None
+pub only_of : (b : Bool) (z : Rest) → z ≡ None → only b z ≡ None
 only_of b z e = ap (λ (y : Rest). only b y) e ∙ only_none b
 
-after_of : (p : Piece) (z : Rest) → z ≡ None → after p z ≡ None
+pub after_of : (p : Piece) (z : Rest) → z ≡ None → after p z ≡ None
 after_of p z e = ap (λ (y : Rest). after p y) e
 
-none_of : (F : Rest → Rest) → F None ≡ None → (z : Rest) → z ≡ None → F z ≡ None
+pub none_of : (F : Rest → Rest) → F None ≡ None → (z : Rest) → z ≡ None → F z ≡ None
 none_of F strict z e = ap F e ∙ strict
 
 pub expression_strict : (e : Expression) → after_expression e None ≡ None
@@ -44,7 +46,7 @@ expression_strict (form.Choice' p c q a s b) =
 pub value_strict : (e : Expression) → after_value e None ≡ None
 value_strict e = only_of _ _ (expression_strict e)
 
-value_of : (e : Expression) (z : Rest) → z ≡ None → after_value e z ≡ None
+pub value_of : (e : Expression) (z : Rest) → z ≡ None → after_value e z ≡ None
 value_of e z f = ap (λ (y : Rest). after_value e y) f ∙ value_strict e
 
 pub optional_strict : (p : Piece) (e : Option Expression) → after_optional p e None ≡ None
@@ -83,3 +85,26 @@ group_strict (Some g) =
 pub labels_strict : (labels : Labels) → after_labels labels None ≡ None
 labels_strict (Last f) = label_strict f
 labels_strict (More' f p others) = none_of (after_labels others) (labels_strict others) _ (after_of piece.Comma _ (label_strict f))
+
+comm_of : (e : Option Expression) (z : Rest) → z ≡ None → after_optional (piece.Word word.Comm) e z ≡ None
+comm_of e z f = ap (λ (y : Rest). after_optional (piece.Word word.Comm) e y) f ∙ optional_strict (piece.Word word.Comm) e
+
+wild_of : (e : Option Expression) (z : Rest) → z ≡ None → after_wild e z ≡ None
+wild_of e z f = ap (λ (y : Rest). after_wild e y) f ∙ wild_strict e
+
+label_of : (f : LabelForm) (z : Rest) → z ≡ None → after_label f z ≡ None
+label_of f z e = ap (λ (y : Rest). after_label f y) e ∙ label_strict f
+
+group_of : (g : Option GroupForm) (z : Rest) → z ≡ None → after_group g z ≡ None
+group_of g z e = ap (λ (y : Rest). after_group g y) e ∙ group_strict g
+
+pub arguments_strict : (c : Arguments) → after_arguments c None ≡ None
+arguments_strict (call.Send mode request d t c) = comm_of c _ (value_of t _ (after_of piece.Comma _ (value_of d _ (request_strict request))))
+arguments_strict (call.Receive request s t c) = comm_of c _ (wild_of t _ (after_of piece.Comma _ (wild_of s _ (request_strict request))))
+arguments_strict (call.MatchedProbe handle s t c) = comm_of c _ (wild_of t _ (after_of piece.Comma _ (wild_of s _ (after_of piece.Comma _ (label_strict handle)))))
+arguments_strict (call.Probe s t c) = comm_of c _ (wild_of t _ (after_of piece.Comma _ (wild_strict s)))
+arguments_strict (call.MatchedReceive request handle) = label_of handle _ (request_strict request)
+arguments_strict (call.Wait request) = label_strict request
+arguments_strict (call.SendReceive d t s u c) =
+    comm_of c _ (wild_of u _ (after_of piece.Comma _ (wild_of s _ (after_of piece.Comma _ (value_of t _ (after_of piece.Comma _ (value_strict d)))))))
+arguments_strict (call.Collective k root g c) = only_of _ _ (comm_of c _ (group_of g _ (root_strict root)))

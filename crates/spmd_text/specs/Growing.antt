@@ -111,7 +111,7 @@ pub record IsRow (row : Row) (a : Expression) : Type 0 where
   pub alone : row.lone ≡ is_lone_tree a
 
 -- a joint and what stands right of it, behind a tree that it may be joined with
-pub record Part (depth : ℕ) (in_parameter : Bool) (a : Expression) (here : List Token) : Type 0 where
+pub record Joining (depth : ℕ) (in_parameter : Bool) (a : Expression) (here : List Token) : Type 0 where
   pub by : Joint
   pub left_place : Place
   pub right_place : Place
@@ -125,13 +125,13 @@ pub record Part (depth : ℕ) (in_parameter : Bool) (a : Expression) (here : Lis
   pub narrow : parts (joined by left_place a right_place right) ≤ 256
 
 -- both parts with the joint between them
-abbrev pub whole : {depth : ℕ} {in_parameter : Bool} {a : Expression} {here : List Token} → Part depth in_parameter a here → Expression
+abbrev pub whole : {depth : ℕ} {in_parameter : Bool} {a : Expression} {here : List Token} → Joining depth in_parameter a here → Expression
 whole {depth} {in_parameter} {a} {here} part = joined part.by part.left_place a part.right_place part.right
 
 -- the tree, joined with what stands here, becomes `e` before these pieces
-pub data Grows (depth : ℕ) (in_parameter : Bool) (e : Expression) (rest : List Token) : Expression → List Token → Type 0 where
-  done : {a : Expression} {here : List Token} → a ≡ e → here ≡ rest → Grows depth in_parameter e rest a here
-  more : {a : Expression} {here : List Token} → (part : Part depth in_parameter a here) → Grows depth in_parameter e rest (whole part) part.behind → Grows depth in_parameter e rest a here
+pub data Becomes (depth : ℕ) (in_parameter : Bool) (e : Expression) (rest : List Token) : Expression → List Token → Type 0 where
+  done : {a : Expression} {here : List Token} → a ≡ e → here ≡ rest → Becomes depth in_parameter e rest a here
+  more : {a : Expression} {here : List Token} → (part : Joining depth in_parameter a here) → Becomes depth in_parameter e rest (whole part) part.behind → Becomes depth in_parameter e rest a here
 
 -- what was read so far, which ends with this row, becomes `e`, where joints bind at least so close
 pub record Growing (s : Parser) (left : Expression) (row : Row) (least : ℕ) (depth : ℕ) (e : Expression) (rest : List Token) : Type 0 where
@@ -139,6 +139,6 @@ pub record Growing (s : Parser) (left : Expression) (row : Row) (least : ℕ) (d
   pub tree : Expression
   pub alike : Alike left tree
   pub row_so : IsRow row tree
-  pub grows : Grows depth s.in_parameter e rest tree s.rest.now
+  pub grows : Becomes depth s.in_parameter e rest tree s.rest.now
   pub close : least ≤ closeness e
   pub ends : stops least rest ≡ true

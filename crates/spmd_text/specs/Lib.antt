@@ -11,3 +11,7 @@ pub mod Reading
 pub mod Growing
 pub mod Found
 pub mod Parts
+pub mod Statements
+pub mod Programs
+pub mod Lines
+pub mod FirstFaults

@@ -1,5 +1,5 @@
 -- Parts of a text, and what it means that one is read: it is found exactly where it stands.
-use Rattle.std.specs.Prelude.{◌≡◌, ℕ, ◌+◌, ◌≤◌, Bool, true, false, ◌&&◌, not, List, Option, Some, None, is_some}
+use Rattle.std.specs.Prelude.{◌≡◌, ℕ, ◌+◌, ◌≤◌, Bool, true, false, ◌&&◌, not, List, length, Option, Some, None, is_some}
 use Rattle.std.specs.Global.{Vec}
 use Rattle.spmd_tree.specs.declared.tree.Mode.TheVariants.{Standard, Synchronous, Buffered}
 use Rattle.spmd_tree.specs.declared.tree.Kind.TheVariants as kind
@@ -26,12 +26,14 @@ use Rattle.spmd_text.specs.Reading.{Finds, Sticks}
 
 -- ---- how far a text is read
 
--- the reader has the same names, parameters and open loops, and what was wrong first stays so
+-- the reader has the same names, parameters and open loops, no piece comes back, and what was wrong
+-- first stays so
 pub record Keeps (old new : Parser) : Type 0 where
   pub names : new.names.now ≡ old.names.now
   pub in_parameter : new.in_parameter ≡ old.in_parameter
   pub parameters : new.parameters.items ≡ old.parameters.items
   pub loops : new.loops.items ≡ old.loops.items
+  pub shorter : length new.rest.now ≤ length old.rest.now
   pub sticks : Sticks old new
 
 -- ---- parts

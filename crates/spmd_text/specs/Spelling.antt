@@ -3,7 +3,6 @@
 -- begin with it, or none were given. What a function is given stands before it: a label with an
 -- index is a name, then what `after_index` says.
 use Rattle.std.specs.Prelude.{ℕ, ℤ, pos, int_le, Bool, true, false, ◌&&◌, ◌||◌, not, nat_eq, nat_le, List, [], ◌∷◌, Option, Some, None, if◌then◌else◌}
-use Rattle.std.specs.Borrow.{Bor}
 use Rattle.spmd_tree.specs.declared.tree.Mode.{Mode}
 use Rattle.spmd_tree.specs.declared.tree.Mode.TheVariants.{Standard, Synchronous, Buffered}
 use Rattle.spmd_tree.specs.declared.tree.Kind.{Kind}
@@ -33,11 +32,6 @@ use Rattle.spmd_text.specs.Words.{code}
 
 abbrev pub Rest : Type 0
 Rest = Option (List Token)
-
--- the code's view
-abbrev pub left : Option (Bor (List Token)) → Rest
-left None = None
-left (Some tokens) = Some tokens.now
 
 -- these pieces, where it holds
 abbrev pub only : Bool → Rest → Rest

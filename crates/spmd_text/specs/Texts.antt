@@ -1,53 +1,53 @@
 -- What a text says.
-use Rattle.std.specs.Prelude.{◌≡◌, ◌⊎◌, ℕ, ◌<◌, ◌≤◌, Bool, true, false, List, [], ◌∷◌, ◌++◌, length, map, Some, Ok, Err, if◌then◌else◌}
-use Rattle.spmd_tree.specs.declared.tree.Statement.{Statement}
-use Rattle.spmd_tree.specs.declared.tree.Statement.TheVariants as statement
+use Rattle.std.specs.Prelude.{◌≡◌, ◌⊎◌, ℕ, ◌<◌, ◌≤◌, Bool, true, false, List, [], length, map, Some, Ok, Err, if◌then◌else◌}
 use Rattle.spmd_text.specs.declared.reading.Text.{Text}
 use Rattle.spmd_text.specs.declared.fault.ParseFault.{ParseFault}
 use Rattle.spmd_text.specs.declared.fault.ParseReason.{ParseReason}
 use Rattle.spmd_text.specs.declared.fault.ParseReason.TheVariants as reason
 use Rattle.spmd_text.specs.declared.fault.TextFault.{TextFault}
 use Rattle.spmd_text.specs.declared.fault.TextFault.TheVariants.{Memory, TooLarge, Pieces, Grammar}
+use Rattle.std.specs.Global.{Vec}
 use Rattle.spmd_text.specs.Tokens.{Cutting, pieces_of}
+use Rattle.spmd_text.specs.FirstFaults.{IsFirstFault}
 use Rattle.spmd_text.specs.Spelling.{after_text}
 use Rattle.spmd_text.specs.Labels.{all_fit}
-
--- the names of the parameters in a statement, which stands in no block
-abbrev pub parameters_of : Statement → List ℕ
-parameters_of (statement.Sequence' p a q b) = parameters_of a ++ parameters_of b
-parameters_of (statement.Parameter line name e) = name ∷ []
-parameters_of _ = []
+use Rattle.spmd_text.specs.Programs.{ObeysText, parameters_of}
 
 -- The bytes are cut into pieces, and the text is written as these pieces and no others; its names
--- are those that stand in them, those of requests and handles are spelled as they have to be, and
--- its parameters are those that are written.
+-- are those that stand in them, those of requests and handles are spelled as they have to be, it
+-- keeps the rules and limits, and its parameters are those that are written.
 pub record IsText (text : Text) (bytes : List ℕ) : Type 0 where
   pub state : Cutting
   pub cut : pieces_of bytes ≡ Ok state
   pub names : map (λ n. n.items) text.names.items ≡ state.names
   pub spelled : after_text text.policy text.program (Some state.tokens) ≡ Some []
   pub labels : all_fit text.names.items text.program ≡ true
+  pub obeys : ObeysText text.names.items text.program
   pub parameters : text.parameters.items ≡ parameters_of text.program
 
 abbrev pub is_memory : ParseReason → Bool
 is_memory reason.Memory = true
 is_memory _ = false
 
+-- The text has pieces, and the line of this number is the first that is wrong in them.
+pub record HasFirstFault (bytes : List ℕ) (number : ℕ) : Type 0 where
+  pub state : Cutting
+  pub cut : pieces_of bytes ≡ Ok state
+  pub names : List (Vec ℕ)
+  pub named : map (λ n. n.items) names ≡ state.names
+  pub first : IsFirstFault names state.tokens number
+
 -- A text is refused for what is told: it is too large; or it can't be cut into pieces, and this is
--- the first fault of it; or it has pieces. So a fault of the pieces is told exactly where there is
--- one, unless memory runs out or the text is too large; and want of memory is told as that alone.
+-- the first fault of it; or it has pieces, no tree is written as them, and the line that is told is
+-- the first that is wrong. So a fault of the pieces is told exactly where there is one, unless
+-- memory runs out or the text is too large; and want of memory is told as that alone. Which fault
+-- of the grammar is told of the line isn't said.
 abbrev pub HasFault : List ℕ → TextFault → Type 0
 HasFault bytes Memory = Unit {0}
 HasFault bytes TooLarge = 65536 < length bytes
 HasFault bytes (Pieces fault) = (length bytes ≤ 65536) × (pieces_of bytes ≡ Err fault)
-HasFault bytes (Grammar fault) = (length bytes ≤ 65536) × (state : Cutting) × (pieces_of bytes ≡ Ok state) × (is_memory fault.reason ≡ false)
-
--- what may be told of a text that has pieces
-abbrev pub IsOfGrammar : TextFault → Type 0
-IsOfGrammar Memory = Unit {0}
-IsOfGrammar TooLarge = ⊥
-IsOfGrammar (Pieces fault) = ⊥
-IsOfGrammar (Grammar fault) = is_memory fault.reason ≡ false
+HasFault bytes (Grammar fault) =
+    (length bytes ≤ 65536) × HasFirstFault bytes fault.line × (is_memory fault.reason ≡ false) × ((text : Text) → IsText text bytes → ⊥)
 
 -- what is told of a text that has pieces and was not read: its fault, or want of memory as that
 abbrev pub grammar_fault : ParseFault → TextFault

@@ -1,188 +1,138 @@
-//! Loops and branches that are open.
+//! Statements, and the loops and branches that they stand in.
+//!
+//! What is wrong is noted, and no piece is read behind it: what is then made of the parts is never
+//! used.
 
+ghost use Rattle.std.specs.Prelude.{[], ◌∷◌, ◌≡◌, ◌++◌, ◌<◌, ℕ, IfOk, IsTrue, List, None, Some, false, length, true};
+ghost use Rattle.spmd_tree.specs.declared.tree.Statement.{Statement};
+ghost use Rattle.spmd_text.specs.Parts.{Reads};
+ghost use Rattle.spmd_text.specs.Programs.{Meets, ReadsParameters, is_all_read, text_part};
+ghost use Rattle.spmd_text.specs.Reading.{Goes, next};
+ghost use Rattle.spmd_text.specs.Spelling.{begins, branch_word};
+ghost use Rattle.spmd_text.specs.Lines.{Block, EndsBlock, EndsBranch, IsEnded, Level, Tells, begin, from_word, is_inner, is_settled, level_at, lists, may_hold};
+ghost use Rattle.spmd_text.specs.Statements.{IsInTurn, IsInside, IsOtherwise, IsRepeat, IsWhen, Makes, begun_part, end_part, flat, flat_all, heading_part, is_end, is_first, line_at, one_part, scope_of, statements_part, tail_part, within_loop, word_of};
+
+use crate::codes::code;
+use crate::expressions::condition_at;
 use crate::fault::ParseReason;
+use crate::lines::{
+    Span, heading_line, parameter, policy_line, refused, simple, span_at, variable,
+};
 use crate::parser::Parser;
+use crate::piece::{Piece, Token, Word};
+use crate::reading::Policy;
 use spmd_tree::{Expression, Statement};
 use std::alloc::{AllocError, Global};
-use std::mem;
-
-/// A loop that is open.
-#[derive(Drop)]
-pub(crate) struct Loop {
-    pub(crate) line: u32,
-    pub(crate) name: u32,
-    pub(crate) first: Expression,
-    pub(crate) last: Expression,
-    pub(crate) step: u32,
-}
-
-/// A branch that is open.
-#[derive(Drop)]
-pub(crate) struct Branch {
-    pub(crate) line: u32,
-    pub(crate) condition: Expression,
-    /// The statements of the first branch, once the other one began.
-    pub(crate) yes: Option<Box<Statement>>,
-    /// An `elif`, which ends with its `if`.
-    pub(crate) chained: bool,
-    /// Whether the other branch stands after an `else`.
-    pub(crate) by_else: bool,
-}
-
-/// What is open.
-#[derive(Drop)]
-pub(crate) enum Head {
-    Loop(Loop),
-    Branch(Branch),
-}
-
-/// A loop or branch that is open, with the statements that were read in it so far.
-#[derive(Drop)]
-pub(crate) struct Block {
-    head: Head,
-    statements: Vec<Box<Statement>>,
-}
 
 /// A statement in memory of its own.
-fn boxed(alloc: Global, statement: Statement) -> Result<Box<Statement>, AllocError> {
+fn boxed(alloc: Global, statement: Statement) -> Result<Box<Statement>, AllocError>
+    ensures { IfOk result (λ made. made.value ≡ statement) }
+{
     Ok(Box::new(alloc, statement)?)
 }
 
-/// A statement in memory of its own, where nothing is wrong so far.
-pub(crate) fn stated(
-    parser: &Parser<'_>,
-    statement: Statement,
-) -> Result<Box<Statement>, ParseReason> {
-    let statement = boxed(parser.alloc, statement)?;
-    parser.sound()?;
-    Ok(statement)
-}
-
-/// Each two statements as one.
-fn halved(
+/// Two statements in memory of their own.
+fn two(
     alloc: Global,
-    statements: Vec<Box<Statement>>,
-) -> Result<Vec<Box<Statement>>, AllocError> {
-    let mut halved = Vec::new(alloc);
-    let mut first: Option<Box<Statement>> = None;
-    for statement in statements {
-        match first {
-            None => first = Some(statement),
-            Some(earlier) => {
-                halved.push(boxed(alloc, Statement::Sequence(earlier, statement))?)?;
-                first = None;
-            }
-        }
-    }
-    if let Some(last) = first {
-        halved.push(last)?;
-    }
-    Ok(halved)
+    a: Statement,
+    b: Statement,
+) -> Result<(Box<Statement>, Box<Statement>), AllocError>
+    ensures { IfOk result (λ both. (both.0.value ≡ a) × (both.1.value ≡ b)) }
+{
+    let a = Box::new(alloc, a)?;
+    let b = Box::new(alloc, b)?;
+    Ok((a, b))
 }
 
-/// The statements, one after another: as a tree that is no deeper than it has to be. A text has
-/// fewer than 2^32 of them.
-pub(crate) fn sequence(
-    alloc: Global,
-    statements: Vec<Box<Statement>>,
-) -> Result<Box<Statement>, AllocError> {
-    let mut list = statements;
-    for _ in 0..32 {
-        if list.len() < 2 {
-            break;
-        }
-        list = halved(alloc, list)?;
-    }
-    match list.pop() {
-        Some(whole) => Ok(whole),
-        None => boxed(alloc, Statement::Nothing),
+/// A statement, and then another one.
+fn in_turn(parser: &mut Parser<'_>, a: Statement, b: Statement) -> Statement
+    ensures { Makes parser.old parser.new (IsInTurn a b result) }
+{
+    match two(parser.alloc, a, b) {
+        Err(AllocError) => refused(parser, ParseReason::Memory),
+        Ok((a, b)) => Statement::Sequence(a, b),
     }
 }
 
-/// Begins the other branch, where these are the statements of the first one.
-fn turn(head: &mut Head, done: Box<Statement>, by_else: bool) -> Result<(), ParseReason> {
-    match head {
-        Head::Loop(_) => Err(ParseReason::StrayElse),
-        Head::Branch(branch) => {
-            if branch.yes.is_some() {
-                return Err(ParseReason::StrayElse);
-            }
-            branch.yes = Some(done);
-            branch.by_else = by_else;
-            Ok(())
-        }
+/// The last statements of the list, so many of them, one after another: as a tree that is no
+/// deeper than it has to be.
+fn sequence(parser: &mut Parser<'_>, list: &mut Vec<Statement>, count: usize) -> Statement
+    ensures { (before popped : List Statement) → list.old.items ≡ before ++ popped → length popped ≡ count → (list.new.items ≡ before) × Makes parser.old parser.new (flat result ≡ flat_all popped) }
+{
+    if count == 0 {
+        return Statement::Nothing;
+    }
+    if count == 1 {
+        return match list.pop() {
+            None => Statement::Nothing,
+            Some(last) => last,
+        };
+    }
+    let second = sequence(parser, list, count / 2);
+    let first = sequence(parser, list, count - count / 2);
+    in_turn(parser, first, second)
+}
+
+/// The statements of the list, one after another.
+fn whole(parser: &mut Parser<'_>, list: Vec<Statement>) -> Statement
+    ensures { Makes parser.old parser.new (flat result ≡ flat_all list.items) }
+{
+    let mut list = list;
+    let count = list.len();
+    sequence(parser, &mut list, count)
+}
+
+/// Adds a statement to the list, where memory lasts.
+fn add(parser: &mut Parser<'_>, list: &mut Vec<Statement>, statement: Statement)
+    ensures { Makes parser.old parser.new (list.new.items ≡ list.old.items ++ statement ∷ []) }
+{
+    match list.push(statement) {
+        Ok(()) => {}
+        Err(_) => parser.fail(ParseReason::Memory),
     }
 }
 
-/// The statements that were read last in what is open last, as one.
-fn taken(
-    alloc: Global,
-    blocks: &mut Vec<Block>,
-    stray: ParseReason,
-) -> Result<Box<Statement>, ParseReason> {
-    let Some(block) = blocks.last_mut() else {
-        return Err(stray);
-    };
-    let statements = mem::replace(&mut block.statements, Vec::new(alloc));
-    Ok(sequence(alloc, statements)?)
-}
-
-/// Begins the other branch of what is open last.
-pub(crate) fn turn_over(
-    alloc: Global,
-    blocks: &mut Vec<Block>,
-    by_else: bool,
-) -> Result<(), ParseReason> {
-    let done = taken(alloc, blocks, ParseReason::StrayElse)?;
-    match blocks.last_mut() {
-        None => Err(ParseReason::StrayElse),
-        Some(block) => turn(&mut block.head, done, by_else),
+/// The statement that a branch is.
+fn when(
+    parser: &mut Parser<'_>,
+    line: u32,
+    chained: bool,
+    condition: Expression,
+    yes: Statement,
+    no: Statement,
+) -> Statement
+    ensures { Makes parser.old parser.new (IsWhen line chained condition yes no result) }
+{
+    match two(parser.alloc, yes, no) {
+        Err(AllocError) => refused(parser, ParseReason::Memory),
+        Ok((yes, no)) => Statement::When {
+            line,
+            chained,
+            condition,
+            yes,
+            no,
+        },
     }
 }
 
-/// What stands after an `else`, or an `elif` alone.
-fn other(
-    alloc: Global,
-    statements: Box<Statement>,
-    by_else: bool,
-) -> Result<Box<Statement>, AllocError> {
-    if by_else {
-        return boxed(alloc, Statement::Otherwise(statements));
-    }
-    Ok(statements)
-}
-
-/// Both branches, where these statements were read last.
-fn branches(
-    alloc: Global,
-    yes: Option<Box<Statement>>,
-    by_else: bool,
-    last: Box<Statement>,
-) -> Result<(Box<Statement>, Box<Statement>), AllocError> {
-    match yes {
-        None => {
-            let no = boxed(alloc, Statement::Nothing)?;
-            Ok((last, no))
-        }
-        Some(yes) => {
-            let no = other(alloc, last, by_else)?;
-            Ok((yes, no))
-        }
+/// What stands after an `else`.
+fn otherwise(parser: &mut Parser<'_>, statements: Statement) -> Statement
+    ensures { Makes parser.old parser.new (IsOtherwise statements result) }
+{
+    match boxed(parser.alloc, statements) {
+        Err(AllocError) => refused(parser, ParseReason::Memory),
+        Ok(statements) => Statement::Otherwise(statements),
     }
 }
 
 /// The statement that a loop is.
-fn repeat(alloc: Global, head: Loop, body: Box<Statement>) -> Result<Box<Statement>, AllocError> {
-    let Loop {
-        line,
-        name,
-        first,
-        last,
-        step,
-    } = head;
-    boxed(
-        alloc,
-        Statement::Repeat {
+fn repeat(parser: &mut Parser<'_>, line: u32, name: u32, span: Span, body: Statement) -> Statement
+    ensures { Makes parser.old parser.new (IsRepeat line name span body result) }
+{
+    let Span { first, last, step } = span;
+    match boxed(parser.alloc, body) {
+        Err(AllocError) => refused(parser, ParseReason::Memory),
+        Ok(body) => Statement::Repeat {
             line,
             name,
             first,
@@ -190,117 +140,301 @@ fn repeat(alloc: Global, head: Loop, body: Box<Statement>) -> Result<Box<Stateme
             step,
             body,
         },
-    )
-}
-
-/// The statement that a branch is.
-fn when(alloc: Global, head: Branch, last: Box<Statement>) -> Result<Box<Statement>, AllocError> {
-    let Branch {
-        line,
-        condition,
-        yes,
-        chained,
-        by_else,
-    } = head;
-    let (yes, no) = branches(alloc, yes, by_else, last)?;
-    boxed(
-        alloc,
-        Statement::When {
-            line,
-            chained,
-            condition,
-            yes,
-            no,
-        },
-    )
-}
-
-/// The statement that is what was open, in which these statements were read last.
-fn closed(alloc: Global, head: Head, last: Box<Statement>) -> Result<Box<Statement>, AllocError> {
-    match head {
-        Head::Loop(head) => repeat(alloc, head, last),
-        Head::Branch(head) => when(alloc, head, last),
     }
 }
 
-/// Adds a statement to what is open last, or to the text.
-pub(crate) fn add(
-    blocks: &mut Vec<Block>,
-    all: &mut Vec<Box<Statement>>,
-    statement: Box<Statement>,
-) -> Result<(), AllocError> {
-    match blocks.last_mut() {
-        Some(block) => block.statements.push(statement)?,
-        None => all.push(statement)?,
-    }
-    Ok(())
-}
-
-/// Whether a loop is open.
-fn is_loop(head: &Head) -> bool {
-    match head {
-        Head::Loop(_) => true,
-        Head::Branch(_) => false,
+/// The word that a statement begins with. `end`, `else` and `elif` end those before them.
+fn word_of(piece: Piece) -> Option<Word>
+    ensures { result ≡ word_of piece }
+{
+    match piece {
+        Piece::Word(Word::End) => None,
+        Piece::Word(Word::Else) => None,
+        Piece::Word(Word::Elif) => None,
+        Piece::Word(word) => Some(word),
+        _ => None,
     }
 }
 
-/// Whether an `elif` is open, which ends with its `if`.
-fn is_chained(head: &Head) -> bool {
-    match head {
-        Head::Loop(_) => false,
-        Head::Branch(branch) => branch.chained,
+/// Whether the piece ends the statements before it.
+fn is_end(piece: Piece) -> bool
+    ensures { result ≡ is_end piece }
+{
+    match piece {
+        Piece::Word(Word::End) => true,
+        Piece::Word(Word::Else) => true,
+        Piece::Word(Word::Elif) => true,
+        Piece::TextEnd => true,
+        _ => false,
     }
 }
 
-/// Ends what is open last, and tells whether what it is chained to ends with it.
-fn end_one(
-    parser: &mut Parser<'_>,
-    blocks: &mut Vec<Block>,
-    all: &mut Vec<Box<Statement>>,
-) -> Result<bool, ParseReason> {
-    let last = taken(parser.alloc, blocks, ParseReason::StrayEnd)?;
-    let Some(block) = blocks.pop() else {
-        return Err(ParseReason::StrayEnd);
+/// Notes that a line begins, unless something is wrong.
+fn begin_line(parser: &Parser<'_>, at: &mut u32)
+    ensures sound { parser.now.fault ≡ None → at.new ≡ line_at parser.now.last_line parser.now.rest.now }
+    ensures stays { (why : ParseReason) → parser.now.fault ≡ Some why → at.new ≡ at.old }
+{
+    match parser.fault {
+        None => *at = parser.line(),
+        Some(_) => {}
+    }
+}
+
+/// Notes where statements don't end behind a statement, and no other one begins.
+fn refuse_other(parser: &mut Parser<'_>)
+    ensures goes { Goes parser.old parser.new }
+    ensures sound { parser.new.fault ≡ None → (parser.new ≡ parser.old) × (is_end (next parser.old) ≡ true) }
+    ensures fits { is_end (next parser.old) ≡ true → parser.new ≡ parser.old }
+{
+    if !is_end(parser.piece()) {
+        parser.fail(ParseReason::NoStatement);
+    }
+}
+
+/// The end of a block, behind its statements.
+fn end_block(parser: &mut Parser<'_>, at: &mut u32)
+    ensures reads { Reads (end_part false) parser.old parser.new result }
+    ensures stays { (why : ParseReason) → parser.old.fault ≡ Some why → at.new ≡ at.old }
+    ensures line { (level : Level) (outer : List Level) → EndsBlock level parser.old → Tells (level ∷ outer) parser.old parser.new parser.old.rest.now at.new }
+{
+    begin_line(parser, at);
+    if parser.take(Piece::Word(Word::End)) {
+        parser.end_line();
+        return;
+    }
+    if parser.is(Piece::TextEnd) {
+        parser.fail(ParseReason::NoEnd);
+    } else {
+        parser.fail(ParseReason::StrayElse);
+    }
+}
+
+/// The end of a branch: an `elif` ends with its `if`.
+fn end_branch(parser: &mut Parser<'_>, at: &mut u32, chained: bool)
+    ensures reads { Reads (end_part chained) parser.old parser.new result }
+    ensures stays { (why : ParseReason) → parser.old.fault ≡ Some why → at.new ≡ at.old }
+    ensures line { (level : Level) (outer : List Level) → EndsBlock level parser.old → Tells (level ∷ outer) parser.old parser.new parser.old.rest.now at.new }
+    ensures same { chained ≡ true → parser.new ≡ parser.old }
+{
+    if !chained {
+        end_block(parser, at);
+    }
+}
+
+/// Whether the end of the text is all that is left.
+fn is_all_read(tokens: &[Token]) -> bool
+    ensures { result ≡ is_all_read tokens.now }
+{
+    let [last] = tokens else {
+        return false;
     };
-    let Block { head, statements } = block;
-    mem::drop(statements);
-    if is_loop(&head) {
-        let _ = parser.loops.pop();
-    }
-    let chained = is_chained(&head);
-    let statement = closed(parser.alloc, head, last)?;
-    add(blocks, all, statement)?;
-    Ok(chained)
+    code(last.piece) == code(Piece::TextEnd)
 }
 
-/// Ends what is open last, with all that it is chained to.
-pub(crate) fn end_block(
-    parser: &mut Parser<'_>,
-    blocks: &mut Vec<Block>,
-    all: &mut Vec<Box<Statement>>,
-) -> Result<(), ParseReason> {
-    for _ in 0..u32::MAX {
-        let chained = end_one(parser, blocks, all)?;
-        if !chained {
-            break;
-        }
+/// The end of the text, behind its statements.
+fn end_text(parser: &mut Parser<'_>, at: &mut u32)
+    ensures goes { Goes parser.old parser.new }
+    ensures sound { parser.new.fault ≡ None → (parser.new ≡ parser.old) × (is_all_read parser.old.rest.now ≡ true) }
+    ensures fits { is_all_read parser.old.rest.now ≡ true → parser.new ≡ parser.old }
+    ensures stays { (why : ParseReason) → parser.old.fault ≡ Some why → at.new ≡ at.old }
+    ensures line { (level : Level) → is_inner level.block ≡ false → is_end (next parser.old) ≡ true → IsEnded parser.old.rest.now
+        → Tells (level ∷ []) parser.old parser.new parser.old.rest.now at.new }
+{
+    begin_line(parser, at);
+    if is_all_read(parser.rest) {
+        return;
     }
-    Ok(())
+    if parser.is(Piece::Word(Word::End)) {
+        parser.fail(ParseReason::StrayEnd);
+    } else {
+        parser.fail(ParseReason::StrayElse);
+    }
 }
 
-/// Opens a loop or branch, of 32 at most within one another, where nothing is wrong so far.
-pub(crate) fn open(
-    parser: &Parser<'_>,
-    blocks: &mut Vec<Block>,
-    head: Head,
-) -> Result<(), ParseReason> {
-    blocks.push(Block {
-        head,
-        statements: Vec::new(parser.alloc),
-    })?;
-    parser.sound()?;
-    if blocks.len() > 32 {
-        return Err(ParseReason::TooDeep);
+/// The statements of the loop that was opened last, which ends with them.
+#[cycle(statements)]
+fn inside(parser: &mut Parser<'_>, at: &mut u32, depth: u32) -> Statement
+    ensures reads { IsInside parser.old parser.new depth result }
+    ensures stays { (why : ParseReason) → parser.old.fault ≡ Some why → at.new ≡ at.old }
+    ensures line { (block : Block) (outer : List Level) → is_settled block ≡ true → Tells (level_at block parser.old depth ∷ outer) parser.old parser.new parser.old.rest.now at.new }
+    ensures ended { parser.new.fault ≡ None → is_end (next parser.new) ≡ true }
+{
+    let body = statements(parser, at, depth);
+    let _ = parser.loops.pop();
+    body
+}
+
+/// The statements of a loop of this variable.
+#[cycle(statements)]
+fn body_of(parser: &mut Parser<'_>, at: &mut u32, name: u32, depth: u32) -> Statement
+    ensures reads { Reads (statements_part (within_loop name (scope_of parser.old)) depth) parser.old parser.new result }
+    ensures stays { (why : ParseReason) → parser.old.fault ≡ Some why → at.new ≡ at.old }
+    ensures line { (block : Block) (outer : List Level) → is_settled block ≡ true → Tells (record { block = block; scope = within_loop name (scope_of parser.old); depth = depth } ∷ outer) parser.old parser.new parser.old.rest.now at.new }
+    ensures ended { parser.new.fault ≡ None → is_end (next parser.new) ≡ true }
+{
+    match parser.loops.push(name) {
+        Err(_) => refused(parser, ParseReason::Memory),
+        Ok(()) => inside(parser, at, depth),
     }
-    Ok(())
+}
+
+/// A loop after its word. At most so many blocks stand within one another, itself among them.
+#[cycle(statements)]
+fn looped(parser: &mut Parser<'_>, at: &mut u32, line: u32, depth: u32) -> Statement
+    ensures reads { Reads (begun_part (scope_of parser.old) depth line Word.For) parser.old parser.new result }
+    ensures stays { (why : ParseReason) → parser.old.fault ≡ Some why → at.new ≡ at.old }
+    ensures line { (block : Block) (outer : List Level) → is_settled block ≡ true → at.old ≡ line → Tells (level_at block parser.old depth ∷ outer) parser.old parser.new (from_word line Word.For parser.old) at.new }
+{
+    let name = variable(parser);
+    let span = span_at(parser);
+    if depth == 0 {
+        return refused(parser, ParseReason::TooDeep);
+    }
+    parser.end_line();
+    let body = body_of(parser, at, name, depth - 1);
+    end_block(parser, at);
+    repeat(parser, line, name, span, body)
+}
+
+/// An `if` after its word, up to its end; or an `elif`, up to what ends its `if`. At most so many
+/// blocks stand within one another, itself among them.
+#[cycle(statements)]
+fn branch(parser: &mut Parser<'_>, at: &mut u32, line: u32, chained: bool, depth: u32) -> Statement
+    ensures reads { Reads (begun_part (scope_of parser.old) depth line (branch_word chained)) parser.old parser.new result }
+    ensures stays { (why : ParseReason) → parser.old.fault ≡ Some why → at.new ≡ at.old }
+    ensures line { (block : Block) (outer : List Level) → may_hold chained block ≡ true → at.old ≡ line → Tells (level_at block parser.old depth ∷ outer) parser.old parser.new (from_word line (branch_word chained) parser.old) at.new }
+    ensures ends { chained ≡ true → parser.new.fault ≡ None → EndsBranch parser.new result }
+{
+    let condition = condition_at(parser);
+    if depth == 0 {
+        return refused(parser, ParseReason::TooDeep);
+    }
+    parser.end_line();
+    let yes = statements(parser, at, depth - 1);
+    let no = tail(parser, at, depth - 1);
+    end_branch(parser, at, chained);
+    when(parser, line, chained, condition, yes, no)
+}
+
+/// An `else` after its word.
+#[cycle(statements)]
+fn after_else(parser: &mut Parser<'_>, at: &mut u32, depth: u32) -> Statement
+    ensures reads { (line : ℕ) → Reads (begun_part (scope_of parser.old) depth line Word.Else) parser.old parser.new result }
+    ensures stays { (why : ParseReason) → parser.old.fault ≡ Some why → at.new ≡ at.old }
+    ensures line { (line : ℕ) (outer : List Level) → at.old ≡ line → Tells (level_at Block.branch parser.old depth ∷ outer) parser.old parser.new (from_word line Word.Else parser.old) at.new }
+    ensures ended { parser.new.fault ≡ None → is_end (next parser.new) ≡ true }
+{
+    parser.end_line();
+    let inner = statements(parser, at, depth);
+    otherwise(parser, inner)
+}
+
+/// What stands behind the statements of a branch: an `elif`, an `else`, or nothing.
+#[cycle(statements)]
+fn tail(parser: &mut Parser<'_>, at: &mut u32, depth: u32) -> Statement
+    ensures reads { Reads (tail_part (scope_of parser.old) depth) parser.old parser.new result }
+    ensures stays { (why : ParseReason) → parser.old.fault ≡ Some why → at.new ≡ at.old }
+    ensures line { (outer : List Level) → Tells (level_at Block.branch parser.old depth ∷ outer) parser.old parser.new parser.old.rest.now at.new }
+    ensures ends { is_end (next parser.old) ≡ true → parser.new.fault ≡ None → EndsBranch parser.new result }
+{
+    begin_line(parser, at);
+    let line = parser.line();
+    if parser.take(Piece::Word(Word::Elif)) {
+        return branch(parser, at, line, true, depth);
+    }
+    if parser.take(Piece::Word(Word::Else)) {
+        return after_else(parser, at, depth);
+    }
+    Statement::Nothing
+}
+
+/// A statement after its first word.
+#[cycle(statements)]
+fn begun(parser: &mut Parser<'_>, at: &mut u32, word: Word, line: u32, depth: u32) -> Statement
+    ensures reads { is_first word ≡ true → Reads (begun_part (scope_of parser.old) depth line word) parser.old parser.new result }
+    ensures stays { (why : ParseReason) → parser.old.fault ≡ Some why → at.new ≡ at.old }
+    ensures line { (block : Block) (outer : List Level) → is_settled block ≡ true → word_of (Piece.Word word) ≡ Some word → at.old ≡ line → Tells (level_at block parser.old depth ∷ outer) parser.old parser.new (from_word line word parser.old) at.new }
+{
+    match word {
+        Word::For => looped(parser, at, line, depth),
+        Word::If => branch(parser, at, line, false, depth),
+        _ => simple(parser, word, line),
+    }
+}
+
+/// A statement that begins with this word, which comes next.
+#[cycle(statements)]
+fn statement(parser: &mut Parser<'_>, at: &mut u32, word: Word, depth: u32) -> Statement
+    ensures reads { is_first word ≡ true → next parser.old ≡ Piece.Word word → Reads (one_part (scope_of parser.old) depth word) parser.old parser.new result }
+    ensures shorter { is_first word ≡ true → next parser.old ≡ Piece.Word word → length parser.new.rest.now < length parser.old.rest.now }
+    ensures stays { (why : ParseReason) → parser.old.fault ≡ Some why → at.new ≡ at.old }
+    ensures line { (block : Block) (outer : List Level) → is_settled block ≡ true → word_of (Piece.Word word) ≡ Some word → next parser.old ≡ Piece.Word word → Tells (level_at block parser.old depth ∷ outer) parser.old parser.new parser.old.rest.now at.new }
+{
+    begin_line(parser, at);
+    let line = parser.line();
+    parser.step();
+    begun(parser, at, word, line, depth)
+}
+
+/// Statements, up to what ends them. At most so many blocks stand within one another.
+#[cycle(statements)]
+fn statements(parser: &mut Parser<'_>, at: &mut u32, depth: u32) -> Statement
+    ensures reads { Reads (statements_part (scope_of parser.old) depth) parser.old parser.new result }
+    ensures stays { (why : ParseReason) → parser.old.fault ≡ Some why → at.new ≡ at.old }
+    ensures line { (block : Block) (outer : List Level) → is_settled block ≡ true → Tells (level_at block parser.old depth ∷ outer) parser.old parser.new parser.old.rest.now at.new }
+    ensures ended { parser.new.fault ≡ None → is_end (next parser.new) ≡ true }
+{
+    let mut list = Vec::new(parser.alloc);
+    while let Some(word) = word_of(parser.piece()) {
+        let statement = statement(parser, at, word, depth);
+        add(parser, &mut list, statement);
+    }
+    begin_line(parser, at);
+    refuse_other(parser);
+    whole(parser, list)
+}
+
+/// The heading, and the line of the policy.
+fn heading(parser: &mut Parser<'_>, at: &mut u32) -> Policy
+    ensures reads { Reads heading_part parser.old parser.new result }
+    ensures stays { (why : ParseReason) → parser.old.fault ≡ Some why → at.new ≡ at.old }
+    ensures line { (depth : ℕ) → Tells (level_at Block.start parser.old depth ∷ []) parser.old parser.new parser.old.rest.now at.new }
+{
+    begin_line(parser, at);
+    heading_line(parser);
+    begin_line(parser, at);
+    policy_line(parser)
+}
+
+/// The lines of parameters.
+fn parameters(parser: &mut Parser<'_>, at: &mut u32) -> Statement
+    ensures reads { parser.old.in_parameter ≡ false → ReadsParameters parser.old parser.new result }
+    ensures stays { parser.old.in_parameter ≡ false → (why : ParseReason) → parser.old.fault ≡ Some why → at.new ≡ at.old }
+    ensures line { (block : Block) (depth : ℕ) → lists block ≡ true → parser.old.in_parameter ≡ false
+        → Tells (level_at block parser.old depth ∷ []) parser.old parser.new parser.old.rest.now at.new }
+    ensures ended { parser.new.fault ≡ None → begins (Piece.Word Word.Param) (Some parser.new.rest.now) ≡ false }
+{
+    let mut list = Vec::new(parser.alloc);
+    while parser.is(Piece::Word(Word::Param)) {
+        begin_line(parser, at);
+        let line = parser.line();
+        parser.step();
+        let statement = parameter(parser, line);
+        add(parser, &mut list, statement);
+    }
+    whole(parser, list)
+}
+
+/// The whole text, up to its end. At most 32 blocks stand within one another in it.
+pub(crate) fn program(parser: &mut Parser<'_>, at: &mut u32) -> (Policy, Statement)
+    ensures reads { parser.old.in_parameter ≡ false → parser.old.parameters.items ≡ [] → parser.old.loops.items ≡ [] → Meets (text_part parser.old.names.now) parser.old parser.new result }
+    ensures ends { parser.new.fault ≡ None → is_all_read parser.new.rest.now ≡ true }
+    ensures line { parser.old.in_parameter ≡ false → parser.old.parameters.items ≡ [] → parser.old.loops.items ≡ [] → IsEnded parser.old.rest.now
+        → Tells (begin parser.old.names.now ∷ []) parser.old parser.new parser.old.rest.now at.new }
+{
+    let policy = heading(parser, at);
+    let heads = parameters(parser, at);
+    let all = statements(parser, at, 32);
+    end_text(parser, at);
+    (policy, in_turn(parser, heads, all))
 }

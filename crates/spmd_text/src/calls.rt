@@ -3,20 +3,21 @@
 //! What is wrong is noted, and no piece is read behind it: what is then made of the parts is never
 //! used.
 
-ghost use Rattle.std.specs.Prelude.{◌≡◌, ◌+◌, IfOk, IfSome, None, Some, false, slice_get, true};
+ghost use Rattle.std.specs.Prelude.{ℕ, ◌≡◌, ◌+◌, IfOk, IfSome, None, Some, false, slice_get, true};
 ghost use Rattle.spmd_text.specs.Labels.{name_fits};
 ghost use Rattle.spmd_text.specs.Parts.{IsRight, Keeps, Reads, arguments_part, form_of, group_part, index_part, label_part, labels_part, optional_part, request_part, root_part, value_part, wild_part};
 ghost use Rattle.spmd_text.specs.Reading.{Goes};
 ghost use Rattle.spmd_text.specs.Spelling.{begins, is_rooted};
+ghost use Rattle.spmd_text.specs.Statements.{IsMore, Makes, begun_part, is_call, scope_of};
 
-use crate::blocks::stated;
 use crate::expressions::expression_at;
 use crate::fault::ParseReason;
 use crate::labels::is_label;
+use crate::lines::refused;
 use crate::parser::Parser;
 use crate::piece::{Piece, Word};
 use spmd_tree::{Arguments, Expression, GroupForm, Kind, LabelForm, Labels, Mode, Statement};
-use std::alloc::AllocError;
+use std::alloc::{AllocError, Global};
 
 /// Whether the name can be that of a request or handle.
 fn can_be_label(names: &[Vec<u8>], name: u32, indexed: bool) -> bool
@@ -257,27 +258,49 @@ fn wait(parser: &mut Parser<'_>) -> Arguments
     Arguments::Wait { request }
 }
 
+/// The requests of a list in memory of their own.
+fn boxed(alloc: Global, labels: Labels) -> Result<Box<Labels>, AllocError>
+    ensures { IfOk result (λ made. made.value ≡ labels) }
+{
+    Ok(Box::new(alloc, labels)?)
+}
+
+/// A request, and the others of the list.
+fn more(parser: &mut Parser<'_>, form: LabelForm, others: Labels) -> Labels
+    ensures { Makes parser.old parser.new (IsMore form others result) }
+{
+    match boxed(parser.alloc, others) {
+        Ok(others) => Labels::More(form, others),
+        Err(AllocError) => {
+            parser.fail(ParseReason::Memory);
+            Labels::Last(form)
+        }
+    }
+}
+
 /// The requests of a `waitall`, in their order, of which so many may follow the first.
-fn labels(parser: &mut Parser<'_>, most: u32) -> Result<Labels, AllocError>
-    ensures goes { Keeps parser.old parser.new }
-    ensures reads { IfOk result (λ found. Reads (labels_part parser.old.in_parameter parser.old.names.now (most + 1)) parser.old parser.new found) }
+fn labels(parser: &mut Parser<'_>, most: u32) -> Labels
+    ensures { Reads (labels_part parser.old.in_parameter parser.old.names.now (most + 1)) parser.old parser.new result }
 {
     let form = label(parser);
     if !parser.take(Piece::Comma) {
-        return Ok(Labels::Last(form));
+        return Labels::Last(form);
     }
     if most == 0 {
         parser.fail(ParseReason::TooLong);
-        return Ok(Labels::Last(form));
+        return Labels::Last(form);
     }
-    let others = labels(parser, most - 1)?;
-    Ok(Labels::More(form, Box::new(parser.alloc, others)?))
+    let others = labels(parser, most - 1);
+    more(parser, form, others)
 }
 
-/// A `waitall` after its word.
-pub(crate) fn wait_all(parser: &mut Parser<'_>, line: u32) -> Result<Box<Statement>, ParseReason> {
-    let requests = labels(parser, 1023)?;
-    stated(parser, Statement::WaitAll { line, requests })
+/// A `waitall` after its word, up to the end of its line.
+pub(crate) fn wait_all(parser: &mut Parser<'_>, line: u32) -> Statement
+    ensures { (depth : ℕ) → Reads (begun_part (scope_of parser.old) depth line Word.Waitall) parser.old parser.new result }
+{
+    let requests = labels(parser, 1023);
+    parser.end_line();
+    Statement::WaitAll { line, requests }
 }
 
 /// What a word begins: a send, and whether it is started; a receive, or one on a handle, and whether
@@ -343,15 +366,14 @@ fn arguments(parser: &mut Parser<'_>, form: Form) -> Arguments
     }
 }
 
-/// The call that the word begins.
-pub(crate) fn call(
-    parser: &mut Parser<'_>,
-    word: Word,
-    line: u32,
-) -> Result<Box<Statement>, ParseReason> {
+/// The call that the word begins, up to the end of its line.
+pub(crate) fn call(parser: &mut Parser<'_>, word: Word, line: u32) -> Statement
+    ensures { (depth : ℕ) → is_call word ≡ true → Reads (begun_part (scope_of parser.old) depth line word) parser.old parser.new result }
+{
     let Some(form) = form_of(word) else {
-        return Err(ParseReason::NoStatement);
+        return refused(parser, ParseReason::NoStatement);
     };
     let arguments = arguments(parser, form);
-    stated(parser, Statement::Call { line, arguments })
+    parser.end_line();
+    Statement::Call { line, arguments }
 }

@@ -4,7 +4,6 @@ ghost use Rattle.std.specs.Prelude.{◌≡◌};
 ghost use Rattle.spmd_text.specs.Words.{word_code, code};
 
 use crate::piece::{Piece, Word};
-use crate::words::is;
 
 /// The number of a word, 0 to 52.
 fn word_code(word: Word) -> u32

@@ -1,6 +1,6 @@
 //! Expressions and conditions, read from left to right.
 //!
-//! What is wrong is noted, and then no piece is read any more: so the parts end one after the other.
+//! What is wrong is noted, and then no piece is read any more: so the parts end one after another.
 
 ghost use Rattle.spmd_text.specs.Parts.{Reads, condition_part, value_part};
 ghost use Rattle.std.specs.Prelude.{◌≡◌, ◌≤◌, ℕ, true, false, List, Some, None, Ok, IfOk};
@@ -22,7 +22,6 @@ use crate::joints::{
 };
 use crate::parser::Parser;
 use crate::piece::{Piece, Word};
-use crate::precedence::is_condition;
 use spmd_tree::Expression;
 use std::alloc::AllocError;
 
@@ -113,6 +112,20 @@ fn kept(parser: &mut Parser<'_>, made: Result<Expression, AllocError>) -> Expres
     match made {
         Ok(expression) => expression,
         Err(AllocError) => failed(parser, ParseReason::Memory),
+    }
+}
+
+/// Whether the tree is a condition.
+fn is_condition(expression: &Expression) -> bool
+    ensures { result ≡ is_condition expression.now }
+{
+    match expression {
+        Expression::Compare(_, _, _) => true,
+        Expression::Negation(_) => true,
+        Expression::Both(_, _) => true,
+        Expression::Either(_, _) => true,
+        Expression::Grouped(inner) => is_condition(inner),
+        _ => false,
     }
 }
 
@@ -264,7 +277,8 @@ fn operand(parser: &mut Parser<'_>, beginning: Beginning, least: u32, depth: u32
     }
 }
 
-/// The first part of an expression, with what is joined to it by joints that bind at least so close.
+/// The first part of an expression, with what is joined to it by joints that bind at least so
+/// close.
 #[cycle(expression)]
 fn joins(
     parser: &mut Parser<'_>,

@@ -48,8 +48,6 @@ pub enum ParseReason {
     Label,
     TooDeep,
     TooLong,
-    /// What was read is not what the pieces say: a fault of the reading itself.
-    Misread,
 }
 
 impl ParseReason {
@@ -96,7 +94,6 @@ impl ParseReason {
                 "a request or handle has a to z and 0 to 9 alone, at most 16, and at most 9 before an index; `ix` and digits do not end it",
             ParseReason::TooDeep => "more than 32 blocks or parentheses within one another",
             ParseReason::TooLong => "more than 256 parts in a row, or more than 1024 requests",
-            ParseReason::Misread => "internal: the text is not what was read",
         }
     }
 }

@@ -1,9 +1,7 @@
 //! How requests and handles are named, so that a name with its index has a spelling of its own.
 
 ghost use Rattle.std.specs.Prelude.{◌≡◌};
-ghost use Rattle.spmd_text.specs.Labels.{is_digit, are_digits, are_letters, is_index, ends_in_index, is_label, has_index, label_fits, request_fits, call_fits, labels_fit, all_fit};
-
-use spmd_tree::{Arguments, Expression, LabelForm, Labels, Statement};
+ghost use Rattle.spmd_text.specs.Labels.{is_digit, are_digits, are_letters, is_index, ends_in_index, is_label};
 
 /// Whether the byte is 0 to 9.
 fn is_digit(byte: u8) -> bool
@@ -59,76 +57,5 @@ pub(crate) fn is_label(word: &[u8], indexed: bool) -> bool
     match indexed {
         true => are_letters(word) && word.len() <= 9,
         false => are_letters(word) && word.len() <= 16 && !ends_in_index(word),
-    }
-}
-
-/// Whether an index is written.
-fn has_index(index: &Option<Expression>) -> bool
-    ensures { result ≡ has_index index.now }
-{
-    match index {
-        None => false,
-        Some(_) => true,
-    }
-}
-
-/// Whether the name of the request or handle can be one.
-fn label_fits(names: &[Vec<u8>], form: &LabelForm) -> bool
-    ensures { result ≡ label_fits names.now form.now }
-{
-    match names.get(form.name as usize) {
-        None => false,
-        Some(name) => is_label(name.as_slice(), has_index(&form.index)),
-    }
-}
-
-/// Whether the name of the request can be one, where there is a request.
-fn request_fits(names: &[Vec<u8>], request: &Option<LabelForm>) -> bool
-    ensures { result ≡ request_fits names.now request.now }
-{
-    match request {
-        None => true,
-        Some(form) => label_fits(names, form),
-    }
-}
-
-/// Whether the names of the request and the handle of a call can be ones.
-fn call_fits(names: &[Vec<u8>], arguments: &Arguments) -> bool
-    ensures { result ≡ call_fits names.now arguments.now }
-{
-    match arguments {
-        Arguments::Send { request, .. } => request_fits(names, request),
-        Arguments::Receive { request, .. } => request_fits(names, request),
-        Arguments::MatchedProbe { handle, .. } => label_fits(names, handle),
-        Arguments::MatchedReceive { request, handle } => {
-            request_fits(names, request) && label_fits(names, handle)
-        }
-        Arguments::Wait { request } => label_fits(names, request),
-        _ => true,
-    }
-}
-
-/// Whether the names of all these requests can be ones.
-fn labels_fit(names: &[Vec<u8>], labels: &Labels) -> bool
-    ensures { result ≡ labels_fit names.now labels.now }
-{
-    match labels {
-        Labels::Last(form) => label_fits(names, form),
-        Labels::More(form, others) => label_fits(names, form) && labels_fit(names, others),
-    }
-}
-
-/// Whether each label of the text is one.
-pub(crate) fn all_fit(names: &[Vec<u8>], statement: &Statement) -> bool
-    ensures { result ≡ all_fit names.now statement.now }
-{
-    match statement {
-        Statement::Sequence(a, b) => all_fit(names, a) && all_fit(names, b),
-        Statement::When { yes, no, .. } => all_fit(names, yes) && all_fit(names, no),
-        Statement::Otherwise(a) => all_fit(names, a),
-        Statement::Repeat { body, .. } => all_fit(names, body),
-        Statement::Call { arguments, .. } => call_fits(names, arguments),
-        Statement::WaitAll { requests, .. } => labels_fit(names, requests),
-        _ => true,
     }
 }

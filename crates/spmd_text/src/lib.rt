@@ -15,13 +15,7 @@ mod lexer;
 mod lines;
 mod parser;
 mod piece;
-mod precedence;
 mod reading;
-mod spelled_call;
-mod spelled_expression;
-mod spelled_piece;
-mod spelled_statement;
-mod spelled_text;
 mod words;
 
 pub use fault::{ParseFault, ParseReason, TextFault};

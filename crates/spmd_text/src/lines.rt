@@ -1,53 +1,96 @@
-//! Lines: one statement each, or the beginning or end of a block.
+//! Lines that are statements of their own, and the heading of a text.
 
-use crate::blocks::{Block, Branch, Head, Loop, add, end_block, open, stated, turn_over};
+ghost use Rattle.std.specs.Prelude.{◌≡◌, ◌≤◌, IfSome, length, ℕ, pos, None, Some, true, false};
+ghost use Rattle.spmd_text.specs.Parts.{Keeps, Reads, value_part};
+ghost use Rattle.spmd_text.specs.Programs.{Adds, ReadsParameter, otherwise_part};
+ghost use Rattle.spmd_text.specs.Reading.{Goes, noted};
+ghost use Rattle.spmd_text.specs.Statements.{IsStep, begun_part, gap_part, heading_line_part, is_one_of, is_simple, may_give, policy_line_part, policy_of, policy_part, scope_of, span_part, step_part, variable_part};
+
 use crate::calls::{call, wait_all};
-use crate::expressions::{condition_at, expression_at};
+use crate::expressions::expression_at;
 use crate::fault::ParseReason;
 use crate::parser::Parser;
 use crate::piece::{Piece, Word};
 use crate::reading::Policy;
 use spmd_tree::{Expression, Statement};
-use std::alloc::AllocError;
+
+/// What has no meaning here: what is given in place of a statement is never used.
+pub(crate) fn refused(parser: &mut Parser<'_>, reason: ParseReason) -> Statement
+    ensures { parser.new ≡ record parser.old { fault = noted parser.old.fault reason } }
+{
+    parser.fail(reason);
+    Statement::Nothing
+}
 
 /// Whether the name is one of these.
-fn contains(places: &[u32], name: u32) -> bool {
+fn contains(places: &[u32], name: u32) -> bool
+    ensures { result ≡ is_one_of places.now name }
+{
     places.iter().any(|place| *place == name)
 }
 
-/// The variable of a `let` or a loop, and its `=`. It is neither a parameter nor the variable of an
-/// open loop.
-fn variable(parser: &mut Parser<'_>) -> u32 {
-    let name = parser.name();
+/// Notes where the name is one of a parameter or of the variable of an open loop.
+fn refuse_fixed(parser: &mut Parser<'_>, name: u32)
+    ensures goes { Goes parser.old parser.new }
+    ensures sound { parser.new.fault ≡ None → (parser.new ≡ parser.old) × (may_give (scope_of parser.old) name ≡ true) }
+    ensures fits { may_give (scope_of parser.old) name ≡ true → parser.new ≡ parser.old }
+{
     if contains(&parser.parameters, name) {
         parser.fail(ParseReason::AssignedParameter);
     }
     if contains(&parser.loops, name) {
         parser.fail(ParseReason::AssignedLoop);
     }
+}
+
+/// The variable of a `let` or a loop, and its `=`. It is neither a parameter nor the variable of an
+/// open loop.
+pub(crate) fn variable(parser: &mut Parser<'_>) -> u32
+    ensures { Reads (variable_part (scope_of parser.old)) parser.old parser.new result }
+{
+    let name = parser.name();
+    refuse_fixed(parser, name);
     parser.expect(Piece::Equals, ParseReason::NoEquals);
     name
 }
 
-/// A `let` after its word.
-fn assign(parser: &mut Parser<'_>, line: u32) -> Result<Box<Statement>, ParseReason> {
+/// A `let` after its word, up to the end of its line.
+fn assign(parser: &mut Parser<'_>, line: u32) -> Statement
+    ensures { (depth : ℕ) → Reads (begun_part (scope_of parser.old) depth line Word.Let) parser.old parser.new result }
+{
     let name = variable(parser);
     let value = expression_at(parser);
-    stated(parser, Statement::Assign { line, name, value })
+    parser.end_line();
+    Statement::Assign { line, name, value }
+}
+
+/// An `error` after its word, up to the end of its line.
+fn unreached(parser: &mut Parser<'_>, line: u32) -> Statement
+    ensures { (depth : ℕ) → Reads (begun_part (scope_of parser.old) depth line Word.Error) parser.old parser.new result }
+{
+    parser.end_line();
+    Statement::Unreached { line }
 }
 
 /// A statement of one line, after its first word.
-fn simple(parser: &mut Parser<'_>, word: Word, line: u32) -> Result<Box<Statement>, ParseReason> {
+pub(crate) fn simple(parser: &mut Parser<'_>, word: Word, line: u32) -> Statement
+    ensures { (depth : ℕ) → is_simple word ≡ true → Reads (begun_part (scope_of parser.old) depth line word) parser.old parser.new result }
+{
     match word {
         Word::Let => assign(parser, line),
-        Word::Error => stated(parser, Statement::Unreached { line }),
+        Word::Error => unreached(parser, line),
         Word::Waitall => wait_all(parser, line),
+        Word::Param => refused(parser, ParseReason::LateParameter),
+        Word::Policy => refused(parser, ParseReason::LatePolicy),
         _ => call(parser, word, line),
     }
 }
 
-/// The value of a parameter, where it has one. It is the same on all ranks, so `rank` is none of it.
-fn otherwise(parser: &mut Parser<'_>) -> Option<Expression> {
+/// The value of a parameter, where it has one. It is the same on all ranks, so `rank` isn't in it.
+fn otherwise(parser: &mut Parser<'_>) -> Option<Expression>
+    ensures reads { parser.old.in_parameter ≡ false → Reads otherwise_part parser.old parser.new result }
+    ensures shorter { length parser.new.rest.now ≤ length parser.old.rest.now }
+{
     if !parser.take(Piece::Equals) {
         return None;
     }
@@ -57,26 +100,49 @@ fn otherwise(parser: &mut Parser<'_>) -> Option<Expression> {
     Some(value)
 }
 
-/// A `param` after its word.
-fn parameter(parser: &mut Parser<'_>, line: u32) -> Result<Box<Statement>, ParseReason> {
-    let name = parser.name();
+/// Notes where the name is one of a parameter.
+fn refuse_repeated(parser: &mut Parser<'_>, name: u32)
+    ensures goes { Goes parser.old parser.new }
+    ensures sound { parser.new.fault ≡ None → (parser.new ≡ parser.old) × (is_one_of parser.old.parameters.items name ≡ false) }
+    ensures fits { is_one_of parser.old.parameters.items name ≡ false → parser.new ≡ parser.old }
+{
     if contains(&parser.parameters, name) {
         parser.fail(ParseReason::RepeatedParameter);
     }
-    parser.parameters.push(name)?;
+}
+
+/// Adds the name to those of parameters, where memory lasts.
+fn keep_parameter(parser: &mut Parser<'_>, name: u32)
+    ensures { Adds parser.old parser.new name }
+{
+    match parser.parameters.push(name) {
+        Ok(()) => {}
+        Err(_) => parser.fail(ParseReason::Memory),
+    }
+}
+
+/// A `param` after its word, up to the end of its line.
+pub(crate) fn parameter(parser: &mut Parser<'_>, line: u32) -> Statement
+    ensures reads { parser.old.in_parameter ≡ false → ReadsParameter parser.old parser.new line result }
+    ensures shorter { length parser.new.rest.now ≤ length parser.old.rest.now }
+{
+    let name = parser.name();
+    refuse_repeated(parser, name);
+    keep_parameter(parser, name);
     let otherwise = otherwise(parser);
-    stated(
-        parser,
-        Statement::Parameter {
-            line,
-            name,
-            otherwise,
-        },
-    )
+    parser.end_line();
+    Statement::Parameter {
+        line,
+        name,
+        otherwise,
+    }
 }
 
 /// A step, where the piece is the number of one.
-fn step_of(piece: Piece) -> Option<u32> {
+fn step_of(piece: Piece) -> Option<u32>
+    ensures found { IfSome result (λ step. IsStep step × (piece ≡ Piece.Number (pos step))) }
+    ensures each { (step : ℕ) → IsStep step → piece ≡ Piece.Number (pos step) → result ≡ Some step }
+{
     match piece {
         Piece::Number(number) => match u32::try_from(number) {
             Err(_) => None,
@@ -86,171 +152,95 @@ fn step_of(piece: Piece) -> Option<u32> {
     }
 }
 
-/// The step of a loop, 1 where none is written.
-fn step(parser: &mut Parser<'_>) -> u32 {
-    if !parser.take(Piece::Word(Word::Step)) {
-        return 1;
-    }
+/// The number that is a step.
+fn step_number(parser: &mut Parser<'_>) -> u32
+    ensures { Reads step_part parser.old parser.new result }
+{
     match step_of(parser.piece()) {
         None => {
             parser.fail(ParseReason::Step);
             1
         }
-        Some(number) => {
+        Some(step) => {
             parser.step();
-            number
+            step
         }
     }
 }
 
-/// A `for` after its word.
-fn loop_head(parser: &mut Parser<'_>, line: u32) -> Result<Head, AllocError> {
-    let name = variable(parser);
-    parser.loops.push(name)?;
+/// The step of a loop, 1 where none is written.
+fn step(parser: &mut Parser<'_>) -> u32
+    ensures { Reads gap_part parser.old parser.new result }
+{
+    if !parser.take(Piece::Word(Word::Step)) {
+        return 1;
+    }
+    step_number(parser)
+}
+
+/// The values of a loop: the first one, the last one and the step.
+#[derive(Drop)]
+pub(crate) struct Span {
+    pub(crate) first: Expression,
+    pub(crate) last: Expression,
+    pub(crate) step: u32,
+}
+
+/// The values of a loop, behind its variable.
+pub(crate) fn span_at(parser: &mut Parser<'_>) -> Span
+    ensures { Reads (span_part parser.old.in_parameter) parser.old parser.new result }
+{
     let first = expression_at(parser);
     parser.expect(Piece::Word(Word::To), ParseReason::NoTo);
     let last = expression_at(parser);
     let step = step(parser);
-    Ok(Head::Loop(Loop {
-        line,
-        name,
-        first,
-        last,
-        step,
-    }))
+    Span { first, last, step }
 }
 
-/// An `if` or `elif` after its word.
-fn branch_head(parser: &mut Parser<'_>, line: u32, chained: bool) -> Head {
-    let condition = condition_at(parser);
-    Head::Branch(Branch {
-        line,
-        condition,
-        yes: None,
-        chained,
-        by_else: false,
-    })
+/// The policy that the piece is.
+fn policy_of(piece: Piece) -> Option<Policy>
+    ensures { result ≡ policy_of piece }
+{
+    match piece {
+        Piece::Word(Word::Any) => Some(Policy::Any),
+        Piece::Word(Word::Never) => Some(Policy::Never),
+        Piece::Word(Word::Always) => Some(Policy::Always),
+        _ => None,
+    }
 }
 
-/// Opens a branch, whose first word was read.
-fn open_branch(
-    parser: &mut Parser<'_>,
-    blocks: &mut Vec<Block>,
-    line: u32,
-    chained: bool,
-) -> Result<(), ParseReason> {
-    let head = branch_head(parser, line, chained);
-    open(parser, blocks, head)
-}
-
-/// Opens a loop, whose first word was read.
-fn open_loop(
-    parser: &mut Parser<'_>,
-    blocks: &mut Vec<Block>,
-    line: u32,
-) -> Result<(), ParseReason> {
-    let head = loop_head(parser, line)?;
-    open(parser, blocks, head)
-}
-
-/// One line, after its first word.
-fn statement(
-    parser: &mut Parser<'_>,
-    blocks: &mut Vec<Block>,
-    all: &mut Vec<Box<Statement>>,
-    word: Word,
-    line: u32,
-) -> Result<(), ParseReason> {
-    match word {
-        Word::For => open_loop(parser, blocks, line),
-        Word::If => open_branch(parser, blocks, line, false),
-        Word::Elif => {
-            turn_over(parser.alloc, blocks, false)?;
-            open_branch(parser, blocks, line, true)
+/// A policy.
+fn policy(parser: &mut Parser<'_>) -> Policy
+    ensures { Reads policy_part parser.old parser.new result }
+{
+    match policy_of(parser.piece()) {
+        None => {
+            parser.fail(ParseReason::NoPolicy);
+            Policy::Any
         }
-        Word::Else => turn_over(parser.alloc, blocks, true),
-        Word::End => end_block(parser, blocks, all),
-        Word::Param => Err(ParseReason::LateParameter),
-        Word::Policy => Err(ParseReason::LatePolicy),
-        _ => {
-            let statement = simple(parser, word, line)?;
-            add(blocks, all, statement)?;
-            Ok(())
+        Some(policy) => {
+            parser.step();
+            policy
         }
     }
 }
 
 /// The line of the policy, where there is one.
-fn policy_line(parser: &mut Parser<'_>) -> Result<Policy, ParseReason> {
+pub(crate) fn policy_line(parser: &mut Parser<'_>) -> Policy
+    ensures { Reads policy_line_part parser.old parser.new result }
+{
     if !parser.take(Piece::Word(Word::Policy)) {
-        return Ok(Policy::Any);
+        return Policy::Any;
     }
-    let policy = match parser.piece() {
-        Piece::Word(Word::Any) => Policy::Any,
-        Piece::Word(Word::Never) => Policy::Never,
-        Piece::Word(Word::Always) => Policy::Always,
-        _ => return Err(ParseReason::NoPolicy),
-    };
-    parser.step();
-    parser.end_line()?;
-    Ok(policy)
+    let policy = policy(parser);
+    parser.end_line();
+    policy
 }
 
-/// The lines of parameters.
-fn parameters(parser: &mut Parser<'_>, heads: &mut Vec<Box<Statement>>) -> Result<(), ParseReason> {
-    for _ in 0..u32::MAX {
-        let line = parser.line();
-        if !parser.take(Piece::Word(Word::Param)) {
-            break;
-        }
-        let statement = parameter(parser, line)?;
-        heads.push(statement)?;
-        parser.end_line()?;
-    }
-    Ok(())
-}
-
-/// One line.
-fn line(
-    parser: &mut Parser<'_>,
-    blocks: &mut Vec<Block>,
-    all: &mut Vec<Box<Statement>>,
-) -> Result<(), ParseReason> {
-    let line = parser.line();
-    let Piece::Word(word) = parser.piece() else {
-        return Err(ParseReason::NoStatement);
-    };
-    parser.step();
-    statement(parser, blocks, all, word, line)?;
-    parser.end_line()
-}
-
-/// The heading, and the line of the policy.
-fn heading(parser: &mut Parser<'_>) -> Result<Policy, ParseReason> {
-    if !parser.take(Piece::Word(Word::Spmd)) {
-        return Err(ParseReason::NoHeading);
-    }
-    parser.end_line()?;
-    policy_line(parser)
-}
-
-/// All lines of a text.
-pub(crate) fn lines(
-    parser: &mut Parser<'_>,
-    blocks: &mut Vec<Block>,
-    heads: &mut Vec<Box<Statement>>,
-    all: &mut Vec<Box<Statement>>,
-) -> Result<Policy, ParseReason> {
-    let policy = heading(parser)?;
-    parameters(parser, heads)?;
-    for _ in 0..u32::MAX {
-        if parser.is(Piece::TextEnd) {
-            break;
-        }
-        line(parser, blocks, all)?;
-    }
-    if !blocks.is_empty() {
-        return Err(ParseReason::NoEnd);
-    }
-    Ok(policy)
+/// The line of the heading.
+pub(crate) fn heading_line(parser: &mut Parser<'_>)
+    ensures { Reads heading_line_part parser.old parser.new result }
+{
+    parser.expect(Piece::Word(Word::Spmd), ParseReason::NoHeading);
+    parser.end_line();
 }

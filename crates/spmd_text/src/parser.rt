@@ -6,6 +6,7 @@ ghost use Rattle.spmd_text.specs.declared.piece.Piece.TheVariants as piece;
 ghost use Rattle.spmd_text.specs.Reading.{next, next_of, behind, noted, Goes, Stands};
 ghost use Rattle.spmd_text.specs.Spelling.{after, begins};
 ghost use Rattle.spmd_text.specs.Parts.{Reads, is_plain, name_part, piece_part};
+ghost use Rattle.spmd_text.specs.Statements.{line_at};
 ghost use Rattle.spmd_text.specs.Words.{code};
 
 use crate::codes::code;
@@ -27,7 +28,7 @@ pub(crate) struct Parser<'a> {
     pub(crate) loops: Vec<u32>,
     /// Whether the value of a parameter is read.
     pub(crate) in_parameter: bool,
-    /// What is wrong first within a statement: no piece is read behind it.
+    /// What is wrong first: no piece is read behind it.
     pub(crate) fault: Option<ParseReason>,
 }
 
@@ -65,7 +66,9 @@ impl Parser<'_> {
     }
 
     /// The line of the piece that is read next, or of the last one.
-    pub(crate) fn line(&self) -> u32 {
+    pub(crate) fn line(&self) -> u32
+        ensures { result ≡ line_at self.now.last_line self.now.rest.now }
+    {
         match self.rest.first() {
             Some(token) => token.line,
             None => self.last_line,
@@ -148,22 +151,10 @@ impl Parser<'_> {
         self.expect(Piece::Comma, ParseReason::NoComma);
     }
 
-    /// Nothing is wrong so far, or what is wrong first.
-    pub(crate) fn sound(&self) -> Result<(), ParseReason> {
-        match self.fault {
-            None => Ok(()),
-            Some(reason) => Err(reason),
-        }
-    }
-
     /// Takes the end of a line.
-    pub(crate) fn end_line(&mut self) -> Result<(), ParseReason> {
-        if self.take(Piece::LineEnd) {
-            return Ok(());
-        }
-        if self.is(Piece::TextEnd) {
-            return Ok(());
-        }
-        Err(ParseReason::TooMuch)
+    pub(crate) fn end_line(&mut self)
+        ensures { Reads (piece_part piece.LineEnd) self.old self.new result }
+    {
+        self.expect(Piece::LineEnd, ParseReason::TooMuch);
     }
 }

@@ -1,16 +1,18 @@
-//! A text is read whole, and compared with its pieces once more.
+//! A text is read whole.
 
-ghost use Rattle.std.specs.Prelude.{◌≡◌, ◌++◌, IfErr, IfOk, OnOk};
-ghost use Rattle.spmd_text.specs.Texts.{HasFault, IsOfGrammar, IsText, grammar_fault, is_memory, parameters_of};
+ghost use Rattle.std.specs.Prelude.{◌≡◌, ◌++◌, IfErr, IfOk, IfSome, None, OnOk, Some, false};
+ghost use Rattle.spmd_tree.specs.declared.tree.Statement.{Statement};
+ghost use Rattle.spmd_text.specs.declared.reading.Policy.{Policy};
+ghost use Rattle.spmd_text.specs.FirstFaults.{IsFirstFault};
+ghost use Rattle.spmd_text.specs.Lines.{IsEnded};
+ghost use Rattle.spmd_text.specs.Programs.{Says, parameters_of};
+ghost use Rattle.spmd_text.specs.Texts.{HasFault, IsText, grammar_fault, is_memory};
 
-use crate::blocks::sequence;
+use crate::blocks::program;
 use crate::cutting::cut;
 use crate::fault::{ParseFault, ParseReason, TextFault};
-use crate::labels::all_fit;
-use crate::lines::lines;
 use crate::parser::Parser;
 use crate::piece::{Pieces, Token};
-use crate::spelled_text::is_spelled;
 use spmd_tree::Statement;
 use std::alloc::{AllocError, Global};
 
@@ -22,11 +24,13 @@ pub enum Policy {
     Always,
 }
 
-/// The statements of a text.
+/// What was read of a text.
 #[derive(Drop)]
-struct Program {
+struct Reading {
     policy: Policy,
     statements: Statement,
+    /// What is wrong first: the statements mean nothing then.
+    fault: Option<ParseFault>,
 }
 
 /// An SPMD text that was read.
@@ -48,8 +52,26 @@ fn last_line(tokens: &[Token]) -> u32 {
     }
 }
 
-/// Reads the statements.
-fn read(alloc: Global, found: &Pieces) -> Result<Program, ParseFault> {
+/// What is wrong first, and on which line.
+fn first_fault(parser: &Parser<'_>, line: u32) -> Option<ParseFault>
+    ensures sound { result ≡ None → parser.now.fault ≡ None }
+    ensures told { IfSome result (λ fault. parser.now.fault ≡ Some fault.reason) }
+    ensures line { IfSome result (λ fault. fault.line ≡ line) }
+{
+    match parser.fault {
+        None => None,
+        Some(reason) => Some(ParseFault { line, reason }),
+    }
+}
+
+/// Reads the pieces. Where a fault is told, other than want of memory, they say nothing that can be
+/// read.
+fn read(alloc: Global, found: &Pieces) -> Reading
+    ensures said { result.fault ≡ None → Says found.now result.policy result.statements }
+    ensures told { IfSome result.fault (λ fault. is_memory fault.reason ≡ false → (policy : Policy) (statements : Statement) → Says found.now policy statements → ⊥) }
+    ensures first { IfSome result.fault (λ fault. is_memory fault.reason ≡ false → IsEnded found.now.tokens.items
+        → IsFirstFault found.now.names.items found.now.tokens.items fault.line) }
+{
     let mut parser = Parser {
         alloc,
         rest: found.tokens.as_slice(),
@@ -60,33 +82,13 @@ fn read(alloc: Global, found: &Pieces) -> Result<Program, ParseFault> {
         in_parameter: false,
         fault: None,
     };
-    let mut blocks = Vec::new(alloc);
-    let mut heads = Vec::new(alloc);
-    let mut all = Vec::new(alloc);
-    match lines(&mut parser, &mut blocks, &mut heads, &mut all) {
-        Err(reason) => Err(ParseFault {
-            line: parser.line(),
-            reason,
-        }),
-        Ok(policy) => match whole(alloc, heads, all) {
-            Err(_) => Err(ParseFault {
-                line: 1,
-                reason: ParseReason::Memory,
-            }),
-            Ok(statements) => Ok(Program { policy, statements }),
-        },
+    let mut line = 1;
+    let (policy, statements) = program(&mut parser, &mut line);
+    Reading {
+        policy,
+        statements,
+        fault: first_fault(&parser, line),
     }
-}
-
-/// The text: its parameters, and then its other statements.
-fn whole(
-    alloc: Global,
-    heads: Vec<Box<Statement>>,
-    all: Vec<Box<Statement>>,
-) -> Result<Statement, AllocError> {
-    let heads = sequence(alloc, heads)?;
-    let all = sequence(alloc, all)?;
-    Ok(Statement::Sequence(heads, all))
 }
 
 /// Adds the places of the names of the parameters in the statement.
@@ -106,16 +108,6 @@ fn put_parameters(out: &mut Vec<u32>, statement: &Statement) -> Result<(), Alloc
     }
 }
 
-/// A fault of the reading itself, which the comparison found.
-fn misread() -> TextFault
-    ensures { IsOfGrammar result }
-{
-    TextFault::Grammar(ParseFault {
-        line: 1,
-        reason: ParseReason::Misread,
-    })
-}
-
 /// Whether the allocator refused memory.
 fn is_memory(reason: ParseReason) -> bool
     ensures { result ≡ is_memory reason }
@@ -128,8 +120,7 @@ fn is_memory(reason: ParseReason) -> bool
 
 /// What is told of a text that has pieces.
 fn grammar_fault(fault: ParseFault) -> TextFault
-    ensures told { result ≡ grammar_fault fault }
-    ensures grammar { IsOfGrammar result }
+    ensures { result ≡ grammar_fault fault }
 {
     if is_memory(fault.reason) {
         return TextFault::Memory;
@@ -137,8 +128,10 @@ fn grammar_fault(fault: ParseFault) -> TextFault
     TextFault::Grammar(fault)
 }
 
-/// Reads a text. What is read is what the text says, as `specs/Texts.antt` defines it: it is
-/// compared with the text once more, and a difference would be told as a fault of its own.
+/// Reads a text. What is read is what the text says, as `specs/Texts.antt` defines it. Where a fault
+/// of the grammar is told, the text says nothing, and its line is the first that is wrong: no text
+/// that can be read has it behind the lines before it. A statement that goes on over several lines
+/// is told with the number of the first of them.
 pub fn parse(alloc: Global, bytes: &[u8]) -> Result<Text, TextFault>
     ensures text { IfOk result (λ text. IsText text bytes.now) }
     ensures fault { IfErr result (λ fault. HasFault bytes.now fault) }
@@ -150,15 +143,9 @@ pub fn parse(alloc: Global, bytes: &[u8]) -> Result<Text, TextFault>
         Err(fault) => return Err(fault),
         Ok(found) => found,
     };
-    let program = match read(alloc, &found) {
-        Err(fault) => return Err(grammar_fault(fault)),
-        Ok(program) => program,
-    };
-    if !is_spelled(program.policy, &program.statements, &found.tokens) {
-        return Err(misread());
-    }
-    if !all_fit(&found.names, &program.statements) {
-        return Err(misread());
+    let program = read(alloc, &found);
+    if let Some(fault) = program.fault {
+        return Err(grammar_fault(fault));
     }
     let mut parameters = Vec::new(alloc);
     match put_parameters(&mut parameters, &program.statements) {

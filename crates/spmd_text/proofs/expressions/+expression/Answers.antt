@@ -7,7 +7,7 @@ use Rattle.spmd_text.specs.declared.piece.Word.TheVariants as word
 use Rattle.spmd_text.specs.declared.piece.Token.{Token}
 use Rattle.spmd_text.specs.Spelling.{after}
 use Rattle.spmd_text.specs.Joints.{binding_of, closeness, joint_ahead, joint_of, stops}
-use Rattle.spmd_text.specs.Growing.{beginning_of, begun, done, enclosed, Growing, Grows, MayBegin}
+use Rattle.spmd_text.specs.Growing.{beginning_of, begun, done, enclosed, Growing, Becomes, MayBegin}
 use Rattle.spmd_text.specs.Reading.{Ahead, Alike, Finds, Goes, MayStand}
 use Rattle.spmd_text.proofs.Alike.{alike_condition}
 use Rattle.spmd_text.proofs.Beginning.{begun_of, first_row}
@@ -90,8 +90,8 @@ expression-returns-clause-complete t c = λ e rest ahead may.
       tree = f.part;
       alike = alike;
       row_so = first_row f.part c.beginning_of-beginning.result c.row_of.result f.operand is_begun c.row_of.ensures;
-      grows = subst (λ (x : List Token). Grows depth mid.in_parameter e rest f.part x) (sym stands.left)
-          (subst (λ (k : Bool). Grows depth k e rest f.part f.behind) (sym (same_kind old mid c.operand-first.ensures.goes)) f.grows);
+      grows = subst (λ (x : List Token). Becomes depth mid.in_parameter e rest f.part x) (sym stands.left)
+          (subst (λ (k : Bool). Becomes depth k e rest f.part f.behind) (sym (same_kind old mid c.operand-first.ensures.goes)) f.grows);
       close = may.close;
       ends = may.ends;
     }))

@@ -1,0 +1,46 @@
+-- What is put together, unless memory runs out.
+use Rattle.std.proofs.Common.{◌≡◌, true, List, Option, Some, None, ap, sym, ◌∙◌, inl, inr}
+use Rattle.spmd_text.specs.declared.fault.ParseReason.{ParseReason}
+use Rattle.spmd_text.specs.declared.fault.ParseReason.TheVariants.{Memory}
+use Rattle.spmd_text.specs.declared.parser.Parser.{Parser}
+use Rattle.spmd_text.specs.declared.piece.Token.{Token}
+use Rattle.spmd_text.specs.Reading.{Finds, noted}
+use Rattle.spmd_text.specs.Parts.{Keeps, Part, Reads}
+use Rattle.spmd_text.specs.Statements.{Makes}
+use Rattle.spmd_text.proofs.Going.{goes_failed, never_failed}
+use Rattle.spmd_text.proofs.Parts.{found_as, keeps_of, keeps_on, keeps_same, sound_before, still_found}
+
+pub made_goes : {old new : Parser} {Made : Type 0} → Makes old new Made → Keeps old new
+made_goes {old} {new} (inl (same, made)) = keeps_same same
+made_goes {old} {new} (inr e) = keeps_of (goes_failed old new Memory e)
+
+pub made_sound : {old new : Parser} {Made : Type 0} → Makes old new Made → new.fault ≡ None → (new ≡ old) × Made
+made_sound (inl both) sound = both
+made_sound {old} {new} (inr e) sound = absurd (never_failed old new Memory e sound)
+
+pub finds_made : {old new : Parser} {rest : List Token} {A Made : Type 0} → Makes old new Made → Finds old rest A → Finds new rest A
+finds_made (inl (same, made)) found = still_found same found
+finds_made {old} {new} {rest} {A} {Made} (inr e) (inl memory) = inl ((goes_failed old new Memory e).sticks Memory memory)
+finds_made {old} {new} (inr e) (inr (there, a)) =
+    inl (ap (λ (s : Parser). s.fault) e ∙ ap (λ (f : Option ParseReason). noted f Memory) there.sound)
+
+-- what is read is what is put together of its parts
+pub reads_made : {X Z : Type 0} {one : Part X} {other : Part Z} {old mid new : Parser} {a : X} {z : Z} {Made : Type 0}
+    → ((w : Z) (rest : List Token) → old.fault ≡ None → other.May w → other.behind w (Some old.rest.now) ≡ Some rest → other.ends rest ≡ true
+    → (x : X) × one.May x × (one.behind x (Some old.rest.now) ≡ Some rest) × (one.ends rest ≡ true) × other.Same z w)
+    → (Made → (rest : List Token) → one.behind a (Some old.rest.now) ≡ Some rest → one.May a → (other.behind z (Some old.rest.now) ≡ Some rest) × other.May z)
+    → Reads one old mid a → Makes mid new Made → Reads other old new z
+reads_made {X} {Z} {one} {other} {old} {mid} {new} {a} {z} {Made} back so r makes = record {
+  goes = keeps_on r.goes (made_goes makes);
+  finds = λ w rest sound e may ends.
+      let x = back w rest sound may e ends in
+      finds_made makes (found_as (λ same. x.4) (r.finds x.0 rest sound x.2 x.1 x.3));
+  stands = λ sound.
+      let m = made_sound makes sound in
+      let before = sound_before (made_goes makes) sound in
+      (so m.1 mid.rest.now (r.stands before) (r.may before)).0 ∙ ap (λ (s : Parser). Some s.rest.now) (sym m.0);
+  may = λ sound.
+      let m = made_sound makes sound in
+      let before = sound_before (made_goes makes) sound in
+      (so m.1 mid.rest.now (r.stands before) (r.may before)).1;
+}

@@ -1,0 +1,43 @@
+-- A list of statements becomes a tree of its halves.
+use Rattle.std.proofs.Common.{◌≡◌, ℕ, ◌<◌, true, false, arith, length, List, [], ◌∷◌, ◌++◌, Option, Some, None, refl, ap, sym, ◌∙◌, inl, inr}
+use Rattle.std.specs.Option.{IsSome, option_to_list}
+use Rattle.std.proofs.lemmas.List.{length-append, same_from_push}
+use Rattle.spmd_tree.specs.declared.tree.Statement.{Statement}
+use Rattle.spmd_text.specs.declared.fault.ParseReason.{ParseReason}
+use Rattle.spmd_text.specs.declared.fault.ParseReason.TheVariants.{Memory}
+use Rattle.spmd_text.specs.declared.parser.Parser.{Parser}
+use Rattle.spmd_text.specs.Reading.{noted}
+use Rattle.spmd_text.specs.Statements.{IsInTurn, Makes, flat, flat_all}
+use Rattle.spmd_text.proofs.Flat.{flat_append}
+
+noted_twice : (fault : Option ParseReason) → noted (noted fault Memory) Memory ≡ noted fault Memory
+noted_twice None = refl
+noted_twice (Some why) = refl
+
+pub made_then : {old mid new : Parser} {A B C : Type 0} → Makes old mid A → Makes mid new B → (A → B → C) → Makes old new C
+made_then {old} {mid} {new} (inl (same, a)) (inl (again, b)) to = inl (again ∙ same, to a b)
+made_then {old} {mid} {new} (inl (same, a)) (inr e) to = inr (e ∙ ap (λ (s : Parser). record s { fault = noted s.fault Memory }) same)
+made_then {old} {mid} {new} (inr e) (inl (again, b)) to = inr (again ∙ e)
+made_then {old} {mid} {new} (inr e) (inr f) to =
+    inr (f ∙ (ap (λ (s : Parser). record s { fault = noted s.fault Memory }) e ∙ ap (λ (z : Option ParseReason). record old { fault = z }) (noted_twice old.fault)))
+
+pub in_turn_flat : (a b made : Statement) (xs ys : List Statement) → flat a ≡ flat_all xs → flat b ≡ flat_all ys → IsInTurn a b made → flat made ≡ flat_all (xs ++ ys)
+in_turn_flat a b made xs ys e f m =
+    ap flat m.is
+    ∙ (ap (λ (v : Statement). flat v ++ flat m.second.value) m.first_holds
+    ∙ (ap (λ (v : Statement). flat a ++ flat v) m.second_holds
+    ∙ (ap (λ (l : List Statement). l ++ flat b) e
+    ∙ (ap (λ (l : List Statement). flat_all xs ++ l) f ∙ sym (flat_append xs ys)))))
+
+pub empty_of : (xs : List Statement) → length xs ≡ 0 → xs ≡ []
+empty_of [] e = refl
+empty_of (x ∷ xs) e = absurd (omega (arith, e))
+
+pub one_of : (xs : List Statement) → length xs ≡ 1 → (x : Statement) × (xs ≡ x ∷ [])
+one_of [] e = absurd (omega (arith, e))
+one_of (x ∷ xs) e = let none : length xs ≡ 0 = omega (arith, e) in (x, ap (λ (l : List Statement). x ∷ l) (empty_of xs none))
+
+-- what was taken from the end is the last item
+pub taken_last : (mid new outer : List ℕ) (taken : Option ℕ) (name : ℕ) → mid ≡ new ++ option_to_list taken → (0 < length mid → IsSome taken) → mid ≡ outer ++ name ∷ [] → new ≡ outer
+taken_last mid new outer None name e some f = absurd (let never : false ≡ true = some (omega (arith, ap length f, length-append outer (name ∷ []))) in cc)
+taken_last mid new outer (Some last) name e some f = (same_from_push new outer last name (sym e ∙ f)).0
