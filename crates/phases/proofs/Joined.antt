@@ -18,7 +18,7 @@ use Rattle.phases.proofs.Clean.{both_ways}
 -- ---- the calls of a rank stand from its first one on to the next rank's
 
 -- where the first ones are of lower ranks, they are counted
-upper_before : (r : ℕ) (calls : List Call) (c : ℕ) (call : Call) → slice_get calls c ≡ Some call → ((d : ℕ) (x : Call) → d ≤ c → slice_get calls d ≡ Some x → x.rank < r) → c + 1 ≤ count_by (λ call. nat_lt call.rank r) calls
+pub upper_before : (r : ℕ) (calls : List Call) (c : ℕ) (call : Call) → slice_get calls c ≡ Some call → ((d : ℕ) (x : Call) → d ≤ c → slice_get calls d ≡ Some x → x.rank < r) → c + 1 ≤ count_by (λ call. nat_lt call.rank r) calls
 upper_before r [] c call there low = absurd (cc)
 upper_before r (x ∷ xs) zero call there low =
     let first : x.rank < r = low 0 x (omega arith) refl in
@@ -32,7 +32,7 @@ upper_before r (x ∷ xs) (suc c) call there low =
     let rest = upper_before r xs c call there (λ d y h at_d. low (suc d) y (omega (arith, h)) at_d) in
     omega (arith, one, rest, sum_by-cons (λ (y : Call). cond (nat_lt y.rank r) 1 0) x xs)
 
-count_le_length : (r : ℕ) (calls : List Call) → count_by (λ call. nat_lt call.rank r) calls ≤ length calls
+pub count_le_length : (r : ℕ) (calls : List Call) → count_by (λ call. nat_lt call.rank r) calls ≤ length calls
 count_le_length r [] = omega arith
 count_le_length r (x ∷ xs) = omega (arith, one (nat_lt x.rank r), count_le_length r xs, sum_by-cons (λ (y : Call). cond (nat_lt y.rank r) 1 0) x xs)
   where
@@ -45,13 +45,13 @@ abbrev pub InOrder : MpiProgram → Type 0
 InOrder p = (c d : ℕ) (call other : Call) → c ≤ d → call_at p c ≡ Some call → call_at p d ≡ Some other → call.rank ≤ other.rank
 
 module _ (p : MpiProgram) (is : InOrder p) where
-  at_or_behind : (r c : ℕ) (call : Call) → call_at p c ≡ Some call → r ≤ call.rank → first_call p r ≤ c
+  pub at_or_behind : (r c : ℕ) (call : Call) → call_at p c ≡ Some call → r ≤ call.rank → first_call p r ≤ c
   at_or_behind r c call there high = lower_before r p.calls c (λ d y h at_d. low (is c d call y h there at_d))
     where
       low : {k : ℕ} → call.rank ≤ k → r ≤ k
       low h = omega (arith, h, high)
 
-  before_first : (r c : ℕ) (call : Call) → call_at p c ≡ Some call → call.rank < r → c < first_call p r
+  pub before_first : (r c : ℕ) (call : Call) → call_at p c ≡ Some call → call.rank < r → c < first_call p r
   before_first r c call there low =
       let counted = upper_before r p.calls c call there (λ d y h at_d. less (is d c y call h at_d there)) in
       omega (arith, counted)
@@ -59,7 +59,7 @@ module _ (p : MpiProgram) (is : InOrder p) where
       less : {k : ℕ} → k ≤ call.rank → k < r
       less h = omega (arith, h, low)
 
-  of_next : (r d : ℕ) → first_call p r ≤ d → d < first_call p (r + 1) → (o : Option Call) → call_at p d ≡ o → is_of_rank (call_at p d) r ≡ true
+  pub of_next : (r d : ℕ) → first_call p r ≤ d → d < first_call p (r + 1) → (o : Option Call) → call_at p d ≡ o → is_of_rank (call_at p d) r ≡ true
   of_next r d low high None at_d = absurd (omega (arith, high, count_le_length (r + 1) p.calls, past p.calls d at_d))
     where
       past : (xs : List Call) (d : ℕ) → slice_get xs d ≡ None → length xs ≤ d
@@ -76,10 +76,10 @@ module _ (p : MpiProgram) (is : InOrder p) where
       ]
 
   -- a call of a rank stands among them
-  among : (r c : ℕ) (call : Call) → call_at p c ≡ Some call → call.rank ≡ r → (first_call p r ≤ c) × (c < first_call p (r + 1))
+  pub among : (r c : ℕ) (call : Call) → call_at p c ≡ Some call → call.rank ≡ r → (first_call p r ≤ c) × (c < first_call p (r + 1))
   among r c call there own = (at_or_behind r c call there (omega (arith, own)), before_first (r + 1) c call there (omega (arith, own)))
 
-  ordered_firsts : (r : ℕ) → first_call p r ≤ first_call p (r + 1)
+  pub ordered_firsts : (r : ℕ) → first_call p r ≤ first_call p (r + 1)
   ordered_firsts r =
       elim (cases_lt (first_call p (r + 1)) (first_call p r)) [
         | inl less ↦ absurd (by (first_call p (r + 1)) less refl (call_at p (first_call p (r + 1))) refl)
@@ -100,7 +100,7 @@ module _ (p : MpiProgram) (is : InOrder p) where
           ]
 
   -- where a rank's first place has none of its calls, it has none
-  no_calls : (r : ℕ) → is_of_rank (call_at p (first_call p r)) r ≡ false → first_call p (r + 1) ≡ first_call p r
+  pub no_calls : (r : ℕ) → is_of_rank (call_at p (first_call p r)) r ≡ false → first_call p (r + 1) ≡ first_call p r
   no_calls r none =
       elim (cases_lt (first_call p r) (first_call p (r + 1))) [
         | inl some ↦ absurd (both_ways (is_of_rank (call_at p (first_call p r)) r) (of_next r (first_call p r) (omega arith) some (call_at p (first_call p r)) refl) none)

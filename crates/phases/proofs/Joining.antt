@@ -24,42 +24,42 @@ use Rattle.phases.proofs.Joined.{InOrder, is_cut}
 
 -- ---- lists in rank order
 
-abbrev Rising : ℕ → List Call → Type 0
+abbrev pub Rising : ℕ → List Call → Type 0
 Rising low [] = Unit {0}
 Rising low (x ∷ xs) = (low ≤ x.rank) × Rising x.rank xs
 
-rising_low : (low : ℕ) (xs : List Call) (c : ℕ) (x : Call) → Rising low xs → slice_get xs c ≡ Some x → low ≤ x.rank
+pub rising_low : (low : ℕ) (xs : List Call) (c : ℕ) (x : Call) → Rising low xs → slice_get xs c ≡ Some x → low ≤ x.rank
 rising_low low [] c x rises there = absurd (cc)
 rising_low low (y ∷ ys) zero x rises there = subst (λ (z : Call). low ≤ z.rank) (same_Some y x there) rises.0
 rising_low low (y ∷ ys) (suc c) x rises there = let rest = rising_low y.rank ys c x rises.1 there in omega (arith, rest, rises.0)
 
-rising_lower : (low less : ℕ) (xs : List Call) → less ≤ low → Rising low xs → Rising less xs
+pub rising_lower : (low less : ℕ) (xs : List Call) → less ≤ low → Rising low xs → Rising less xs
 rising_lower low less [] h rises = tt
 rising_lower low less (x ∷ xs) h rises = (omega (arith, h, rises.0), rises.1)
 
-rising_order : (low : ℕ) (xs : List Call) → Rising low xs → (c d : ℕ) (x y : Call) → c ≤ d → slice_get xs c ≡ Some x → slice_get xs d ≡ Some y → x.rank ≤ y.rank
+pub rising_order : (low : ℕ) (xs : List Call) → Rising low xs → (c d : ℕ) (x y : Call) → c ≤ d → slice_get xs c ≡ Some x → slice_get xs d ≡ Some y → x.rank ≤ y.rank
 rising_order low [] rises c d x y h at_c at_d = absurd (cc)
 rising_order low (z ∷ zs) rises zero d x y h at_c at_d =
     rising_low x.rank (z ∷ zs) d y (let e : z ≡ x = same_Some z x at_c in (omega (arith, ap (λ (k : Call). k.rank) e), rises.1)) at_d
 rising_order low (z ∷ zs) rises (suc c) zero x y h at_c at_d = absurd (omega (arith, h))
 rising_order low (z ∷ zs) rises (suc c) (suc d) x y h at_c at_d = rising_order z.rank zs rises.1 c d x y (omega (arith, h)) at_c at_d
 
-order_rises : (low : ℕ) (xs : List Call) → ((c : ℕ) (x : Call) → slice_get xs c ≡ Some x → low ≤ x.rank) → ((c d : ℕ) (x y : Call) → c ≤ d → slice_get xs c ≡ Some x → slice_get xs d ≡ Some y → x.rank ≤ y.rank) → Rising low xs
+pub order_rises : (low : ℕ) (xs : List Call) → ((c : ℕ) (x : Call) → slice_get xs c ≡ Some x → low ≤ x.rank) → ((c d : ℕ) (x y : Call) → c ≤ d → slice_get xs c ≡ Some x → slice_get xs d ≡ Some y → x.rank ≤ y.rank) → Rising low xs
 order_rises low [] above order = tt
 order_rises low (x ∷ xs) above order =
     (above 0 x refl, order_rises x.rank xs (λ c y there. order 0 (suc c) x y (omega arith) refl there) (λ c d y z h at_c at_d. order (suc c) (suc d) y z (omega (arith, h)) at_c at_d))
 
 -- how many are of lower ranks
-abbrev lower : ℕ → List Call → ℕ
+abbrev pub lower : ℕ → List Call → ℕ
 lower r xs = count_by (λ call. nat_lt call.rank r) xs
 
-one_lower : (r : ℕ) (x : Call) (xs : List Call) → x.rank < r → lower r (x ∷ xs) ≡ suc (lower r xs)
+pub one_lower : (r : ℕ) (x : Call) (xs : List Call) → x.rank < r → lower r (x ∷ xs) ≡ suc (lower r xs)
 one_lower r x xs h =
     let on : nat_lt x.rank r ≡ true = grind (arith, nat_tests) in
     let one : cond (nat_lt x.rank r) 1 0 ≡ 1 + 0 = ap (λ (b : Bool). cond b 1 0) on in
     omega (arith, one, sum_by-cons (λ (y : Call). cond (nat_lt y.rank r) 1 0) x xs)
 
-none_lower : (r low : ℕ) (xs : List Call) → Rising low xs → r ≤ low → lower r xs ≡ 0
+pub none_lower : (r low : ℕ) (xs : List Call) → Rising low xs → r ≤ low → lower r xs ≡ 0
 none_lower r low [] rises h = refl
 none_lower r low (x ∷ xs) rises h =
     let high : r ≤ x.rank = omega (arith, h, rises.0) in
@@ -80,10 +80,10 @@ put_high x y others ys h =
     let off : nat_lt y.rank x.rank ≡ false = grind (arith, nat_tests) in
     ap (λ (b : Bool). if b then y ∷ put x others ys else x ∷ others (y ∷ ys)) off
 
-at_suc : (xs ys : List Call) (x y : Call) (k j : ℕ) → xs ≡ x ∷ ys → k ≡ suc j → slice_get ys j ≡ Some y → slice_get xs k ≡ Some y
+pub at_suc : (xs ys : List Call) (x y : Call) (k j : ℕ) → xs ≡ x ∷ ys → k ≡ suc j → slice_get ys j ≡ Some y → slice_get xs k ≡ Some y
 at_suc xs ys x y k j e f there = ap (λ (z : List Call). slice_get z k) e ∙ ap (slice_get (x ∷ ys)) f ∙ there
 
-at_zero : (xs ys : List Call) (x y : Call) (k : ℕ) → xs ≡ x ∷ ys → k ≡ 0 → x ≡ y → slice_get xs k ≡ Some y
+pub at_zero : (xs ys : List Call) (x y : Call) (k : ℕ) → xs ≡ x ∷ ys → k ≡ 0 → x ≡ y → slice_get xs k ≡ Some y
 at_zero xs ys x y k e f same = ap (λ (z : List Call). slice_get z k) e ∙ ap (slice_get (x ∷ ys)) f ∙ ap Some same
 
 -- where a call of the first list stands
@@ -143,10 +143,10 @@ merge_second (x0 ∷ xs) ys low less d y rises_x rises_y there =
     put_second x0 (merge xs) xs ys less d y rises_y rises_x.1 there (λ zs k e rises at_e. merge_second xs zs x0.rank k e y rises_x.1 rises at_e)
 
 -- how many pass a test
-abbrev passing : (Call → Bool) → List Call → ℕ
+abbrev pub passing : (Call → Bool) → List Call → ℕ
 passing test xs = count_by test xs
 
-passing_cons : (test : Call → Bool) (x : Call) (xs : List Call) → passing test (x ∷ xs) ≡ cond (test x) 1 0 + passing test xs
+pub passing_cons : (test : Call → Bool) (x : Call) (xs : List Call) → passing test (x ∷ xs) ≡ cond (test x) 1 0 + passing test xs
 passing_cons test x xs = sum_by-cons (λ (y : Call). cond (test y) 1 0) x xs
 
 put_count : (test : Call → Bool) (x : Call) (others : List Call → List Call) (ys : List Call) (n : ℕ) → ((zs : List Call) → passing test (others zs) ≡ n + passing test zs) → passing test (put x others ys) ≡ (cond (test x) 1 0 + n) + passing test ys
@@ -194,7 +194,7 @@ module _ (shift : Call → ℕ) where
   moved_lower r (x ∷ xs) =
       omega (arith, moved_lower r xs, passing_cons (λ call. nat_lt call.rank r) x xs, passing_cons (λ call. nat_lt call.rank r) (moved_call (shift x) x) (map (λ call. moved_call (shift call) call) xs))
 
-rises_of : (p : MpiProgram) → IsWellFormed p → Rising 0 p.calls
+pub rises_of : (p : MpiProgram) → IsWellFormed p → Rising 0 p.calls
 rises_of p is = order_rises 0 p.calls (λ c x there. omega arith) is.rank_order
 
 module _ (first second : MpiProgram) where
@@ -240,13 +240,13 @@ join_in_order first second one two =
 -- ---- what is joined is well formed
 
 -- a name moves with its call
-abbrev MovesNames : (Kind → Option ℕ) → Type 0
+abbrev pub MovesNames : (Kind → Option ℕ) → Type 0
 MovesNames names = (d : ℕ) (k : Kind) → names (moved_kind d k) ≡ option_map (λ o. o + d) (names k)
 
-abbrev KeepsTest : (Kind → Bool) → Type 0
+abbrev pub KeepsTest : (Kind → Bool) → Type 0
 KeepsTest test = (d : ℕ) (k : Kind) → test (moved_kind d k) ≡ test k
 
-operation_moves : MovesNames operation_of
+pub operation_moves : MovesNames operation_of
 operation_moves d (Send mode blocking message) = refl
 operation_moves d (Receive blocking pattern) = refl
 operation_moves d (MatchedProbe pattern receive) = refl
@@ -254,7 +254,7 @@ operation_moves d (Probe pattern) = refl
 operation_moves d (MatchedReceive blocking) = refl
 operation_moves d (Wait operation) = refl
 
-receive_moves : MovesNames receive_of
+pub receive_moves : MovesNames receive_of
 receive_moves d (Send mode blocking message) = refl
 receive_moves d (Receive blocking pattern) = refl
 receive_moves d (MatchedProbe pattern receive) = refl
@@ -262,7 +262,7 @@ receive_moves d (Probe pattern) = refl
 receive_moves d (MatchedReceive blocking) = refl
 receive_moves d (Wait operation) = refl
 
-start_keeps : KeepsTest is_start
+pub start_keeps : KeepsTest is_start
 start_keeps d (Send mode blocking message) = refl
 start_keeps d (Receive blocking pattern) = refl
 start_keeps d (MatchedProbe pattern receive) = refl
@@ -270,7 +270,7 @@ start_keeps d (Probe pattern) = refl
 start_keeps d (MatchedReceive blocking) = refl
 start_keeps d (Wait operation) = refl
 
-matched_receive_keeps : KeepsTest is_matched_receive
+pub matched_receive_keeps : KeepsTest is_matched_receive
 matched_receive_keeps d (Send mode blocking message) = refl
 matched_receive_keeps d (Receive blocking pattern) = refl
 matched_receive_keeps d (MatchedProbe pattern receive) = refl
@@ -278,7 +278,7 @@ matched_receive_keeps d (Probe pattern) = refl
 matched_receive_keeps d (MatchedReceive blocking) = refl
 matched_receive_keeps d (Wait operation) = refl
 
-name_from : (o : Option ℕ) (d k : ℕ) → option_map (λ z. z + d) o ≡ Some k → (j : ℕ) × (o ≡ Some j) × (k ≡ j + d)
+pub name_from : (o : Option ℕ) (d k : ℕ) → option_map (λ z. z + d) o ≡ Some k → (j : ℕ) × (o ≡ Some j) × (k ≡ j + d)
 name_from None d k e = absurd (cc)
 name_from (Some j) d k e = (j, refl, sym (same_Some (j + d) k e))
 

@@ -7,3 +7,7 @@ pub mod Envelopes
 pub mod Joined
 pub mod Joining
 pub mod ManyPhases
+pub mod Traffic
+pub mod Dropping
+pub mod Rests
+pub mod Dealt

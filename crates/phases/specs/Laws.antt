@@ -11,6 +11,7 @@ use Rattle.phases.specs.Cuts.{Cut, IsCut, IsClean}
 use Rattle.phases.specs.Joining.{join, join_all, IsJoined, cut_between}
 use Rattle.phases.specs.Conditions.{ComesAfter, IsBalanced, IsTimely, LeavesNothing}
 use Rattle.phases.specs.Order.{AreCounterparts, IsAfter, IsOrdered}
+use Rattle.phases.specs.Rests.{IsFront, behind}
 
 -- each program within any limits is well formed
 abbrev pub ProgramsAreWellFormed : Type 0
@@ -109,3 +110,21 @@ IsOrderedBefore p following = IsOrdered (join p following) (cut_between p follow
 -- So where sends of later phases come after finders of earlier ones by messages.
 abbrev pub OrderedPhasesAreNeverStuck : Type 0
 OrderedPhasesAreNeverStuck = (p : MpiProgram) (others : List MpiProgram) → ArePhases IsOrderedBefore p others → NoStuckRun (join_all p others)
+
+-- ---- one phase after another
+
+-- A program is the first calls of each rank and then what is left behind them, which is a well
+-- formed program.
+abbrev pub FrontIsJoined : Type 0
+FrontIsJoined = (q d : MpiProgram) → IsWellFormed q → IsWellFormed d → IsFront q d → IsJoined q d (behind q d) × IsWellFormed (behind q d)
+
+-- A program has no stuck run where a phase in front of it and what is left behind the phase have
+-- none, and the phase leaves no message and names its sources.
+abbrev pub OnePhaseMore : Type 0
+OnePhaseMore =
+    (q d : MpiProgram) → IsWellFormed q → IsWellFormed d → IsFront q d → NoStuckRun d → LeavesNothing d → NamesSources d
+    → NoStuckRun (behind q d) → NoStuckRun q
+
+-- So where nothing is left behind the phase; nothing is asked of its messages and sources then.
+abbrev pub LastPhase : Type 0
+LastPhase = (q d : MpiProgram) → IsWellFormed q → IsWellFormed d → IsFront q d → (behind q d).calls ≡ [] → NoStuckRun d → NoStuckRun q

@@ -3,4 +3,7 @@ pub mod Cuts
 pub mod Joining
 pub mod Conditions
 pub mod Order
+pub mod Traffic
+pub mod Rests
+pub mod Moves
 pub mod Laws

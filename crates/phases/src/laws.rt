@@ -1,6 +1,6 @@
 //! Laws of programs that are cut into parts. Each function does nothing: its contract is the law.
 
-ghost use Rattle.phases.specs.Laws.{BalancedIsClean, CounterpartsComeFirst, JoinIsJoined, JoinedIsCut, LeavesNothingIsBalanced, MessagesOrder, NamedIsTimely, NamedPhasesAreNeverStuck, OrderedIsTimely, OrderedPhasesAreNeverStuck, ProgramsAreWellFormed, TimelyPhasesAreNeverStuck, WholeIsNeverStuck};
+ghost use Rattle.phases.specs.Laws.{BalancedIsClean, CounterpartsComeFirst, FrontIsJoined, JoinIsJoined, JoinedIsCut, LastPhase, LeavesNothingIsBalanced, MessagesOrder, NamedIsTimely, NamedPhasesAreNeverStuck, OnePhaseMore, OrderedIsTimely, OrderedPhasesAreNeverStuck, ProgramsAreWellFormed, TimelyPhasesAreNeverStuck, WholeIsNeverStuck};
 
 /// Each program within any limits keeps what is asked of parts and phases.
 pub fn programs_are_well_formed()
@@ -71,4 +71,21 @@ pub fn named_phases_are_never_stuck()
 /// So where sends of later phases come after finders of earlier ones by messages.
 pub fn ordered_phases_are_never_stuck()
     ensures { OrderedPhasesAreNeverStuck }
+{}
+
+/// The first calls of each rank, and what is left of the program behind them, are the program when
+/// they are joined.
+pub fn front_is_joined()
+    ensures { FrontIsJoined }
+{}
+
+/// A program has no stuck run where a phase in front of it and what is left behind it have none,
+/// and the phase leaves no message and names its sources.
+pub fn one_phase_more()
+    ensures { OnePhaseMore }
+{}
+
+/// So where nothing is left behind the phase, whatever it leaves.
+pub fn last_phase()
+    ensures { LastPhase }
 {}

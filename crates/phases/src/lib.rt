@@ -5,11 +5,16 @@
 //! program's list, count from 0.
 #![tactic(auto)]
 
+mod dealing;
 mod laws;
+mod leaving;
 
+pub use dealing::{deal, first_places, is_all_dealt};
 pub use laws::{
-    balanced_is_clean, counterparts_come_first, join_is_joined, joined_is_cut,
-    leaves_nothing_is_balanced, messages_order, named_is_timely, named_phases_are_never_stuck,
-    ordered_is_timely, ordered_phases_are_never_stuck, programs_are_well_formed,
-    timely_phases_are_never_stuck, whole_is_never_stuck,
+    balanced_is_clean, counterparts_come_first, front_is_joined, join_is_joined, joined_is_cut,
+    last_phase, leaves_nothing_is_balanced, messages_order, named_is_timely,
+    named_phases_are_never_stuck, one_phase_more, ordered_is_timely,
+    ordered_phases_are_never_stuck, programs_are_well_formed, timely_phases_are_never_stuck,
+    whole_is_never_stuck,
 };
+pub use leaving::leaves_nothing;
