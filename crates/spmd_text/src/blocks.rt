@@ -1,7 +1,8 @@
 //! Statements, and the loops and branches that they stand in.
 //!
 //! What is wrong is noted, and no piece is read behind it: what is then made of the parts is never
-//! used.
+//! used. `at` is the line that is read: that on which the last heading, parameter, statement, head
+//! of a branch or loop, `else` or `end` begins. It stays as it is once something is wrong.
 
 ghost use Rattle.std.specs.Prelude.{[], ◌∷◌, ◌≡◌, ◌++◌, ◌<◌, ℕ, IfOk, IsTrue, List, None, Some, false, length, true};
 ghost use Rattle.spmd_tree.specs.declared.tree.Statement.{Statement};
