@@ -73,7 +73,11 @@ class Reader:
         return self.found[self.at][0]
 
     def fail(self):
-        raise Ungrammatical(self.line())
+        """Tells the line on which what is read begins."""
+        begins = self.at
+        while begins > 0 and self.found[begins - 1][1] != '\n':
+            begins -= 1
+        raise Ungrammatical(self.found[begins][0])
 
     def next(self):
         return self.found[self.at][1]
