@@ -1,0 +1,4 @@
+pub mod Dealing
+pub mod Wholes
+pub mod Texts
+pub mod Faults

@@ -1,0 +1,20 @@
+-- What phases show of the program that they make up.
+use Rattle.std.specs.Prelude.{◌≡◌, ℕ, List}
+use Rattle.calltext.specs.Limits.{long}
+use Rattle.semantics.specs.Headline.{IsNeverStuckWithin}
+use Rattle.phase_checker.specs.declared.phase.Phase.{Phase}
+use Rattle.phase_checker.specs.declared.reason.NotJoined.{NotJoined}
+use Rattle.phase_checker.specs.Dealing.{AreJoined, HasFault}
+
+-- Where phases make up the program of a text, no run of it gets stuck.
+abbrev pub JoinedAreNeverStuck : Type 0
+JoinedAreNeverStuck = (text : List ℕ) (phases : List Phase) (order : List ℕ) → AreJoined text phases order → IsNeverStuckWithin long text
+
+-- Nothing is wrong where phases make up the program of a text.
+abbrev pub JoinedHaveNoFault : Type 0
+JoinedHaveNoFault = (text : List ℕ) (phases : List Phase) (order : List ℕ) (why : NotJoined) → AreJoined text phases order → HasFault text phases order why → ⊥
+
+-- One thing alone is wrong first. So what is told of phases, the text's own faults and want of
+-- memory aside, comes exactly where it is right.
+abbrev pub OneFault : Type 0
+OneFault = (text : List ℕ) (phases : List Phase) (order : List ℕ) (a b : NotJoined) → HasFault text phases order a → HasFault text phases order b → a ≡ b

@@ -1,0 +1,4 @@
+pub mod Reasons
+pub mod Dealing
+pub mod Parts
+pub mod Laws

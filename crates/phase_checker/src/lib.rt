@@ -1,0 +1,17 @@
+//! Judges a long program by its phases, one after another: no run of the whole gets stuck where no
+//! run of a phase does, and each phase but the last keeps to itself.
+//!
+//! A phase keeps to itself where each of its receives and probes names its source, and it takes all
+//! that is sent in it. It is judged once, by one run or by an evidence, and may occur any number of
+//! times. `specs/Dealing.antt` says what is asked of the phases and their order.
+#![tactic(auto)]
+
+mod joining;
+mod laws;
+mod phase;
+mod reason;
+
+pub use joining::join;
+pub use laws::{joined_are_never_stuck, joined_have_no_fault, one_fault};
+pub use phase::Phase;
+pub use reason::{NotAPhase, NotJoined};
