@@ -51,56 +51,59 @@ fn two(alloc: Global, one: &str, other: &str) -> Result<Vec<Phase>, Fail> {
     Ok(phases)
 }
 
-/// Why the two phases don't make up the program in this order.
+/// What is wrong, in a word, and at which place of the order.
+fn word_of(why: NotJoined) -> (&'static str, usize) {
+    match why {
+        NotJoined::NoPhase { place } => ("none", place),
+        NotJoined::Other { place } => ("other", place),
+        NotJoined::Source { place } => ("source", place),
+        NotJoined::Uneven { place } => ("uneven", place),
+        NotJoined::Left => ("left", 0),
+        _ => ("text", 0),
+    }
+}
+
+/// What is told of the two phases in this order, for this program.
 fn told(
     alloc: Global,
     whole: &str,
     one: &str,
     other: &str,
     order: &[usize],
-) -> Result<Option<NotJoined>, Fail> {
+) -> Result<(&'static str, usize), Fail> {
     let phases = two(alloc, one, other)?;
     let whole = lines(alloc, whole)?;
     match join(alloc, whole.as_bytes(), &phases, order) {
-        Ok(()) => Ok(None),
-        Err(why) => Ok(Some(why)),
+        Ok(()) => Ok(("joined", 0)),
+        Err(why) => Ok(word_of(why)),
     }
 }
 
 #[test]
 fn rounds_make_up_a_program(rt: HostRuntime) -> Result<(), Fail> {
     let alloc = rt.alloc();
-    assert_eq!(rt; told(alloc, ROUNDS, ROUND, ANY, &[0, 0])?, None);
-    assert_eq!(rt; told(alloc, ANY_LAST, ROUND, ANY, &[0, 1])?, None);
+    assert_eq!(rt; told(alloc, ROUNDS, ROUND, ANY, &[0, 0])?, ("joined", 0));
+    assert_eq!(rt; told(alloc, ANY_LAST, ROUND, ANY, &[0, 1])?, ("joined", 0));
     Ok(())
 }
 
 #[test]
-fn what_is_wrong_is_told_with_its_place(rt: HostRuntime) -> Result<(), Fail> {
+fn calls_that_do_not_fit(rt: HostRuntime) -> Result<(), Fail> {
     let alloc = rt.alloc();
-    assert_eq!(rt;
-        told(alloc, ROUNDS, ROUND, ANY, &[0])?,
-        Some(NotJoined::Left)
-    );
-    assert_eq!(rt;
-        told(alloc, ROUNDS, ROUND, ANY, &[0, 0, 0])?,
-        Some(NotJoined::Other { place: 2 })
-    );
-    assert_eq!(rt;
-        told(alloc, ROUNDS, ROUND, ANY, &[0, 1])?,
-        Some(NotJoined::Other { place: 1 })
-    );
-    assert_eq!(rt;
-        told(alloc, ROUNDS, ROUND, ANY, &[0, 2])?,
-        Some(NotJoined::NoPhase { place: 1 })
-    );
-    assert_eq!(rt;
-        told(alloc, ANY_FIRST, ROUND, ANY, &[1, 0])?,
-        Some(NotJoined::Source { place: 0 })
-    );
+    assert_eq!(rt; told(alloc, ROUNDS, ROUND, ANY, &[0])?, ("left", 0));
+    assert_eq!(rt; told(alloc, ROUNDS, ROUND, ANY, &[0, 0, 0])?, ("other", 2));
+    assert_eq!(rt; told(alloc, ROUNDS, ROUND, ANY, &[0, 1])?, ("other", 1));
+    assert_eq!(rt; told(alloc, ROUNDS, ROUND, ANY, &[0, 2])?, ("none", 1));
+    Ok(())
+}
+
+#[test]
+fn phases_that_do_not_keep_to_themselves(rt: HostRuntime) -> Result<(), Fail> {
+    let alloc = rt.alloc();
+    assert_eq!(rt; told(alloc, ANY_FIRST, ROUND, ANY, &[1, 0])?, ("source", 0));
     assert_eq!(rt;
         told(alloc, LEFT_FIRST, ROUND, LEFT, &[1, 0])?,
-        Some(NotJoined::Uneven { place: 0 })
+        ("uneven", 0)
     );
     Ok(())
 }
