@@ -1,0 +1,4 @@
+pub mod Sealing
+pub mod Sure
+pub mod Loose
+pub mod Laws
