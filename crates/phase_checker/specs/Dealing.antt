@@ -3,11 +3,12 @@ use Rattle.std.specs.Prelude.{◌≡◌, ℕ, ◌+◌, ◌<◌, List, [], ◌∷
 use Rattle.calltext.specs.Limits.{long}
 use Rattle.callorder.specs.Programs.{MpiProgram}
 use Rattle.callorder.specs.Resolving.{IsTextOfWithin}
-use Rattle.races.specs.Races.{NamesSources}
 use Rattle.phases.specs.Conditions.{LeavesNothing}
 use Rattle.phases.specs.Rests.{IsFront, behind}
 use Rattle.deciding.specs.Decisions.{IsUndecided}
 use Rattle.deciding.specs.declared.texts.Undecided.TheVariants as undecided
+use Rattle.sealing.specs.declared.loose.Loose.{Loose}
+use Rattle.sealing.specs.Loose.{IsLoose, IsLooseSend}
 use Rattle.phase_checker.specs.declared.phase.Phase.{Phase}
 use Rattle.phase_checker.specs.declared.reason.NotJoined.{NotJoined}
 use Rattle.phase_checker.specs.declared.reason.NotJoined.TheVariants as joins
@@ -33,16 +34,28 @@ pub record IsAt (phases : List Phase) (order : List ℕ) (place : ℕ) (phase : 
   pub entry : slice_get order place ≡ Some number
   pub there : slice_get phases number ≡ Some phase
 
--- The phase keeps to itself: it finds no message of a later one, and leaves none to it.
-pub record KeepsToItself (phase : Phase) : Type 0 where
-  pub named : NamesSources phase.program
+-- A later phase may send too early for the one at this place: it has a send that would fit a finder
+-- of any source there, and nothing tells that the finder has found where the send's rank has
+-- finished that phase.
+pub record IsEarly (phases : List Phase) (order : List ℕ) (place : ℕ) (phase : Phase) : Type 0 where
+  pub entry : Loose
+  pub loose : IsLoose phase.program entry
+  pub later : ℕ
+  pub behind : place < later
+  pub other : Phase
+  pub is : IsAt phases order later other
+  pub sends : IsLooseSend entry other.program
+
+-- The phase at the place keeps to itself: it finds no message of a later one, and leaves none to it.
+pub record KeepsToItself (phases : List Phase) (order : List ℕ) (place : ℕ) (phase : Phase) : Type 0 where
+  pub late : IsEarly phases order place phase → ⊥
   pub even : LeavesNothing phase.program
 
 -- The phases before this place of the order are dealt, this is left of the program, and each of
 -- them keeps to itself unless it is the last of the order.
 pub record ComesTo (phases : List Phase) (order : List ℕ) (place : ℕ) (p q : MpiProgram) : Type 0 where
   pub dealt : Dealt phases p (take place order) q
-  pub keep : (at : ℕ) (phase : Phase) → at < place → at + 1 < length order → IsAt phases order at phase → KeepsToItself phase
+  pub keep : (at : ℕ) (phase : Phase) → at < place → at + 1 < length order → IsAt phases order at phase → KeepsToItself phases order at phase
 
 -- ---- what is told of them
 
@@ -61,13 +74,13 @@ pub record IsFirst (phases : List Phase) (order : List ℕ) (place : ℕ) (q : M
   pub front : IsFront q phase.program
 
 -- What is wrong at a place of the order, where this is left of the program: no phase has the
--- number; the phase isn't in front; it is, but others follow, and it doesn't name its sources; it
--- does, but leaves something. And behind the last place: calls are left.
+-- number; the phase isn't in front; it is, but a later one may send too early for it; none may, but
+-- others follow, and it leaves something. And behind the last place: calls are left.
 abbrev pub IsWrong : List Phase → List ℕ → ℕ → MpiProgram → NotJoined → Type 0
 IsWrong phases order place q (joins.NoPhase at) = (at ≡ place) × (number : ℕ) × (slice_get order place ≡ Some number) × (slice_get phases number ≡ None)
 IsWrong phases order place q (joins.Other at) = (at ≡ place) × (phase : Phase) × IsAt phases order place phase × (IsFront q phase.program → ⊥)
-IsWrong phases order place q (joins.Source at) = (at ≡ place) × (place + 1 < length order) × (phase : Phase) × IsFirst phases order place q phase × (NamesSources phase.program → ⊥)
-IsWrong phases order place q (joins.Uneven at) = (at ≡ place) × (place + 1 < length order) × (phase : Phase) × IsFirst phases order place q phase × NamesSources phase.program × (LeavesNothing phase.program → ⊥)
+IsWrong phases order place q (joins.Source at) = (at ≡ place) × (phase : Phase) × IsFirst phases order place q phase × IsEarly phases order place phase
+IsWrong phases order place q (joins.Uneven at) = (at ≡ place) × (place + 1 < length order) × (phase : Phase) × IsFirst phases order place q phase × (IsEarly phases order place phase → ⊥) × (LeavesNothing phase.program → ⊥)
 IsWrong phases order place q joins.Left = (place ≡ length order) × (q.calls ≡ [] → ⊥)
 IsWrong phases order place q why = ⊥
 

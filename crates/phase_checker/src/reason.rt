@@ -49,7 +49,8 @@ pub enum NotJoined {
     NoPhase { place: usize },
     /// The calls of the phase at this place aren't the first that are left.
     Other { place: usize },
-    /// The phase at this place isn't the last, and takes or looks for messages of any source.
+    /// The phase at this place takes or looks for messages of any source, and a later one may send
+    /// such a message too early.
     Source { place: usize },
     /// The phase at this place isn't the last, and some rank doesn't take as many messages on a
     /// communicator as are sent to it there.
