@@ -66,7 +66,7 @@ pub record IsAskable (name : Text) : Type 0 where
 only : {a : Kinds} → a ≡ [] → or_else a [] ≡ []
 only none = ap (λ (k : Kinds). or_else k []) none
 
--- ---- the eleven commands
+-- ---- the thirteen commands
 
 pub prove_is : IsAskable (codes "prove")
 unfolding clap_on_literals
@@ -108,6 +108,14 @@ pub unroll_is : IsAskable (codes "unroll")
 unfolding clap_on_literals
 unroll_is = record { is = record { met = refl; enters = λ words. refl }; sound = λ words leaf. only leaf }
 
+pub phases_is : IsAskable (codes "phases")
+unfolding clap_on_literals
+phases_is = record { is = record { met = refl; enters = λ words. refl }; sound = λ words leaf. only leaf }
+
+pub join_is : IsAskable (codes "join")
+unfolding clap_on_literals
+join_is = record { is = record { met = refl; enters = λ words. refl }; sound = λ words leaf. only leaf }
+
 help_is : IsCommand (codes "help")
 unfolding clap_on_literals
 help_is = record { met = refl; enters = λ words. refl }
@@ -133,7 +141,7 @@ all_are = (
         (
           explain_is.is,
           refl,
-          (export_is.is, refl, (trim_is.is, refl, (shrink_is.is, refl, (decide_is.is, refl, (unroll_is.is, refl, (help_is, refl, tt)))))),
+          (export_is.is, refl, (trim_is.is, refl, (shrink_is.is, refl, (decide_is.is, refl, (unroll_is.is, refl, (phases_is.is, refl, (join_is.is, refl, (help_is, refl, tt)))))))),
         ),
       ),
     ),

@@ -8,8 +8,8 @@ use Rattle.clap.proofs.OnLiterals.{clap_on_literals}
 use Rattle.clap.specs.declared.error.kind.ErrorKind.TheVariants.{ValueValidation}
 use Rattle.settings.specs.declared.form.Form.TheVariants.{Brief, Whole, Graph, Chart, Picture, Page, Object}
 use Rattle.command_line.specs.Requests.{number_of}
-use Rattle.command_line.specs.UsualWords.{PlainWordsAreRead, check_form, check_json_form, check_pieces_form, decide_both_form, decide_form, decide_ranks_form, decide_ranks_set_form, decide_json_form, decide_out_form, encode_dimacs_form, encode_form, explain_alone_form, explain_form, explain_map_form, explain_ranks_form, export_form, prove_form, prove_json_form, prove_out_form, prove_progress_form, replay_form, replay_lines_form, shrink_form, shrink_out_form, trim_form, trim_json_form, unroll_collectives_form, unroll_form, unroll_map_form, unroll_set_form, unroll_sets_form}
-use Rattle.command_line.proofs.CommandNames.{check_is, decide_is, encode_is, explain_is, export_is, prove_is, replay_is, shrink_is, trim_is, unroll_is}
+use Rattle.command_line.specs.UsualWords.{PlainWordsAreRead, check_form, check_json_form, check_pieces_form, decide_both_form, decide_form, decide_phases_form, phases_form, join_form, join_json_form, join_out_form, decide_ranks_form, decide_ranks_set_form, decide_json_form, decide_out_form, encode_dimacs_form, encode_form, explain_alone_form, explain_form, explain_map_form, explain_ranks_form, export_form, prove_form, prove_json_form, prove_out_form, prove_progress_form, replay_form, replay_lines_form, shrink_form, shrink_out_form, trim_form, trim_json_form, unroll_collectives_form, unroll_form, unroll_map_form, unroll_set_form, unroll_sets_form}
+use Rattle.command_line.proofs.CommandNames.{check_is, decide_is, encode_is, explain_is, export_is, prove_is, replay_is, shrink_is, trim_is, unroll_is, phases_is, join_is}
 use Rattle.command_line.proofs.Parts.{asks_by, bare, fixed, given}
 use Rattle.command_line.proofs.PieceWords.{pieces_are_free, pieces_pass, plusless}
 
@@ -80,18 +80,28 @@ plain_words_are_read _ _ (shrink_form name p fp) =
 plain_words_are_read _ _ (shrink_out_form name p file fp ff) =
     asks_by (given p fp ∷ fixed (codes "--out") ∷ given file ff ∷ []) shrink_is refl refl (refl, refl)
 plain_words_are_read _ _ (decide_form name p fp) =
-    asks_by (given p fp ∷ []) decide_is refl refl (refl, refl, refl, refl, refl, refl)
+    asks_by (given p fp ∷ []) decide_is refl refl (refl, refl, refl, refl, refl, refl, refl)
 plain_words_are_read _ _ (decide_json_form name p fp) =
-    asks_by (given p fp ∷ fixed (codes "--json") ∷ []) decide_is refl refl (refl, refl, refl, refl, refl, refl)
+    asks_by (given p fp ∷ fixed (codes "--json") ∷ []) decide_is refl refl (refl, refl, refl, refl, refl, refl, refl)
 plain_words_are_read _ _ (decide_out_form name p file fp ff) =
-    asks_by (given p fp ∷ fixed (codes "--out") ∷ given file ff ∷ []) decide_is refl refl (refl, refl, refl, refl, refl, refl)
+    asks_by (given p fp ∷ fixed (codes "--out") ∷ given file ff ∷ []) decide_is refl refl (refl, refl, refl, refl, refl, refl, refl)
+plain_words_are_read _ _ (decide_phases_form name p fp) =
+    asks_by (given p fp ∷ fixed (codes "--phases") ∷ []) decide_is refl refl (refl, refl, refl, refl, refl, refl, refl)
+plain_words_are_read _ _ (phases_form name p folder fp ff) =
+    asks_by (given p fp ∷ fixed (codes "--out") ∷ given folder ff ∷ []) phases_is refl refl (refl, refl)
+plain_words_are_read _ _ (join_form name p folder fp ff) =
+    asks_by (given p fp ∷ given folder ff ∷ []) join_is refl refl (refl, refl, refl, refl)
+plain_words_are_read _ _ (join_json_form name p folder fp ff) =
+    asks_by (given p fp ∷ given folder ff ∷ fixed (codes "--json") ∷ []) join_is refl refl (refl, refl, refl, refl)
+plain_words_are_read _ _ (join_out_form name p folder file fp fd ff) =
+    asks_by (given p fp ∷ given folder fd ∷ fixed (codes "--out") ∷ given file ff ∷ []) join_is refl refl (refl, refl, refl, refl)
 plain_words_are_read _ _ (decide_both_form name p q fp fq) =
     asks_by (given p fp ∷ given q fq ∷ []) decide_is refl refl (refl, refl, refl, refl)
 plain_words_are_read _ _ (decide_ranks_form name p ranks fp fr) =
-    asks_by (given p fp ∷ fixed (codes "--ranks") ∷ given ranks fr ∷ []) decide_is refl refl (refl, refl, refl, refl, refl, refl, refl, refl, refl)
+    asks_by (given p fp ∷ fixed (codes "--ranks") ∷ given ranks fr ∷ []) decide_is refl refl (refl, refl, refl, refl, refl, refl, refl, refl)
 plain_words_are_read _ _ (decide_ranks_set_form name p ranks setting fp fr fs) =
     asks_by (given p fp ∷ fixed (codes "--ranks") ∷ given ranks fr ∷ fixed (codes "--set") ∷ given setting fs ∷ []) decide_is refl refl
-    (refl, refl, refl, refl, refl, refl, refl, refl, refl)
+    (refl, refl, refl, refl, refl, refl, refl, refl)
 plain_words_are_read _ _ (explain_ranks_form name p ranks fp fr) =
     asks_by (given p fp ∷ fixed (codes "--ranks") ∷ given ranks fr ∷ []) explain_is refl refl
     (refl, refl, refl, refl, refl, four refl, four refl, million refl, refl, refl, refl)

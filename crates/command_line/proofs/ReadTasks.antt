@@ -5,7 +5,7 @@ use Rattle.std.specs.Str.{bytes_eq}
 use Rattle.clap.specs.Words.{Row, Text, first_of, one_of, subcommand_of}
 use Rattle.clap.proofs.OnLiterals.{clap_on_literals}
 use Rattle.command_line.specs.CommandLine.{command_line}
-use Rattle.command_line.specs.Requests.{Makes, MakesSome, OneTaskIsAsked, Reads, Task, form_in, is_beside_several, is_several, is_spmd_asked, is_true, number_of, programs_in, settings_in, to_check, to_decide, to_decide_each, to_decide_unrolled, to_encode, to_explain, to_explain_unrolled, to_export, to_prove, to_replay, to_shrink, to_trim, to_unroll}
+use Rattle.command_line.specs.Requests.{Makes, MakesSome, OneTaskIsAsked, Reads, Task, form_in, is_beside_ranks, is_beside_several, is_several, is_spmd_asked, is_true, number_of, programs_in, settings_in, to_check, to_decide, to_decide_each, to_decide_phases, to_decide_unrolled, to_encode, to_explain, to_explain_unrolled, to_export, to_join, to_phases, to_prove, to_replay, to_shrink, to_trim, to_unroll}
 
 abbrev text_in : Option Text → Text
 text_in o = unwrap_or o []
@@ -13,17 +13,23 @@ text_in o = unwrap_or o []
 abbrev number_in : Option Text → ℕ
 number_in o = number_of (text_in o)
 
+-- the task of the matches of `decide` with one program text, by phases or not
+abbrev decided_one : Bool → List Row → Task
+decided_one true rows =
+    to_decide_phases (text_in (first_of (codes "PROGRAM") rows)) (first_of (codes "out") rows) (is_true (one_of (codes "progress") rows))
+    (is_true (one_of (codes "json") rows))
+decided_one false rows =
+    to_decide (text_in (first_of (codes "PROGRAM") rows)) (first_of (codes "out") rows) (is_true (one_of (codes "progress") rows))
+    (is_true (one_of (codes "json") rows))
+
 -- the task of the matches of `decide`, where several programs are named, an SPMD text is asked for, or
 -- neither
 abbrev decided : Bool → Bool → List Row → Task
 decided true spmd rows = to_decide_each (programs_in rows) (is_beside_several rows) (is_true (one_of (codes "json") rows))
 decided false true rows =
     to_decide_unrolled (text_in (first_of (codes "PROGRAM") rows)) (first_of (codes "ranks") rows) (settings_in rows) (first_of (codes "collectives") rows)
-    (first_of (codes "out") rows)
-    (is_true (one_of (codes "progress") rows)) (is_true (one_of (codes "json") rows))
-decided false false rows =
-    to_decide (text_in (first_of (codes "PROGRAM") rows)) (first_of (codes "out") rows) (is_true (one_of (codes "progress") rows))
-    (is_true (one_of (codes "json") rows))
+    (is_beside_ranks rows) (is_true (one_of (codes "json") rows))
+decided false false rows = decided_one (is_true (one_of (codes "phases") rows)) rows
 
 -- and of those of `explain`
 abbrev explained : Bool → List Row → Task
@@ -59,8 +65,13 @@ read name rows =
     then to_shrink (text_in (first_of (codes "PROGRAM") rows)) (first_of (codes "out") rows)
     else (if bytes_eq name (codes "decide")
     then decided (is_several rows) (is_spmd_asked rows) rows
+    else (if bytes_eq name (codes "phases")
+    then to_phases (text_in (first_of (codes "PROGRAM") rows)) (text_in (first_of (codes "out") rows))
+    else (if bytes_eq name (codes "join")
+    then to_join (text_in (first_of (codes "PROGRAM") rows)) (text_in (first_of (codes "FOLDER") rows)) (first_of (codes "out") rows)
+    (is_true (one_of (codes "json") rows))
     else to_unroll (text_in (first_of (codes "PROGRAM") rows)) (number_in (one_of (codes "ranks") rows)) (settings_in rows) (first_of (codes "collectives") rows)
-    (first_of (codes "out") rows) (first_of (codes "map") rows)))))))))
+    (first_of (codes "out") rows) (first_of (codes "map") rows)))))))))))
 
 given : (o : Option Text) (text : Text) → o ≡ Some text → text ≡ text_in o
 given o text e = sym (ap text_in e)
@@ -101,15 +112,27 @@ is_read name rows (to_shrink p out) makes =
     (λ i. to_shrink (given _ p v.0 i) (sym v.1 i)) ∙ ap (λ (n : Text). read n rows) (sym makes.command)
 is_read name rows (to_decide p out progress json) makes =
     let v = makes.values in
-    (λ i. to_decide (given _ p v.0 i) (sym v.1 i) (v.2 i) (v.3 i)) ∙ ap₂ (λ (several asked : Bool). decided several asked rows) (sym v.5) (sym v.4)
+    (λ i. to_decide (given _ p v.0 i) (sym v.1 i) (v.2 i) (v.3 i)) ∙ ap (λ (phases : Bool). decided_one phases rows) (sym v.6)
+    ∙ ap₂ (λ (several asked : Bool). decided several asked rows) (sym v.5) (sym v.4)
     ∙ ap (λ (n : Text). read n rows) (sym makes.command)
+is_read name rows (to_decide_phases p out progress json) makes =
+    let v = makes.values in
+    (λ i. to_decide_phases (given _ p v.0 i) (sym v.1 i) (v.2 i) (v.3 i)) ∙ ap (λ (phases : Bool). decided_one phases rows) (sym v.6)
+    ∙ ap₂ (λ (several asked : Bool). decided several asked rows) (sym v.5) (sym v.4)
+    ∙ ap (λ (n : Text). read n rows) (sym makes.command)
+is_read name rows (to_phases p folder) makes =
+    let v = makes.values in
+    (λ i. to_phases (given _ p v.0 i) (given _ folder v.1 i)) ∙ ap (λ (n : Text). read n rows) (sym makes.command)
+is_read name rows (to_join p folder out json) makes =
+    let v = makes.values in
+    (λ i. to_join (given _ p v.0 i) (given _ folder v.1 i) (sym v.2 i) (v.3 i)) ∙ ap (λ (n : Text). read n rows) (sym makes.command)
 is_read name rows (to_unroll p n settings way out map) makes =
     let v = makes.values in
     (λ i. to_unroll (given _ p v.0 i) (spelled rows (codes "ranks") n v.1 i) (sym v.2 i) (sym v.3 i) (sym v.4 i) (sym v.5 i))
     ∙ ap (λ (n : Text). read n rows) (sym makes.command)
-is_read name rows (to_decide_unrolled p ranks settings way out progress json) makes =
+is_read name rows (to_decide_unrolled p ranks settings way beside json) makes =
     let v = makes.values in
-    (λ i. to_decide_unrolled (given _ p v.0 i) (sym v.1 i) (sym v.2 i) (sym v.3 i) (sym v.4 i) (v.5 i) (v.6 i)) ∙ ap₂ (λ (several asked : Bool). decided several asked rows) (sym v.8) (sym v.7)
+    (λ i. to_decide_unrolled (given _ p v.0 i) (sym v.1 i) (sym v.2 i) (sym v.3 i) (v.4 i) (v.5 i)) ∙ ap₂ (λ (several asked : Bool). decided several asked rows) (sym v.7) (sym v.6)
     ∙ ap (λ (n : Text). read n rows) (sym makes.command)
 is_read name rows (to_decide_each programs beside json) makes =
     let v = makes.values in

@@ -145,9 +145,11 @@ decide_app =
     (with_rule
     (with_rule
     (with_rule
+    (with_rule
     (with_rule (new_app (codes "decide")) programs_rule)
     out_rule)
     (flag_rule (codes "progress")))
+    (flag_rule (codes "phases")))
     json_rule)
 
 -- `--ranks N`, which has to be given
@@ -169,6 +171,18 @@ unroll_app =
     out_rule)
     map_rule
 
+-- the command `phases`
+abbrev pub phases_app : App
+phases_app = with_rule (with_rule (new_app (codes "phases")) program_rule) proof_rule
+
+-- the folder FOLDER
+abbrev pub folder_rule : Rule
+folder_rule = file_rule (codes "FOLDER")
+
+-- the command `join`
+abbrev pub join_app : App
+join_app = with_rule (with_rule (with_rule (with_rule (new_app (codes "join")) program_rule) folder_rule) out_rule) json_rule
+
 -- the command `prove`
 abbrev pub prove_app : App
 prove_app =
@@ -189,10 +203,12 @@ wants_subcommand a = record a { top = record a.top { subcommand_required = true 
 abbrev pub with_version : App → App
 with_version a = record a { top = record a.top { has_version = true } }
 
--- the whole command line: one of the ten commands, or a question for help or for the version
+-- the whole command line: one of the twelve commands, or a question for help or for the version
 abbrev pub command_line : App
 command_line =
     with_subcommand
+    (with_subcommand
+    (with_subcommand
     (with_subcommand
     (with_subcommand
     (with_subcommand
@@ -210,7 +226,9 @@ command_line =
     trim_app.top)
     shrink_app.top)
     decide_app.top)
-    unroll_app.top
+    unroll_app.top)
+    phases_app.top)
+    join_app.top
 
 -- the argument has this rule, and is of its own command alone
 pub record IsRuled (a : Arg) (rule : Rule) : Type 0 where

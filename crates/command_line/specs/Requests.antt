@@ -20,11 +20,14 @@ use Rattle.command_line.specs.declared.request.Request.TheVariants as ask
 -- evidence makes of a program, to a file; to trim an evidence, to a file, with the answer as a JSON
 -- object or not; to make a program smaller, to a file, where one is named; to decide a program of
 -- any length by one run, with the file for the schedule of a deadlock, where one is named, whether
--- the progress is told, and whether the answer is a JSON object; to unroll an SPMD text for so
+-- the progress is told, and whether the answer is a JSON object, and the same by phases where one
+-- run doesn't tell; to cut a program of any length into phases, in a folder; to judge it by the
+-- phases and the evidence in a folder, with the file for the schedule of a deadlock, where one is
+-- named, and the answer as a JSON object or not; to unroll an SPMD text for so
 -- many ranks with these settings, and what is said of how collective calls wait, with the files for
 -- the program and for its map, where they are named; to decide, or to explain, what an SPMD text is
 -- unrolled to for the numbers of ranks that a text tells, where one is given, with these settings and
--- all else that goes with the command; and to decide several programs, with or without words that
+-- all else that goes with the command, and whether words stand there that don't; and to decide several programs, with or without words that
 -- don't go with that, and with the answers as JSON objects or not.
 pub data Task : Type 0 where
   to_prove : Text → Option Text → ℕ → ℕ → ℕ → Bool → Bool → Task
@@ -37,7 +40,10 @@ pub data Task : Type 0 where
   to_shrink : Text → Option Text → Task
   to_decide : Text → Option Text → Bool → Bool → Task
   to_unroll : Text → ℕ → List Text → Option Text → Option Text → Option Text → Task
-  to_decide_unrolled : Text → Option Text → List Text → Option Text → Option Text → Bool → Bool → Task
+  to_decide_phases : Text → Option Text → Bool → Bool → Task
+  to_phases : Text → Text → Task
+  to_join : Text → Text → Option Text → Bool → Task
+  to_decide_unrolled : Text → Option Text → List Text → Option Text → Bool → Bool → Task
   to_decide_each : List Text → Bool → Bool → Task
   to_explain_unrolled : Text → Option Text → List Text → Option Text → Option Text → ℕ → ℕ → ℕ → Form → Option Text → Task
 
@@ -57,10 +63,13 @@ task_of (ask.Export r) = to_export r.program.now r.evidence.now r.out.now
 task_of (ask.Trim r) = to_trim r.evidence.now r.out.now r.json
 task_of (ask.Shrink r) = to_shrink r.program.now (path_of r.out)
 task_of (ask.Decide r) = to_decide r.program.now (path_of r.out) r.progress r.json
+task_of (ask.DecidePhases r) = to_decide_phases r.program.now (path_of r.out) r.progress r.json
+task_of (ask.Phases r) = to_phases r.program.now r.out.now
+task_of (ask.Join r) = to_join r.program.now r.folder.now (path_of r.out) r.json
 task_of (ask.Unroll r) =
     to_unroll r.program.now r.ranks (map (λ s. s.now) r.settings.items) (path_of r.collectives) (path_of r.out) (path_of r.map)
 task_of (ask.DecideUnrolled r) =
-    to_decide_unrolled r.program.now (path_of r.ranks) (map (λ s. s.now) r.settings.items) (path_of r.collectives) (path_of r.out) r.progress r.json
+    to_decide_unrolled r.program.now (path_of r.ranks) (map (λ s. s.now) r.settings.items) (path_of r.collectives) r.beside r.json
 task_of (ask.DecideEach r) = to_decide_each (map (λ p. p.now) r.programs.items) r.beside r.json
 task_of (ask.ExplainUnrolled r) =
     to_explain_unrolled r.program.now (path_of r.ranks) (map (λ s. s.now) r.settings.items) (path_of r.collectives) (path_of r.evidence)
@@ -77,8 +86,11 @@ command_of (to_export program evidence out) = codes "export"
 command_of (to_trim evidence out json) = codes "trim"
 command_of (to_shrink program out) = codes "shrink"
 command_of (to_decide program out progress json) = codes "decide"
+command_of (to_decide_phases program out progress json) = codes "decide"
+command_of (to_phases program folder) = codes "phases"
+command_of (to_join program folder out json) = codes "join"
 command_of (to_unroll program ranks settings collectives out map) = codes "unroll"
-command_of (to_decide_unrolled program ranks settings collectives out progress json) = codes "decide"
+command_of (to_decide_unrolled program ranks settings collectives beside json) = codes "decide"
 command_of (to_decide_each programs beside json) = codes "decide"
 command_of (to_explain_unrolled program ranks settings collectives evidence workers depth budget form map) = codes "explain"
 
@@ -148,9 +160,13 @@ has_two _ = false
 abbrev pub is_several : List Row → Bool
 is_several rows = has_two (programs_in rows)
 
+-- words stand there that go with one program text alone
+abbrev pub is_beside_ranks : List Row → Bool
+is_beside_ranks rows = is_some (first_of (codes "out") rows) || (is_true (one_of (codes "progress") rows) || is_true (one_of (codes "phases") rows))
+
 -- words stand there that don't go with several programs
 abbrev pub is_beside_several : List Row → Bool
-is_beside_several rows = is_spmd_asked rows || (is_some (first_of (codes "out") rows) || is_true (one_of (codes "progress") rows))
+is_beside_several rows = is_spmd_asked rows || is_beside_ranks rows
 
 -- the values of a task are those of its command's arguments
 abbrev pub HasValues : List Row → Task → Type 0
@@ -174,12 +190,20 @@ HasValues rows (to_shrink program out) = Gives rows (codes "PROGRAM") program ×
 HasValues rows (to_decide program out progress json) =
     Gives rows (codes "PROGRAM") program × (first_of (codes "out") rows ≡ out)
     × Flags rows (codes "progress") progress × Flags rows (codes "json") json × (is_spmd_asked rows ≡ false) × (is_several rows ≡ false)
+    × (is_true (one_of (codes "phases") rows) ≡ false)
+HasValues rows (to_decide_phases program out progress json) =
+    Gives rows (codes "PROGRAM") program × (first_of (codes "out") rows ≡ out)
+    × Flags rows (codes "progress") progress × Flags rows (codes "json") json × (is_spmd_asked rows ≡ false) × (is_several rows ≡ false)
+    × (is_true (one_of (codes "phases") rows) ≡ true)
+HasValues rows (to_phases program folder) = Gives rows (codes "PROGRAM") program × Gives rows (codes "out") folder
+HasValues rows (to_join program folder out json) =
+    Gives rows (codes "PROGRAM") program × Gives rows (codes "FOLDER") folder × (first_of (codes "out") rows ≡ out) × Flags rows (codes "json") json
 HasValues rows (to_unroll program ranks settings collectives out map) =
     Gives rows (codes "PROGRAM") program × Reads rows (codes "ranks") ranks × (settings_in rows ≡ settings) × (first_of (codes "collectives") rows ≡ collectives)
     × (first_of (codes "out") rows ≡ out) × (first_of (codes "map") rows ≡ map)
-HasValues rows (to_decide_unrolled program ranks settings collectives out progress json) =
+HasValues rows (to_decide_unrolled program ranks settings collectives beside json) =
     Gives rows (codes "PROGRAM") program × (first_of (codes "ranks") rows ≡ ranks) × (settings_in rows ≡ settings) × (first_of (codes "collectives") rows ≡ collectives)
-    × (first_of (codes "out") rows ≡ out) × Flags rows (codes "progress") progress × Flags rows (codes "json") json
+    × (beside ≡ is_beside_ranks rows) × Flags rows (codes "json") json
     × (is_spmd_asked rows ≡ true) × (is_several rows ≡ false)
 HasValues rows (to_decide_each programs beside json) =
     (programs_in rows ≡ programs) × (beside ≡ is_beside_several rows) × Flags rows (codes "json") json × (is_several rows ≡ true)

@@ -5,7 +5,7 @@ use Rattle.clap.specs.Words.{Text}
 use Rattle.settings.specs.Ranges.{IsPieces}
 use Rattle.settings.specs.declared.form.Form.{Form}
 use Rattle.settings.specs.declared.form.Form.TheVariants.{Brief, Whole, Graph, Chart, Picture, Page, Object}
-use Rattle.command_line.specs.Requests.{AskFor, Task, number_of, to_check, to_decide, to_decide_each, to_decide_unrolled, to_encode, to_explain, to_explain_unrolled, to_export, to_prove, to_replay, to_shrink, to_trim, to_unroll}
+use Rattle.command_line.specs.Requests.{AskFor, Task, number_of, to_check, to_decide, to_decide_each, to_decide_phases, to_decide_unrolled, to_encode, to_explain, to_explain_unrolled, to_export, to_join, to_phases, to_prove, to_replay, to_shrink, to_trim, to_unroll}
 
 -- the text's first byte is a hyphen
 abbrev pub begins_with_hyphen : Text → Bool
@@ -70,13 +70,23 @@ pub data PlainForm : List Text → Task → Type 0 where
       → PlainForm (name ∷ codes "decide" ∷ p ∷ codes "--json" ∷ []) (to_decide p None false true)
   decide_out_form : (name p file : Text) → IsFree p → IsFree file
       → PlainForm (name ∷ codes "decide" ∷ p ∷ codes "--out" ∷ file ∷ []) (to_decide p (Some file) false false)
+  decide_phases_form : (name p : Text) → IsFree p
+      → PlainForm (name ∷ codes "decide" ∷ p ∷ codes "--phases" ∷ []) (to_decide_phases p None false false)
+  phases_form : (name p folder : Text) → IsFree p → IsFree folder
+      → PlainForm (name ∷ codes "phases" ∷ p ∷ codes "--out" ∷ folder ∷ []) (to_phases p folder)
+  join_form : (name p folder : Text) → IsFree p → IsFree folder
+      → PlainForm (name ∷ codes "join" ∷ p ∷ folder ∷ []) (to_join p folder None false)
+  join_json_form : (name p folder : Text) → IsFree p → IsFree folder
+      → PlainForm (name ∷ codes "join" ∷ p ∷ folder ∷ codes "--json" ∷ []) (to_join p folder None true)
+  join_out_form : (name p folder file : Text) → IsFree p → IsFree folder → IsFree file
+      → PlainForm (name ∷ codes "join" ∷ p ∷ folder ∷ codes "--out" ∷ file ∷ []) (to_join p folder (Some file) false)
   decide_both_form : (name p q : Text) → IsFree p → IsFree q
       → PlainForm (name ∷ codes "decide" ∷ p ∷ q ∷ []) (to_decide_each (p ∷ q ∷ []) false false)
   decide_ranks_form : (name p ranks : Text) → IsFree p → IsFree ranks
-      → PlainForm (name ∷ codes "decide" ∷ p ∷ codes "--ranks" ∷ ranks ∷ []) (to_decide_unrolled p (Some ranks) [] None None false false)
+      → PlainForm (name ∷ codes "decide" ∷ p ∷ codes "--ranks" ∷ ranks ∷ []) (to_decide_unrolled p (Some ranks) [] None false false)
   decide_ranks_set_form : (name p ranks setting : Text) → IsFree p → IsFree ranks → IsFree setting
       → PlainForm (name ∷ codes "decide" ∷ p ∷ codes "--ranks" ∷ ranks ∷ codes "--set" ∷ setting ∷ [])
-      (to_decide_unrolled p (Some ranks) (setting ∷ []) None None false false)
+      (to_decide_unrolled p (Some ranks) (setting ∷ []) None false false)
   explain_ranks_form : (name p ranks : Text) → IsFree p → IsFree ranks
       → PlainForm (name ∷ codes "explain" ∷ p ∷ codes "--ranks" ∷ ranks ∷ []) (to_explain_unrolled p (Some ranks) [] None None 4 4 1000000 Brief None)
   prove_form : (name p : Text) → IsFree p

@@ -1,7 +1,7 @@
 //! The arguments of the commands.
 
 ghost use Rattle.std.specs.Prelude.{codes};
-ghost use Rattle.command_line.specs.CommandLine.{IsRuled, collectives_rule, evidence_rule, file_option_rule, file_rule, flag_rule, map_rule, number_rule, number_with, option_rule, optional_evidence_rule, out_rule, program_rule, programs_rule, proof_rule, ranks_rule, set_rule, several_ranks_rule};
+ghost use Rattle.command_line.specs.CommandLine.{IsRuled, collectives_rule, evidence_rule, file_option_rule, file_rule, flag_rule, folder_rule, map_rule, number_rule, number_with, option_rule, optional_evidence_rule, out_rule, program_rule, programs_rule, proof_rule, ranks_rule, set_rule, several_ranks_rule};
 
 use clap::builder::ValueParser;
 use clap::{Arg, ArgAction, value_parser};
@@ -46,6 +46,10 @@ pub const RANKS: &str = "ranks";
 pub const SET: &str = "set";
 
 pub const COLLECTIVES: &str = "collectives";
+
+pub const PHASES: &str = "phases";
+
+pub const FOLDER: &str = "FOLDER";
 
 pub fn program<'a>(alloc: Global) -> Arg<'a>
     ensures { IsRuled result program_rule }
@@ -229,6 +233,34 @@ pub fn schedule<'a>(alloc: Global) -> Arg<'a>
     ensures { IsRuled result out_rule }
 {
     written(alloc, "Write the schedule of a deadlock to this file")
+}
+
+pub fn phases<'a>(alloc: Global) -> Arg<'a>
+    ensures { IsRuled result (flag_rule (codes "phases")) }
+{
+    flag(
+        alloc,
+        PHASES,
+        "Where one run doesn't tell, cut the program into phases, and decide or prove each",
+    )
+}
+
+pub fn phases_folder<'a>(alloc: Global) -> Arg<'a>
+    ensures { IsRuled result proof_rule }
+{
+    written(alloc, "Write the phases to this folder, which has to be there")
+        .value_name("FOLDER")
+        .required(true)
+}
+
+pub fn folder<'a>(alloc: Global) -> Arg<'a>
+    ensures { IsRuled result folder_rule }
+{
+    file(
+        alloc,
+        FOLDER,
+        "The folder with the phases and the evidence of each that needs one",
+    )
 }
 
 pub fn unrolled<'a>(alloc: Global) -> Arg<'a>

@@ -2,15 +2,15 @@
 
 ghost use Rattle.std.specs.Prelude.{◌≡◌, IfOk};
 ghost use Rattle.clap.specs.Words.{App, Rule, new_app, with_rule, with_subcommand};
-ghost use Rattle.command_line.specs.CommandLine.{IsRuled, IsShaped, check_app, command_line, decide_app, encode_app, explain_app, export_app, prove_app, replay_app, shrink_app, trim_app, unroll_app, version_line, with_search, with_unrolling};
+ghost use Rattle.command_line.specs.CommandLine.{IsRuled, IsShaped, check_app, command_line, decide_app, encode_app, explain_app, export_app, join_app, phases_app, prove_app, replay_app, shrink_app, trim_app, unroll_app, version_line, with_search, with_unrolling};
 
 use crate::arguments::{
     all, budget, chart, collectives, depth, dimacs, dot, evidence, html, json, lines, map, object,
-    optional_evidence, out, pieces, program, programs, progress, proof, ranks, schedule, set,
+    folder, optional_evidence, out, phases, phases_folder, pieces, program, programs, progress, proof, ranks, schedule, set,
     several_ranks, smaller, spmd, stages, svg, trimmed, unrolled, workers, written_map,
 };
 use crate::help_ends::{
-    CHECK_END, DECIDE_END, ENCODE_END, EXPLAIN_END, EXPORT_END, HELP_END, PROVE_END, REPLAY_END,
+    CHECK_END, DECIDE_END, ENCODE_END, EXPLAIN_END, EXPORT_END, HELP_END, JOIN_END, PHASES_END, PROVE_END, REPLAY_END,
     SHRINK_END, TRIM_END, UNROLL_END,
 };
 use clap::Arg;
@@ -91,7 +91,9 @@ pub fn command<'a>(alloc: Global) -> Result<Command<'a>, AllocError>
     let top = under(top, trim_command(alloc));
     let top = under(top, shrink_command(alloc));
     let top = under(top, decide_command(alloc));
-    under(top, unroll_command(alloc))
+    let top = under(top, unroll_command(alloc));
+    let top = under(top, phases_command(alloc));
+    under(top, join_command(alloc))
 }
 
 fn prove_command<'a>(alloc: Global) -> Result<Command<'a>, AllocError>
@@ -222,8 +224,37 @@ fn decide_command<'a>(alloc: Global) -> Result<Command<'a>, AllocError>
     let command = with(Ok(command), programs(alloc));
     let command = with(command, schedule(alloc));
     let command = with(command, stages(alloc));
+    let command = with(command, phases(alloc));
     let command = with(command, json(alloc));
     with_unrolling(alloc, command)
+}
+
+fn phases_command<'a>(alloc: Global) -> Result<Command<'a>, AllocError>
+    ensures { IfOk result (λ c. IsShaped c phases_app) }
+{
+    let command = named(
+        alloc,
+        "phases",
+        "Cuts a program of any length into phases",
+        PHASES_END,
+    );
+    let command = with(Ok(command), program(alloc));
+    with(command, phases_folder(alloc))
+}
+
+fn join_command<'a>(alloc: Global) -> Result<Command<'a>, AllocError>
+    ensures { IfOk result (λ c. IsShaped c join_app) }
+{
+    let command = named(
+        alloc,
+        "join",
+        "Judges a program of any length by its phases and their evidence",
+        JOIN_END,
+    );
+    let command = with(Ok(command), program(alloc));
+    let command = with(command, folder(alloc));
+    let command = with(command, schedule(alloc));
+    with(command, json(alloc))
 }
 
 fn unroll_command<'a>(alloc: Global) -> Result<Command<'a>, AllocError>

@@ -103,11 +103,13 @@ pub const SHRINK_END: &str = ending!(
 /// Of `decide`.
 pub const DECIDE_END: &str = ending!(
     "decide program.mpi --out program.evidence
+  mpiprove decide program.mpi --phases
   mpiprove decide halo.spmd --ranks 2..16",
     "
   0  no deadlock: no run of the program gets stuck
   1  deadlock: some run of it does
   2  unknown race: a receive or probe takes any source, so one run may not tell; prove may
+     unknown phases: with --phases, which phase lacks what
   3  refused: the program, with the reason"
 );
 
@@ -119,4 +121,25 @@ pub const UNROLL_END: &str = ending!(
     "
   0  the program is printed, or written
   3  refused: the SPMD text, with its first fault"
+);
+
+/// Of `phases`.
+pub const PHASES_END: &str = ending!(
+    "phases program.mpi --out phases
+  parallel -a phases/jobs mpiprove prove {} --out {.}.evidence
+  mpiprove join program.mpi phases",
+    "
+  0  the phases are written: 0001.mpi and so on, their order to phases, and to jobs the paths of
+     those that have to be proved
+  3  refused: the program, with the reason"
+);
+
+/// Of `join`.
+pub const JOIN_END: &str = ending!(
+    "join program.mpi phases",
+    "
+  0  no deadlock: no run of the program gets stuck
+  1  deadlock: some run of it does
+  2  unknown phases: which phase lacks what
+  3  refused: the program, with the reason"
 );

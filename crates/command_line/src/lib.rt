@@ -10,6 +10,7 @@ mod request;
 pub use commands::version_line;
 pub use laws::{command_is_second, one_task_is_asked, option_words_are_read, plain_words_are_read};
 pub use request::{
-    Request, ToCheck, ToDecide, ToDecideEach, ToDecideUnrolled, ToEncode, ToExplain,
-    ToExplainUnrolled, ToExport, ToProve, ToReplay, ToShrink, ToTrim, ToUnroll, request_of,
+    Request, ToCheck, ToCut, ToDecide, ToDecideEach, ToDecidePhases, ToDecideUnrolled, ToEncode,
+    ToExplain, ToExplainUnrolled, ToExport, ToJoin, ToProve, ToReplay, ToShrink, ToTrim, ToUnroll,
+    request_of,
 };

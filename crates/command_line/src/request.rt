@@ -1,13 +1,13 @@
 //! What the words of a command line ask for.
 
-ghost use Rattle.std.specs.Prelude.{◌≡◌, ◌⊎◌, ◌||◌, IfErr, IfOk, IfSome, List, codes, false, is_some, map, string_bytes, true};
+ghost use Rattle.std.specs.Prelude.{◌≡◌, ◌⊎◌, ◌||◌, IfErr, IfOk, IfSome, List, codes, false, is_some, map, string_bytes, true, Some};
 ghost use Rattle.clap.specs.Words.{IsAmong, Row, all_of, fault_of, first_of, found_of, kind_of, one_of, rows_of, subcommand_rows_of};
 ghost use Rattle.command_line.specs.CommandLine.{command_line};
-ghost use Rattle.command_line.specs.Requests.{AskFor, Flags, Makes, MakesSome, Reads, form_in, is_beside_several, is_several, is_spmd_asked, is_true, path_of, settings_in, task_of, texts_in};
+ghost use Rattle.command_line.specs.Requests.{AskFor, Flags, Makes, MakesSome, Reads, form_in, is_beside_ranks, is_beside_several, is_several, is_spmd_asked, is_true, path_of, settings_in, task_of, texts_in};
 
 use crate::arguments::{
-    ALL, BUDGET, CHART, COLLECTIVES, DEPTH, DIMACS, DOT, EVIDENCE, HTML, JSON, LINES, MAP, OUT,
-    PIECES, PROGRAM, PROGRESS, RANKS, SET, SVG, WORKERS,
+    ALL, BUDGET, CHART, COLLECTIVES, DEPTH, DIMACS, DOT, EVIDENCE, FOLDER, HTML, JSON, LINES, MAP, OUT,
+    PHASES, PIECES, PROGRAM, PROGRESS, RANKS, SET, SVG, WORKERS,
 };
 use crate::commands::command;
 use clap::error::ErrorKind;
@@ -96,6 +96,33 @@ pub struct ToDecide<'a> {
     pub json: bool,
 }
 
+/// To decide a program of any length by one run, and where that doesn't tell by its phases; the
+/// schedule of a deadlock is written to the file `out`.
+#[derive(Clone, Copy)]
+pub struct ToDecidePhases<'a> {
+    pub program: &'a str,
+    pub out: Option<&'a str>,
+    pub progress: bool,
+    pub json: bool,
+}
+
+/// To cut a program of any length into phases, and write them to the folder `out`.
+#[derive(Clone, Copy)]
+pub struct ToCut<'a> {
+    pub program: &'a str,
+    pub out: &'a str,
+}
+
+/// To judge a program of any length by the phases in a folder and the evidence there, and write the
+/// schedule of a deadlock to the file `out`.
+#[derive(Clone, Copy)]
+pub struct ToJoin<'a> {
+    pub program: &'a str,
+    pub folder: &'a str,
+    pub out: Option<&'a str>,
+    pub json: bool,
+}
+
 /// To print the program that an SPMD text is unrolled to for so many ranks, 1 to 2,147,483,647, or
 /// write it to the file `out`, and the map of its lines to the file `map`. Each setting is written
 /// NAME=VALUE; collective calls wait as `collectives` says, `least` or `most`.
@@ -111,15 +138,14 @@ pub struct ToUnroll<'a> {
 
 /// To decide what an SPMD text is unrolled to, for each number of ranks that the text `ranks` tells.
 /// Each setting is written NAME=VALUE; collective calls wait as `collectives` says, `least` or
-/// `most`. `out` and `progress` don't go with it.
+/// `most`. `beside` tells whether words stand there that don't go with it.
 #[derive(Drop)]
 pub struct ToDecideUnrolled<'a> {
     pub program: &'a str,
     pub ranks: Option<&'a str>,
     pub settings: Vec<&'a str>,
     pub collectives: Option<&'a str>,
-    pub out: Option<&'a str>,
-    pub progress: bool,
+    pub beside: bool,
     pub json: bool,
 }
 
@@ -158,6 +184,9 @@ pub enum Request<'a> {
     Trim(ToTrim<'a>),
     Shrink(ToShrink<'a>),
     Decide(ToDecide<'a>),
+    DecidePhases(ToDecidePhases<'a>),
+    Phases(ToCut<'a>),
+    Join(ToJoin<'a>),
     Unroll(ToUnroll<'a>),
     DecideUnrolled(ToDecideUnrolled<'a>),
     DecideEach(ToDecideEach<'a>),
@@ -218,6 +247,8 @@ fn requested<'a>(alloc: Global, subcommand: (&'a str, &ArgMatches<'a>)) -> Optio
         "shrink" => shrink_request(matches),
         "decide" => decide_request(alloc, matches),
         "unroll" => unroll_request(alloc, matches),
+        "phases" => phases_request(matches),
+        "join" => join_request(matches),
         _ => None,
     }
 }
@@ -391,14 +422,21 @@ fn is_beside_several(matches: &ArgMatches<'_>, settings: &[&str]) -> bool
     ) {
         return true;
     }
-    is_run_told(matches)
+    is_beside_ranks(matches)
 }
 
-/// Whether the schedule is to be written, or the progress told.
-fn is_run_told(matches: &ArgMatches<'_>) -> bool
-    ensures { result ≡ is_some (first_of (codes "out") (rows_of (found_of matches.now))) || is_true (one_of (codes "progress") (rows_of (found_of matches.now))) }
+/// Whether words stand there that go with one program text alone.
+fn is_beside_ranks(matches: &ArgMatches<'_>) -> bool
+    ensures { result ≡ is_beside_ranks (rows_of (found_of matches.now)) }
 {
-    matches.get_str(OUT).is_some() || is_set(matches, PROGRESS)
+    matches.get_str(OUT).is_some() || is_one_told(matches)
+}
+
+/// Whether the progress is to be told, or phases are asked for.
+fn is_one_told(matches: &ArgMatches<'_>) -> bool
+    ensures { result ≡ is_true (one_of (codes "progress") (rows_of (found_of matches.now))) || is_true (one_of (codes "phases") (rows_of (found_of matches.now))) }
+{
+    is_set(matches, PROGRESS) || is_set(matches, PHASES)
 }
 
 /// The request of the matches of `decide` with one program.
@@ -408,8 +446,6 @@ fn decide_one_request<'a>(alloc: Global, matches: &ArgMatches<'a>) -> Option<Req
         Makes (codes "decide") (rows_of (found_of matches.now)) (task_of request)) }
 {
     let program = matches.get_str(PROGRAM)?;
-    let out = matches.get_str(OUT);
-    let progress = is_set(matches, PROGRESS);
     let json = is_set(matches, JSON);
     let ranks = matches.get_str(RANKS);
     let collectives = matches.get_str(COLLECTIVES);
@@ -420,16 +456,57 @@ fn decide_one_request<'a>(alloc: Global, matches: &ArgMatches<'a>) -> Option<Req
             ranks,
             settings,
             collectives,
-            out,
-            progress,
+            beside: is_beside_ranks(matches),
             json,
         }));
     }
+    if is_set(matches, PHASES) {
+        return decide_phases_request(matches, program);
+    }
     Some(Request::Decide(ToDecide {
         program,
-        out,
-        progress,
+        out: matches.get_str(OUT),
+        progress: is_set(matches, PROGRESS),
         json,
+    }))
+}
+
+/// The request of the matches of `decide` by phases.
+fn decide_phases_request<'a>(matches: &ArgMatches<'a>, program: &'a str) -> Option<Request<'a>>
+    requires one { is_several (rows_of (found_of matches.now)) ≡ false }
+    requires text { is_spmd_asked (rows_of (found_of matches.now)) ≡ false }
+    requires phases { is_true (one_of (codes "phases") (rows_of (found_of matches.now))) ≡ true }
+    requires program { first_of (codes "PROGRAM") (rows_of (found_of matches.now)) ≡ Some program.now }
+    ensures { IfSome result (λ request.
+        Makes (codes "decide") (rows_of (found_of matches.now)) (task_of request)) }
+{
+    Some(Request::DecidePhases(ToDecidePhases {
+        program,
+        out: matches.get_str(OUT),
+        progress: is_set(matches, PROGRESS),
+        json: is_set(matches, JSON),
+    }))
+}
+
+/// The request of the matches of `phases`.
+fn phases_request<'a>(matches: &ArgMatches<'a>) -> Option<Request<'a>>
+    ensures { IfSome result (λ request. Makes (codes "phases") (rows_of (found_of matches.now)) (task_of request)) }
+{
+    Some(Request::Phases(ToCut {
+        program: matches.get_str(PROGRAM)?,
+        out: matches.get_str(OUT)?,
+    }))
+}
+
+/// The request of the matches of `join`.
+fn join_request<'a>(matches: &ArgMatches<'a>) -> Option<Request<'a>>
+    ensures { IfSome result (λ request. Makes (codes "join") (rows_of (found_of matches.now)) (task_of request)) }
+{
+    Some(Request::Join(ToJoin {
+        program: matches.get_str(PROGRAM)?,
+        folder: matches.get_str(FOLDER)?,
+        out: matches.get_str(OUT),
+        json: is_set(matches, JSON),
     }))
 }
 

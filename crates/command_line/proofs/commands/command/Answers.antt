@@ -19,4 +19,6 @@ returns c =
     let seven = c.under-top-7.ensures _ _ six c.trim_command.ensures in
     let eight = c.under-top-8.ensures _ _ seven c.shrink_command.ensures in
     let nine = c.under-top-9.ensures _ _ eight c.decide_command.ensures in
-    c.under.ensures _ _ nine c.unroll_command.ensures
+    let ten = c.under-top-10.ensures _ _ nine c.unroll_command.ensures in
+    let eleven = c.under-top-11.ensures _ _ ten c.phases_command.ensures in
+    c.under.ensures _ _ eleven c.join_command.ensures

@@ -5,5 +5,6 @@ returns c =
     let one = c.with-command.ensures _ _ c.named-command.ensures c.programs.ensures in
     let two = c.with-command-2.ensures _ _ one c.schedule.ensures in
     let three = c.with-command-3.ensures _ _ two c.stages.ensures in
-    let four = c.with-command-4.ensures _ _ three c.json.ensures in
-    c.with_unrolling.ensures _ four
+    let four = c.with-command-4.ensures _ _ three c.phases.ensures in
+    let five = c.with-command-5.ensures _ _ four c.json.ensures in
+    c.with_unrolling.ensures _ five

@@ -16,8 +16,7 @@ returns-then-is_spmd_asked c =
         ranks,
         sym c.in_ok-settings.ensures,
         given_by_rows m _ c.get_str-collectives.result c.get_str-collectives.ensures,
-        given_by_rows m _ c.get_str-out.result c.get_str-out.ensures,
-        c.is_set-progress.ensures,
+        c.is_beside_ranks.ensures,
         c.is_set-json.ensures,
         sym (c.is_spmd_asked.ensures (rows_of (found_of m)) ranks settings (given_by_rows m (codes "collectives") c.get_str-collectives.result c.get_str-collectives.ensures)) ∙ c.if-is_spmd_asked.true,
         c.requires,
@@ -31,11 +30,12 @@ returns c =
       command = refl;
       values = (
         path_by_rows m _ c.get_str.result _ c.get_str.ensures c.in_ok-program.was,
-        given_by_rows m _ c.get_str-out.result c.get_str-out.ensures,
-        c.is_set-progress.ensures,
+        given_by_rows m _ c.get_str-2.result c.get_str-2.ensures,
+        c.is_set-2.ensures,
         c.is_set-json.ensures,
         sym (c.is_spmd_asked.ensures (rows_of (found_of m)) (given_by_rows m (codes "ranks") c.get_str-ranks.result c.get_str-ranks.ensures) (ap (map (λ (s : Bor (List ℕ)). s.now)) c.deref.ensures.value ∙ c.in_ok-settings.ensures)
             (given_by_rows m (codes "collectives") c.get_str-collectives.result c.get_str-collectives.ensures)) ∙ c.if-is_spmd_asked.false,
         c.requires,
+        sym c.is_set.ensures ∙ c.if-is_set.false,
       );
     }

@@ -1,7 +1,7 @@
 use Rattle.std.proofs.Common.{◌∙◌, ap, sym, Bool, codes}
-use Rattle.std.specs.Prelude.{◌||◌, is_some}
-use Rattle.clap.specs.Words.{first_of, found_of, one_of, rows_of}
-use Rattle.command_line.specs.Requests.{is_true}
+use Rattle.std.specs.Prelude.{◌||◌}
+use Rattle.clap.specs.Words.{found_of, rows_of}
+use Rattle.command_line.specs.Requests.{is_beside_ranks}
 use Rattle.command_line.proofs.CommandLines.{given_by_rows}
 use Rattle.command_line.proofs.request.is_beside_several.Goals as goal
 
@@ -10,11 +10,11 @@ returns-then-is_spmd_asked c =
     let m = c.args.matches.now in
     let rows = rows_of (found_of m) in
     let asked = c.is_spmd_asked.ensures rows (given_by_rows m (codes "ranks") c.get_str.result c.get_str.ensures) c.requires (given_by_rows m (codes "collectives") c.get_str-2.result c.get_str-2.ensures) in
-    sym (ap (λ (b : Bool). b || (is_some (first_of (codes "out") rows) || is_true (one_of (codes "progress") rows))) (sym asked ∙ c.if-is_spmd_asked.true))
+    sym (ap (λ (b : Bool). b || is_beside_ranks rows) (sym asked ∙ c.if-is_spmd_asked.true))
 
 pub returns : goal.returns
 returns c =
     let m = c.args.matches.now in
     let rows = rows_of (found_of m) in
     let asked = c.is_spmd_asked.ensures rows (given_by_rows m (codes "ranks") c.get_str.result c.get_str.ensures) c.requires (given_by_rows m (codes "collectives") c.get_str-2.result c.get_str-2.ensures) in
-    c.is_run_told.ensures ∙ sym (ap (λ (b : Bool). b || (is_some (first_of (codes "out") rows) || is_true (one_of (codes "progress") rows))) (sym asked ∙ c.if-is_spmd_asked.false))
+    c.is_beside_ranks.ensures ∙ sym (ap (λ (b : Bool). b || is_beside_ranks rows) (sym asked ∙ c.if-is_spmd_asked.false))

@@ -1,0 +1,8 @@
+use Rattle.command_line.proofs.commands.join_command.Goals as goal
+
+pub returns : goal.returns
+returns c =
+    let one = c.with-command.ensures _ _ c.named-command.ensures c.program.ensures in
+    let two = c.with-command-2.ensures _ _ one c.folder.ensures in
+    let three = c.with-command-3.ensures _ _ two c.schedule.ensures in
+    c.with.ensures _ _ three c.json.ensures
