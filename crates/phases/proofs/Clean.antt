@@ -205,7 +205,8 @@ module _ (p : MpiProgram) (x : Cut) (whole : IsWellFormed p) (one : IsWellFormed
   -- As long as a run stays in its parts, no finder of the first part may find a send of the second.
   abbrev pub NoneEarly : Type 0
   NoneEarly =
-      (m m1 m2 : Configuration) → Reached p m → Reached x.first m1 → Both p x one two cut m m1 m2 → (s f : ℕ) → IsFrom x.second x.moved_second s → IsFrom x.first x.moved_first f → CanFind p m s f → ⊥
+      (m m1 m2 : Configuration) → Reached p m → Reached x.first m1 → Both p x one two cut m m1 m2
+      → (s f : ℕ) → IsFrom x.second x.moved_second s → IsFrom x.first x.moved_first f → CanFind p m s f → ⊥
 
   module _ (balanced : IsBalanced x.first x.second) (early : NoneEarly) where
     of_one_part_as : (m m1 m2 : Configuration) → Reached p m → Reached x.first m1 → Both p x one two cut m m1 m2 → (s f : ℕ) → CanFind p m s f
@@ -238,7 +239,8 @@ module _ (p : MpiProgram) (x : Cut) (whole : IsWellFormed p) (one : IsWellFormed
         )
 
     pub clean_by : IsClean p x
-    clean_by steps run = all_stay (opening p) (opening x.first) (opening x.second) (reached_opening p) (reached_opening x.first) (opening_both p x one two cut) steps run
+    clean_by steps run =
+        all_stay (opening p) (opening x.first) (opening x.second) (reached_opening p) (reached_opening x.first) (opening_both p x one two cut) steps run
 
 -- in the opening configuration of the first part a rank with calls has a next one
 pub opening_below : (p : MpiProgram) (x : Cut) → IsCut p x → IsWellFormed x.first → HasNextBelow x.first (opening x.first)
@@ -253,7 +255,8 @@ opening_below p x cut one r c range own low =
 pub balanced_is_clean : BalancedIsClean
 balanced_is_clean p x whole one two cut balanced timely never steps run =
     clean_by p x whole one two cut balanced
-    (λ m m1 m2 reached first both s f ws wf can. none_early p x whole one two cut m m1 m2 reached first both s f ws wf can never (opening_below p x cut one) (timely s f ws wf can.fit)) steps run
+    (λ m m1 m2 reached first both s f ws wf can.
+    none_early p x whole one two cut m m1 m2 reached first both s f ws wf can never (opening_below p x cut one) (timely s f ws wf can.fit)) steps run
 
 -- ---- named sources
 
@@ -266,7 +269,8 @@ named_source o pattern is names None e = absurd (both_ways true refl (sym names 
 named_source o pattern is names (Some v) e = (v, refl)
 
 -- a send that fits a finder which names its source is of the only rank whose sends fit it
-pub named_is_only : (p : MpiProgram) (x : Cut) → IsCut p x → (s f : ℕ) → (wf : IsFrom x.first x.moved_first f) → are_fit p s f ≡ true → names_source (pattern_of wf.call.kind) ≡ true → IsOfOnlySender p x.first x.moved_first s f
+pub named_is_only : (p : MpiProgram) (x : Cut) → IsCut p x → (s f : ℕ) → (wf : IsFrom x.first x.moved_first f) → are_fit p s f ≡ true
+    → names_source (pattern_of wf.call.kind) ≡ true → IsOfOnlySender p x.first x.moved_first s f
 named_is_only p x cut s f wf fit names e we fits_e call other at_e at_s = only
   where
     at_f : call_at p f ≡ Some (moved_call (x.moved_first wf.call.rank) wf.call)
@@ -286,4 +290,5 @@ named_is_only p x cut s f wf fit names e we fits_e call other at_e at_s = only
         sym (sender e call at_e fits_e named.0 g.pattern finds named.1) ∙ sender s other at_s fit named.0 g.pattern finds named.1
 
 pub named_is_timely : NamedIsTimely
-named_is_timely p x cut names s f ws wf fit = inl (λ e we fits_e call other at_e at_s. named_is_only p x cut s f wf fit (names wf.place wf.call wf.there) e we fits_e call other at_e at_s)
+named_is_timely p x cut names s f ws wf fit =
+    inl (λ e we fits_e call other at_e at_s. named_is_only p x cut s f wf fit (names wf.place wf.call wf.there) e we fits_e call other at_e at_s)

@@ -1,5 +1,5 @@
--- Calls that are sure to be partners are so in each run: messages of an envelope that all takers name
--- are taken in the order in which they are sent.
+-- Calls that are sure to be partners are so in each run: messages of an envelope that all takers
+-- name are taken in the order in which they are sent.
 use Rattle.std.proofs.Common.{◌≡◌, ℕ, zero, suc, ◌+◌, ◌<◌, inl, inr, Bool, true, false, not, ◌&&◌, ◌==◌, nat_lt, List, [], ◌∷◌, Some, take, slice_get, refl, sym, ap, ◌∙◌, subst, arith}
 use Rattle.std.specs.List.{count_by}
 use Rattle.std.proofs.lemmas.Bool.{cases_eq, cases_lt, eqb-true, le-ltb, lt-ltb}

@@ -33,7 +33,7 @@ is_never Never h = refl
 is_never q h = absurd (cc)
 
 module _ (p : MpiProgram) (e m : Configuration) (knows : Table) (f : ℕ) (kept : Kept p m) (agrees : Agrees m e) (told : Told p knows m) where
-  -- what is said of a call's partner is said of that which the other configuration has
+  -- what is said of the partner that a call has in the one configuration is so of its other one
   at_partner : (c x : ℕ) (says : Option ℕ → Bool) → partner_of m c ≡ Some x → says None ≡ false → says (partner_of e c) ≡ true → says (Some x) ≡ true
   at_partner c x says partner none = by (partner_of e c) refl
     where
@@ -99,7 +99,8 @@ has_ended p is steps run c call there finished =
     elim (cases_lt c (slice_index m.next r)) [
       | inl issued ↦ (within_issued p m c call there issued, returned issued)
       | inr ahead ↦
-          let next = below_all p is (opening p) steps (opening_below p is) run r c (is.in_range c call there).own (rank_is (call_at p c) call r there refl) ahead in
+          let own = rank_is (call_at p c) call r there refl in
+          let next = below_all p is (opening p) steps (opening_below p is) run r c (is.in_range c call there).own own ahead in
           absurd (both_ways (has_next p m r) next (not_true (has_next p m r) parts.0))
     ]
   where
