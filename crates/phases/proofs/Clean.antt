@@ -17,8 +17,8 @@ use Rattle.semantics.proofs.Runs.{after_all-push, IsRun-push}
 use Rattle.semantics.specs.Headline.{NoStuckRun}
 use Rattle.races.specs.Races.{names_source}
 use Rattle.phases.specs.Parts.{IsPart, IsFrom, IsWellFormed, moved_kind, moved_call}
-use Rattle.phases.specs.Cuts.{Cut, IsCut, StayInParts, StaysInPart, AreOfOnePart}
-use Rattle.phases.specs.Conditions.{IsBalanced, HasFinder, IsTimely, IsOfOnlySender, ComesAfter, is_send_to, is_taker_at, goes_to}
+use Rattle.phases.specs.Cuts.{Cut, IsCut, IsClean, StayInParts, StaysInPart, AreOfOnePart}
+use Rattle.phases.specs.Conditions.{IsBalanced, HasFinder, IsOfOnlySender, ComesAfter, is_send_to, is_taker_at, goes_to}
 use Rattle.phases.specs.Order.{IsFinder, Needs}
 use Rattle.phases.specs.Laws.{BalancedIsClean, NamedIsTimely}
 use Rattle.phases.proofs.Parts.{pattern_moved, message_moved, fit_moved, matched_moved, fit_calls_there, IsSeen}
@@ -196,19 +196,25 @@ module _ (p : MpiProgram) (x : Cut) (whole : IsWellFormed p) (one : IsWellFormed
                   no_both wf.call.kind fit.message early_fit.pattern fit.sends finds
             ]
 
-        none_early : HasNextBelow x.first (opening x.first) → IsOfOnlySender p x.first x.moved_first s f ⊎ ComesAfter p s f → ⊥
+        pub none_early : HasNextBelow x.first (opening x.first) → IsOfOnlySender p x.first x.moved_first s f ⊎ ComesAfter p s f → ⊥
         none_early below (inl only) = reached_goes_on x.first m1 reached_first (none_early_at below only)
         none_early below (inr after) =
             let found = after reached.steps reached.run (ap (λ (z : Configuration). is_issued p z s) reached.is ∙ can.send_issued) in
             both_ways (is_matched m f) (sym (ap (λ (z : Configuration). is_matched z f) reached.is) ∙ found) can.finder_open
 
-  module _ (balanced : IsBalanced x.first x.second) (timely : IsTimely p x) (never : NoStuckRun x.first) (below : HasNextBelow x.first (opening x.first)) where
+  -- As long as a run stays in its parts, no finder of the first part may find a send of the second.
+  abbrev pub NoneEarly : Type 0
+  NoneEarly =
+      (m m1 m2 : Configuration) → Reached p m → Reached x.first m1 → Both p x one two cut m m1 m2
+      → (s f : ℕ) → IsFrom x.second x.moved_second s → IsFrom x.first x.moved_first f → CanFind p m s f → ⊥
+
+  module _ (balanced : IsBalanced x.first x.second) (early : NoneEarly) where
     of_one_part_as : (m m1 m2 : Configuration) → Reached p m → Reached x.first m1 → Both p x one two cut m m1 m2 → (s f : ℕ) → CanFind p m s f
         → IsFrom x.first x.moved_first s ⊎ IsFrom x.second x.moved_second s → IsFrom x.first x.moved_first f ⊎ IsFrom x.second x.moved_second f → AreOfOnePart x s f
     of_one_part_as m m1 m2 reached first both s f can (inl w) (inl v) = inl (w, v)
     of_one_part_as m m1 m2 reached first both s f can (inr w) (inr v) = inr (w, v)
     of_one_part_as m m1 m2 reached first both s f can (inl w) (inr v) = absurd (none_left m m1 m2 reached first both s f w v can balanced)
-    of_one_part_as m m1 m2 reached first both s f can (inr w) (inl v) = absurd (none_early m m1 m2 reached first both s f w v can never below (timely s f w v can.fit))
+    of_one_part_as m m1 m2 reached first both s f can (inr w) (inl v) = absurd (early m m1 m2 reached first both s f w v can)
 
     of_one_part : (m m1 m2 : Configuration) → Reached p m → Reached x.first m1 → Both p x one two cut m m1 m2 → (s f : ℕ) → CanFind p m s f → AreOfOnePart x s f
     of_one_part m m1 m2 reached first both s f can =
@@ -232,8 +238,12 @@ module _ (p : MpiProgram) (x : Cut) (whole : IsWellFormed p) (one : IsWellFormed
           ],
         )
 
+    pub clean_by : IsClean p x
+    clean_by steps run =
+        all_stay (opening p) (opening x.first) (opening x.second) (reached_opening p) (reached_opening x.first) (opening_both p x one two cut) steps run
+
 -- in the opening configuration of the first part a rank with calls has a next one
-opening_below : (p : MpiProgram) (x : Cut) → IsCut p x → IsWellFormed x.first → HasNextBelow x.first (opening x.first)
+pub opening_below : (p : MpiProgram) (x : Cut) → IsCut p x → IsWellFormed x.first → HasNextBelow x.first (opening x.first)
 opening_below p x cut one r c range own low =
     let next : slice_index (opening x.first).next r ≡ first_call x.first r = get_or-map-range_with_len (first_call x.first) 0 x.first.ranks r r 0 range (omega arith) in
     by next (is_of_rank (call_at x.first (first_call x.first r)) r) refl
@@ -244,8 +254,9 @@ opening_below p x cut one r c range own low =
 
 pub balanced_is_clean : BalancedIsClean
 balanced_is_clean p x whole one two cut balanced timely never steps run =
-    all_stay p x whole one two cut balanced timely never (opening_below p x cut one) (opening p) (opening x.first) (opening x.second)
-    (reached_opening p) (reached_opening x.first) (opening_both p x one two cut) steps run
+    clean_by p x whole one two cut balanced
+    (λ m m1 m2 reached first both s f ws wf can.
+    none_early p x whole one two cut m m1 m2 reached first both s f ws wf can never (opening_below p x cut one) (timely s f ws wf can.fit)) steps run
 
 -- ---- named sources
 
@@ -257,8 +268,10 @@ named_source : (o : Option Pattern) (pattern : Pattern) → o ≡ Some pattern �
 named_source o pattern is names None e = absurd (both_ways true refl (sym names ∙ ap names_source is ∙ ap is_some e))
 named_source o pattern is names (Some v) e = (v, refl)
 
-pub named_is_timely : NamedIsTimely
-named_is_timely p x cut names s f ws wf fit = inl (λ e we fits_e call other at_e at_s. only e call other at_e at_s fits_e)
+-- a send that fits a finder which names its source is of the only rank whose sends fit it
+pub named_is_only : (p : MpiProgram) (x : Cut) → IsCut p x → (s f : ℕ) → (wf : IsFrom x.first x.moved_first f) → are_fit p s f ≡ true
+    → names_source (pattern_of wf.call.kind) ≡ true → IsOfOnlySender p x.first x.moved_first s f
+named_is_only p x cut s f wf fit names e we fits_e call other at_e at_s = only
   where
     at_f : call_at p f ≡ Some (moved_call (x.moved_first wf.call.rank) wf.call)
     at_f = ap (call_at p) wf.is ∙ cut.first.calls wf.place wf.call wf.there
@@ -269,9 +282,13 @@ named_is_timely p x cut names s f ws wf fit = inl (λ e we fits_e call other at_
         let same : g.pattern ≡ pattern = same_Some g.pattern pattern (sym g.finds ∙ pattern_moved (x.moved_first wf.call.rank) wf.call.kind ∙ finds) in
         source_is g.pattern.source v call.rank (ap (λ (z : Pattern). z.source) same ∙ is) g.source
 
-    only : (e : ℕ) (call other : Call) → call_at p e ≡ Some call → call_at p s ≡ Some other → are_fit p e f ≡ true → call.rank ≡ other.rank
-    only e call other at_e at_s fits_e =
+    only : call.rank ≡ other.rank
+    only =
         let g = fit_parts p s f other _ at_s at_f fit in
         let finds : pattern_of wf.call.kind ≡ Some g.pattern = sym (pattern_moved (x.moved_first wf.call.rank) wf.call.kind) ∙ g.finds in
-        let named = named_source (pattern_of wf.call.kind) g.pattern finds (names wf.place wf.call wf.there) g.pattern.source refl in
+        let named = named_source (pattern_of wf.call.kind) g.pattern finds names g.pattern.source refl in
         sym (sender e call at_e fits_e named.0 g.pattern finds named.1) ∙ sender s other at_s fit named.0 g.pattern finds named.1
+
+pub named_is_timely : NamedIsTimely
+named_is_timely p x cut names s f ws wf fit =
+    inl (λ e we fits_e call other at_e at_s. named_is_only p x cut s f wf fit (names wf.place wf.call wf.there) e we fits_e call other at_e at_s)

@@ -60,7 +60,7 @@ count_front test f k (suc c) (x ∷ xs) below above =
     let rest = count_front test f (k + 1) c xs (λ j low high. below j (omega (arith, low)) (omega (arith, high))) (λ j low. above j (omega (arith, low))) in
     omega (arith, head, rest, sum_by-cons (λ (y : Call). one_if (test y)) x (take c xs))
 
-before_count : (test : Call → Bool) (c : ℕ) (xs : List Call) → done_count test (λ j. nat_lt j c) 0 xs ≡ count_by test (take c xs)
+pub before_count : (test : Call → Bool) (c : ℕ) (xs : List Call) → done_count test (λ j. nat_lt j c) 0 xs ≡ count_by test (take c xs)
 before_count test c xs = count_front test (λ j. nat_lt j c) 0 c xs (λ j low high. lt-ltb j c (omega (arith, high))) (λ j low. le-ltb j c (omega (arith, low)))
 
 -- ---- calls of an envelope
@@ -122,7 +122,7 @@ covered_is : (o : Option ℕ) (n k : ℕ) → o ≡ Some n → covers o k ≡ tr
 covered_is o n k e c = sym (eqb-true n k (sym (ap (λ (z : Option ℕ). covers z k) e) ∙ c))
 
 -- a message with an envelope fits each taker that names it
-with_envelope_fit : (p : MpiProgram) (h : Envelope) (s t : ℕ) (a b : Call) → call_at p s ≡ Some a → call_at p t ≡ Some b → sends_with h a ≡ true → takes_with h b ≡ true → are_fit p s t ≡ true
+pub with_envelope_fit : (p : MpiProgram) (h : Envelope) (s t : ℕ) (a b : Call) → call_at p s ≡ Some a → call_at p t ≡ Some b → sends_with h a ≡ true → takes_with h b ≡ true → are_fit p s t ≡ true
 with_envelope_fit p h s t a b at_s at_t sends takes' =
     let u = sent h a sends in
     let v = taken h b takes' in
@@ -147,7 +147,7 @@ fit_has_envelope h a b f takes' =
     (ap (is_addressed h) f.sends ∙ and_both (f.message.destination == h.destination && f.message.tag == h.tag) (f.message.communicator == h.communicator)
     (and_both (f.message.destination == h.destination) (f.message.tag == h.tag) (eq-eqb f.message.destination h.destination (f.to ∙ v.rank)) (eq-eqb f.message.tag h.tag tag)) (eq-eqb f.message.communicator h.communicator on))
 
-envelope_tests : (p : MpiProgram) (h : Envelope) → IsExact p h → AreTests p (sends_with h) (takes_with h)
+pub envelope_tests : (p : MpiProgram) (h : Envelope) → IsExact p h → AreTests p (sends_with h) (takes_with h)
 envelope_tests p h exact =
     record {
       taker = λ s t a b at_s at_t fit taker e. exact s t a b at_s at_t fit taker e;

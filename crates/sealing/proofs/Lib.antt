@@ -1,0 +1,4 @@
+pub mod Sealed
+pub mod Counterparts
+pub mod Finishing
+pub mod Seals
