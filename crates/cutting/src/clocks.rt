@@ -1,0 +1,349 @@
+//! What ranks know of finders of any source as a run goes on, and which calls such finders need in
+//! their phase for it.
+
+use crate::finders::Columns;
+use crate::graph::Edge;
+use crate::lists::{at, count_up_to, put};
+use crate::routes::Wildcards;
+use crate::tying::partner;
+use callorder::{Call, Kind, LongProgram, Message, Policy};
+use calltext::Mode;
+use semantics::Step;
+use std::alloc::{AllocError, Global};
+use std::collections::HashMap;
+
+/// From where a message goes where, with its tag and communicator, or without these.
+#[derive(Clone, Copy, PartialEq, Eq, Hash)]
+struct Route {
+    source: u32,
+    destination: u32,
+    envelope: Option<(u32, u32)>,
+}
+
+/// What is the same all along a run.
+#[derive(Drop)]
+pub struct Known {
+    pub partners: Vec<Option<usize>>,
+    pub waits: Vec<usize>,
+    pub columns: Columns,
+    pub wildcards: Wildcards,
+}
+
+#[derive(Drop)]
+struct Clocks {
+    /// The next call of each rank.
+    next: Vec<usize>,
+    /// For each rank and each column the place up to which the column's rank is known to have
+    /// returned from its calls.
+    known: Vec<Vec<usize>>,
+    /// What was known where a call was issued that others learn from.
+    issued: Vec<Option<Vec<usize>>>,
+    /// The last send on each route.
+    last: HashMap<Route, usize>,
+}
+
+fn route_of(source: u32, message: &Message, whole: bool) -> Route {
+    Route {
+        source,
+        destination: message.destination,
+        envelope: if whole {
+            Some((message.communicator, message.tag))
+        } else {
+            None
+        },
+    }
+}
+
+fn last_sends(
+    alloc: Global,
+    program: &LongProgram,
+    columns: &Columns,
+) -> Result<HashMap<Route, usize>, AllocError> {
+    let mut last = HashMap::new(alloc);
+    let calls = program.calls();
+    for place in 0..calls.len() {
+        if let Some(message) = calls[place].kind.message() {
+            if columns.column(message.destination).is_some() {
+                last.insert(route_of(calls[place].rank, &message, true), place)?;
+                last.insert(route_of(calls[place].rank, &message, false), place)?;
+            }
+        }
+    }
+    Ok(last)
+}
+
+/// For each rank its first call, and for one without calls the end.
+fn first_calls(alloc: Global, program: &LongProgram) -> Result<Vec<usize>, AllocError> {
+    let calls = program.calls();
+    let mut first = vec![in alloc; calls.len(); program.ranks() as usize]?;
+    for place in (0..calls.len()).rev() {
+        put(&mut first, calls[place].rank as usize, place);
+    }
+    Ok(first)
+}
+
+/// Whether a send of this mode has returned only where its message was found.
+fn waits_for_taker(policy: Policy, mode: Mode) -> bool {
+    match mode {
+        Mode::Synchronous => true,
+        Mode::Standard => policy == Policy::Never,
+        Mode::Buffered => false,
+    }
+}
+
+impl Known {
+    /// The send whose message this call is sure to take.
+    fn sure_send(&self, place: usize, call: &Call) -> Option<usize> {
+        if !self.wildcards.is_sure(call) {
+            return None;
+        }
+        partner(&self.partners, place)
+    }
+
+    /// The call that is sure to take this send's message.
+    fn sure_taker(&self, program: &LongProgram, send: usize) -> Option<usize> {
+        let taker = partner(&self.partners, send)?;
+        let call = program.call(taker)?;
+        if self.wildcards.is_sure(&call) {
+            Some(taker)
+        } else {
+            None
+        }
+    }
+
+    /// The call that was issued where this operation is done, as far as that is sure.
+    fn done(&self, program: &LongProgram, place: usize) -> Option<usize> {
+        let call = program.call(place)?;
+        match call.kind {
+            Kind::Send { mode, .. } => {
+                if waits_for_taker(program.policy(), mode) {
+                    self.sure_taker(program, place)
+                } else {
+                    None
+                }
+            }
+            Kind::Receive { .. } | Kind::MatchedProbe { .. } => self.sure_send(place, &call),
+            _ => None,
+        }
+    }
+
+    /// The call that was issued where this call has returned, as far as that is sure.
+    fn returned(&self, program: &LongProgram, place: usize) -> Option<usize> {
+        let call = program.call(place)?;
+        match call.kind {
+            Kind::Send { blocking, .. } | Kind::Receive { blocking, .. } => {
+                if blocking {
+                    self.done(program, place)
+                } else {
+                    None
+                }
+            }
+            Kind::Wait { operation } => self.done(program, operation),
+            _ => self.done(program, place),
+        }
+    }
+
+    /// Whether others may learn from the issue of this call.
+    fn is_heard(&self, program: &LongProgram, place: usize) -> bool {
+        let Some(call) = program.call(place) else {
+            return false;
+        };
+        if call.kind.message().is_some() {
+            return self.sure_taker(program, place).is_some();
+        }
+        self.sure_send(place, &call).is_some()
+    }
+}
+
+impl Clocks {
+    fn new(alloc: Global, program: &LongProgram, known: &Known) -> Result<Clocks, AllocError> {
+        let ranks = program.ranks() as usize;
+        let mut clocks = Clocks {
+            next: first_calls(alloc, program)?,
+            known: Vec::with_capacity(alloc, ranks)?,
+            issued: Vec::with_capacity(alloc, program.calls().len())?,
+            last: last_sends(alloc, program, &known.columns)?,
+        };
+        for _rank in 0..ranks {
+            let row = vec![in alloc; 0; known.columns.columns.len()]?;
+            clocks.known.push(row)?;
+        }
+        for _place in 0..program.calls().len() {
+            clocks.issued.push(None)?;
+        }
+        Ok(clocks)
+    }
+
+    /// The last send of a rank on a route, or 0.
+    fn last_of(&self, route: &Route) -> usize {
+        self.last.get(route).copied().unwrap_or(0)
+    }
+
+    fn known_of(&self, rank: u32, column: usize) -> usize {
+        match self.known.get(rank as usize) {
+            None => 0,
+            Some(row) => at(row, column),
+        }
+    }
+
+    fn know(&mut self, rank: u32, column: usize, place: usize) {
+        if let Some(row) = self.known.get_mut(rank as usize) {
+            put(row, column, place);
+        }
+    }
+
+    /// Learns at a call that has returned how far the rank of a column is.
+    fn learn(
+        &mut self,
+        columns: &Columns,
+        call: &Call,
+        place: usize,
+        number: usize,
+        more: usize,
+        edges: &mut Vec<Edge>,
+    ) -> Result<(), AllocError> {
+        let old = self.known_of(call.rank, number);
+        if more <= old || number == columns.number(call.rank) {
+            return Ok(());
+        }
+        self.know(call.rank, number, more);
+        let Some(column) = columns.columns.get(number) else {
+            return Ok(());
+        };
+        let first = count_up_to(&column.ends, old);
+        if first >= count_up_to(&column.ends, more) {
+            return Ok(());
+        }
+        let route = Route {
+            source: call.rank,
+            destination: column.rank,
+            envelope: None,
+        };
+        let Some(finder) = column.finders.get(first) else {
+            return Ok(());
+        };
+        if self.last_of(&route) > place {
+            edges.push(Edge {
+                from: finder.place,
+                to: place,
+            })?;
+        }
+        Ok(())
+    }
+
+    /// Learns at a call that has returned what was known where another was issued.
+    fn hear(
+        &mut self,
+        alloc: Global,
+        columns: &Columns,
+        call: &Call,
+        place: usize,
+        other: usize,
+        edges: &mut Vec<Edge>,
+    ) -> Result<(), AllocError> {
+        let heard = match self.issued.get(other) {
+            Some(Some(heard)) => Vec::from_slice(alloc, heard)?,
+            _ => Vec::new(alloc),
+        };
+        for number in 0..heard.len() {
+            self.learn(columns, call, place, number, at(&heard, number), edges)?;
+        }
+        Ok(())
+    }
+
+    /// Has the first finder that isn't known to have found need this send, where it is the last one
+    /// of its rank that it fits.
+    fn send(
+        &self,
+        columns: &Columns,
+        call: &Call,
+        place: usize,
+        edges: &mut Vec<Edge>,
+    ) -> Result<(), AllocError> {
+        let Some(message) = call.kind.message() else {
+            return Ok(());
+        };
+        if self.last_of(&route_of(call.rank, &message, true)) != place {
+            return Ok(());
+        }
+        let Some(column) = columns.column(message.destination) else {
+            return Ok(());
+        };
+        let known = self.known_of(call.rank, columns.number(message.destination));
+        let first = count_up_to(&column.ends, known);
+        if let Some(finder) = column.fitting(first, message.communicator, message.tag) {
+            edges.push(Edge {
+                from: finder,
+                to: place,
+            })?;
+        }
+        Ok(())
+    }
+
+    /// Goes on with the issue of a rank's next call.
+    fn issue(
+        &mut self,
+        alloc: Global,
+        program: &LongProgram,
+        known: &Known,
+        rank: u32,
+        edges: &mut Vec<Edge>,
+    ) -> Result<(), AllocError> {
+        let place = at(&self.next, rank as usize);
+        put(&mut self.next, rank as usize, place.saturating_add(1));
+        let Some(call) = program.call(place) else {
+            return Ok(());
+        };
+        let before = place.saturating_sub(1);
+        if before < place && program.is_of_rank(before, rank) {
+            if let Some(other) = known.returned(program, before) {
+                self.hear(alloc, &known.columns, &call, before, other, edges)?;
+            }
+        }
+        self.know(rank, known.columns.number(rank), place);
+        self.send(&known.columns, &call, place, edges)?;
+        self.keep(alloc, program, known, rank, place)
+    }
+
+    /// Keeps what is known where a call is issued that others learn from.
+    fn keep(
+        &mut self,
+        alloc: Global,
+        program: &LongProgram,
+        known: &Known,
+        rank: u32,
+        place: usize,
+    ) -> Result<(), AllocError> {
+        if !known.is_heard(program, place) {
+            return Ok(());
+        }
+        let row = match self.known.get(rank as usize) {
+            None => Vec::new(alloc),
+            Some(row) => Vec::from_slice(alloc, row)?,
+        };
+        if let Some(issued) = self.issued.get_mut(place) {
+            *issued = Some(row);
+        }
+        Ok(())
+    }
+}
+
+/// Adds what finders of any source need, so that no later phase sends too early to them.
+pub fn seal_all(
+    alloc: Global,
+    program: &LongProgram,
+    run: &[Step],
+    known: &Known,
+    edges: &mut Vec<Edge>,
+) -> Result<(), AllocError> {
+    if known.columns.columns.is_empty() {
+        return Ok(());
+    }
+    let mut clocks = Clocks::new(alloc, program, known)?;
+    for step in run {
+        if let Step::Issue { rank, .. } = step {
+            clocks.issue(alloc, program, known, *rank, edges)?;
+        }
+    }
+    Ok(())
+}
