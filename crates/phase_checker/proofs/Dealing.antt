@@ -1,6 +1,7 @@
 -- Phases that are dealt, one more at a time.
-use Rattle.std.proofs.Common.{◌≡◌, ℕ, ◌+◌, ◌<◌, inl, inr, List, [], ◌∷◌, ◌++◌, length, take, get_or, slice_get, refl, sym, ap, ◌∙◌, subst, arith}
-use Rattle.std.proofs.lemmas.Bool.{cases_lt}
+use Rattle.std.proofs.Common.{◌≡◌, ℕ, ◌+◌, ◌<◌, ◌≤◌, inl, inr, Bool, true, false, nat_eq, List, [], ◌∷◌, ◌++◌, Option, Some, None, IfSome, length, take, get_or, slice_get, refl, sym, ap, ◌∙◌, subst, arith}
+use Rattle.std.specs.Option.{option_eq}
+use Rattle.std.proofs.lemmas.Bool.{cases_eq, cases_lt, eq-eqb}
 use Rattle.std.proofs.lemmas.List.{take_more}
 use Rattle.std.proofs.lemmas.Option.{same_Some, slice_get-get_or, slice_get_read, slice_get_within, get_or_from_slice_get}
 use Rattle.callorder.specs.Programs.{MpiProgram}
@@ -8,8 +9,8 @@ use Rattle.phases.specs.Rests.{IsRest, behind}
 use Rattle.phase_checker.specs.declared.phase.Phase.{Phase}
 use Rattle.phase_checker.specs.declared.reason.NotJoined.{NotJoined}
 use Rattle.phase_checker.specs.declared.reason.NotJoined.TheVariants as joins
-use Rattle.phase_checker.specs.Dealing.{ComesTo, Dealt, IsAt, IsFirst, IsTaken, IsWrong, KeepsToItself}
-use Rattle.phase_checker.specs.Parts.{IsDealtAt, IsUnkept}
+use Rattle.phase_checker.specs.Dealing.{ComesTo, Dealt, IsAt, IsEarly, IsFirst, IsTaken, IsWrong, KeepsToItself}
+use Rattle.phase_checker.specs.Parts.{IsDealtAt, IsFirstEarly, IsUnkept}
 
 dealt_more : (phases : List Phase) (number : ℕ) (p q rest : MpiProgram) (order : List ℕ) → Dealt phases p order q → IsTaken phases number q rest
     → Dealt phases p (order ++ number ∷ []) rest
@@ -42,21 +43,22 @@ module _ (phases : List Phase) (order next : List ℕ) (place : ℕ) (whole p q 
           subst (λ (z : List ℕ). Dealt phases p z (behind q d.phase.program)) (sym longer)
           (dealt_more phases d.is.number p q (behind q d.phase.program) (take place order) so_far.dealt (record { phase = d.phase; there = d.is.there; front = d.front; left = refl }))
 
-      keep : (at : ℕ) (phase : Phase) → at < place + 1 → at + 1 < length order → IsAt phases order at phase → KeepsToItself phase
+      keep : (at : ℕ) (phase : Phase) → at < place + 1 → at + 1 < length order → IsAt phases order at phase → KeepsToItself phases order at phase
       keep at phase below more is = elim (cases_lt at place) [
         | inl before ↦ so_far.keep at phase before more is
         | inr there ↦
             let e : at ≡ place = omega (arith, there, below) in
             let here : IsAt phases order place phase = subst (λ (z : ℕ). IsAt phases order z phase) e is in
-            subst KeepsToItself (one_phase phases order place d.phase phase d.is here) (d.keeps (omega (arith, e, more)))
+            subst (λ (z : ℕ). KeepsToItself phases order z phase) (sym e)
+            (subst (KeepsToItself phases order place) (one_phase phases order place d.phase phase d.is here) (d.keeps (omega (arith, e, more))))
       ]
 
 -- ---- what is wrong
 
 -- a phase in front that others follow, and that doesn't keep to itself, is wrong at its place
-pub unkept_is_wrong : (phases : List Phase) (order : List ℕ) (place : ℕ) (q : MpiProgram) (phase : Phase) (why : NotJoined) → IsUnkept phase place why
+pub unkept_is_wrong : (phases : List Phase) (order : List ℕ) (place : ℕ) (q : MpiProgram) (phase : Phase) (why : NotJoined) → IsUnkept phases order place phase why
     → place + 1 < length order → IsFirst phases order place q phase → IsWrong phases order place q why
-unkept_is_wrong phases order place q phase (joins.Source at) un more first = (un.0, more, phase, first, un.1)
+unkept_is_wrong phases order place q phase (joins.Source at) un more first = (un.0, phase, first, un.1)
 unkept_is_wrong phases order place q phase (joins.Uneven at) un more first = (un.0, more, phase, first, un.1, un.2)
 unkept_is_wrong phases order place q phase joins.Memory un more first = absurd un
 unkept_is_wrong phases order place q phase (joins.Read fault) un more first = absurd un
@@ -64,6 +66,45 @@ unkept_is_wrong phases order place q phase (joins.Resolve fault) un more first =
 unkept_is_wrong phases order place q phase (joins.NoPhase at) un more first = absurd un
 unkept_is_wrong phases order place q phase (joins.Other at) un more first = absurd un
 unkept_is_wrong phases order place q phase joins.Left un more first = absurd un
+
+-- ---- the first place for whose phase a later one may send too early
+
+-- a test that tells another place
+pub other_place : (early : Option ℕ) (place : ℕ) (r : Bool) → r ≡ option_eq nat_eq early (Some place) → r ≡ false → early ≡ Some place → ⊥
+other_place early place r is off e =
+    let on : option_eq nat_eq early (Some place) ≡ true = ap (λ (z : Option ℕ). option_eq nat_eq z (Some place)) e ∙ eq-eqb place place refl in
+    let never : true ≡ false = sym on ∙ sym is ∙ off in
+    cc
+
+module _ (phases : List Phase) (order : List ℕ) (place : ℕ) (phase : Phase) (is : IsAt phases order place phase) where
+  -- it is early
+  pub first_is_unkept : (early : Option ℕ) → IsFirstEarly phases order early → early ≡ Some place → IsEarly phases order place phase
+  first_is_unkept None found e = absurd (cc)
+  first_is_unkept (Some at) found e =
+      let here : at ≡ place = same_Some at place e in
+      let there : IsAt phases order place found.0.0 = subst (λ (z : ℕ). IsAt phases order z found.0.0) here found.0.1 in
+      let same : found.0.0 ≡ phase = one_phase phases order place found.0.0 phase there is in
+      subst (λ (z : Phase). IsEarly phases order place z) same (subst (λ (z : ℕ). IsEarly phases order z found.0.0) here found.0.2)
+
+  -- and no place before it is
+  pub earlier_is_late : (early : Option ℕ) → IsFirstEarly phases order early → IfSome early (λ first. place ≤ first) → (early ≡ Some place → ⊥) → IsEarly phases order place phase → ⊥
+  earlier_is_late None found before other = found place phase is
+  earlier_is_late (Some at) found before other = elim (cases_eq at place) [
+    | inl e ↦ absurd (other (ap Some e))
+    | inr differ ↦ found.1 place phase (omega (arith, before, differ)) is
+  ]
+
+-- it isn't passed by a phase that is dealt
+pub still_before : (phases : List Phase) (order next : List ℕ) (place : ℕ) (p q : MpiProgram) (early : Option ℕ) → IsFirstEarly phases order early → IfSome early (λ first. place ≤ first)
+    → IsDealtAt phases order place p q next → IfSome early (λ first. place + 1 ≤ first)
+still_before phases order next place p q None found before d = tt
+still_before phases order next place p q (Some at) found before d = elim (cases_eq at place) [
+  | inl e ↦
+      let early = first_is_unkept phases order place d.phase d.is (Some at) found (ap Some e) in
+      let more = slice_get_within order early.later early.is.number early.is.entry in
+      absurd ((d.keeps (omega (arith, more, early.behind))).late early)
+  | inr differ ↦ omega (arith, before, differ)
+]
 
 -- ---- all phases
 

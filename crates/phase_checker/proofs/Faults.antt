@@ -5,13 +5,12 @@ use Rattle.std.proofs.lemmas.Option.{same_Some, slice_get-get_or, slice_get_with
 use Rattle.calltext.specs.Limits.{long}
 use Rattle.callorder.specs.Programs.{MpiProgram}
 use Rattle.callorder.proofs.FirstFaults.{one_program_of_bytes_within}
-use Rattle.races.specs.Races.{NamesSources}
 use Rattle.phases.specs.Conditions.{LeavesNothing}
 use Rattle.phases.specs.Rests.{IsFront, behind}
 use Rattle.phase_checker.specs.declared.phase.Phase.{Phase}
 use Rattle.phase_checker.specs.declared.reason.NotJoined.{NotJoined}
 use Rattle.phase_checker.specs.declared.reason.NotJoined.TheVariants as joins
-use Rattle.phase_checker.specs.Dealing.{ComesTo, Dealt, IsAt, IsTaken, IsWrong}
+use Rattle.phase_checker.specs.Dealing.{ComesTo, Dealt, IsAt, IsEarly, IsTaken, IsWrong}
 use Rattle.phase_checker.specs.Laws.{JoinedHaveNoFault, OneFault}
 use Rattle.phase_checker.proofs.Dealing.{one_phase}
 
@@ -63,7 +62,7 @@ module _ (phases : List Phase) (order : List ℕ) (place : ℕ) (q : MpiProgram)
   Passes zero = place < length order
   Passes (suc zero) = (phase : Phase) × IsAt phases order place phase
   Passes (suc (suc zero)) = (phase : Phase) → IsAt phases order place phase → IsFront q phase.program
-  Passes (suc (suc (suc zero))) = (phase : Phase) → IsAt phases order place phase → place + 1 < length order → NamesSources phase.program
+  Passes (suc (suc (suc zero))) = (phase : Phase) → IsAt phases order place phase → IsEarly phases order place phase → ⊥
   Passes (suc (suc (suc (suc n)))) = (phase : Phase) → IsAt phases order place phase → place + 1 < length order → LeavesNothing phase.program
 
   is_told : (a : NotJoined) → IsWrong phases order place q a → a ≡ told (level a) place
@@ -82,8 +81,8 @@ module _ (phases : List Phase) (order : List ℕ) (place : ℕ) (q : MpiProgram)
       let same : is.number ≡ number = same_Some is.number number (sym is.entry ∙ entry) in
       let there = ap (slice_get phases) (sym same) ∙ is.there in cc
   fails (joins.Other at) (e, phase, is, never) pass = never (pass phase is)
-  fails (joins.Source at) (e, more, phase, first, never) pass = never (pass phase first.is more)
-  fails (joins.Uneven at) (e, more, phase, first, named, never) pass = never (pass phase first.is more)
+  fails (joins.Source at) (e, phase, first, early) pass = pass phase first.is early
+  fails (joins.Uneven at) (e, more, phase, first, late, never) pass = never (pass phase first.is more)
   fails joins.Memory w pass = absurd w
   fails (joins.Read fault) w pass = absurd w
   fails (joins.Resolve fault) w pass = absurd w
@@ -98,14 +97,14 @@ module _ (phases : List Phase) (order : List ℕ) (place : ℕ) (q : MpiProgram)
   passes (joins.Other at) w zero low = at_inside w.1 w.2
   passes (joins.Other at) w (suc zero) low = (w.1, w.2)
   passes (joins.Other at) w (suc (suc j)) low = absurd (omega (arith, low))
-  passes (joins.Source at) w zero low = at_inside w.2 w.3.is
-  passes (joins.Source at) w (suc zero) low = (w.2, w.3.is)
-  passes (joins.Source at) w (suc (suc zero)) low = λ phase is. subst (λ (z : Phase). IsFront q z.program) (one_phase phases order place w.2 phase w.3.is is) w.3.front
+  passes (joins.Source at) w zero low = at_inside w.1 w.2.is
+  passes (joins.Source at) w (suc zero) low = (w.1, w.2.is)
+  passes (joins.Source at) w (suc (suc zero)) low = λ phase is. subst (λ (z : Phase). IsFront q z.program) (one_phase phases order place w.1 phase w.2.is is) w.2.front
   passes (joins.Source at) w (suc (suc (suc j))) low = absurd (omega (arith, low))
   passes (joins.Uneven at) w zero low = at_inside w.2 w.3.is
   passes (joins.Uneven at) w (suc zero) low = (w.2, w.3.is)
   passes (joins.Uneven at) w (suc (suc zero)) low = λ phase is. subst (λ (z : Phase). IsFront q z.program) (one_phase phases order place w.2 phase w.3.is is) w.3.front
-  passes (joins.Uneven at) w (suc (suc (suc zero))) low = λ phase is more. subst (λ (z : Phase). NamesSources z.program) (one_phase phases order place w.2 phase w.3.is is) w.4
+  passes (joins.Uneven at) w (suc (suc (suc zero))) low = λ phase is early. w.4 (subst (IsEarly phases order place) (sym (one_phase phases order place w.2 phase w.3.is is)) early)
   passes (joins.Uneven at) w (suc (suc (suc (suc j)))) low = absurd (omega (arith, low))
   passes joins.Memory w j low = absurd w
   passes (joins.Read fault) w j low = absurd w
@@ -124,7 +123,7 @@ module _ (phases : List Phase) (order : List ℕ) (place : ℕ) (q : MpiProgram)
   within joins.Left w = omega (arith, w.0)
   within (joins.NoPhase at) w = let inside = slice_get_within order place w.1 w.2 in omega (arith, inside)
   within (joins.Other at) w = let inside = at_inside w.1 w.2 in omega (arith, inside)
-  within (joins.Source at) w = let inside = at_inside w.2 w.3.is in omega (arith, inside)
+  within (joins.Source at) w = let inside = at_inside w.1 w.2.is in omega (arith, inside)
   within (joins.Uneven at) w = let inside = at_inside w.2 w.3.is in omega (arith, inside)
   within joins.Memory w = absurd w
   within (joins.Read fault) w = absurd w
@@ -135,7 +134,7 @@ module _ (phases : List Phase) (order : List ℕ) (place : ℕ) (q : MpiProgram)
   at_end joins.Left w past none = w.1 none
   at_end (joins.NoPhase at) w past none = let inside = slice_get_within order place w.1 w.2 in omega (arith, inside, past)
   at_end (joins.Other at) w past none = let inside = at_inside w.1 w.2 in omega (arith, inside, past)
-  at_end (joins.Source at) w past none = let inside = at_inside w.2 w.3.is in omega (arith, inside, past)
+  at_end (joins.Source at) w past none = let inside = at_inside w.1 w.2.is in omega (arith, inside, past)
   at_end (joins.Uneven at) w past none = let inside = at_inside w.2 w.3.is in omega (arith, inside, past)
   at_end joins.Memory w past none = w
   at_end (joins.Read fault) w past none = w
@@ -152,7 +151,9 @@ module _ (phases : List Phase) (order : List ℕ) (place : ℕ) (q : MpiProgram)
     later_passes (suc (suc zero)) = λ phase is.
         let taken = (taken_at phases order place other is.number p q r here.dealt later.dealt before is.entry).1 in
         subst (λ (z : Phase). IsFront q z.program) (same_Some taken.phase phase (sym taken.there ∙ is.there)) taken.front
-    later_passes (suc (suc (suc zero))) = λ phase is more. (later.keep place phase before more is).named
+    later_passes (suc (suc (suc zero))) = λ phase is early.
+        let more = slice_get_within order early.later early.is.number early.is.entry in
+        (later.keep place phase before (omega (arith, more, early.behind)) is).late early
     later_passes (suc (suc (suc (suc j)))) = λ phase is more. (later.keep place phase before more is).even
 
     pub no_earlier : (a : NotJoined) → IsWrong phases order place q a → ⊥

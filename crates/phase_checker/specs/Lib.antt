@@ -2,3 +2,5 @@ pub mod Reasons
 pub mod Dealing
 pub mod Parts
 pub mod Laws
+pub mod Senders
+pub mod Early

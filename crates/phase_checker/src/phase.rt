@@ -8,11 +8,12 @@ ghost use Rattle.races.specs.Races.{NamesSources};
 ghost use Rattle.phases.specs.Conditions.{LeavesNothing};
 
 use crate::reason::NotAPhase;
-use callorder::LongProgram;
+use callorder::{Call, LongProgram};
 use checker::{PieceGate, Reason, Verdict, verdict_in};
 use deciding::{Decision, decide_program, program_of};
 use leastrun::names_sources;
 use phases::{deal, leaves_nothing};
+use sealing::{Loose, loose_ends};
 use std::alloc::{AllocError, Global};
 use std::thread::Threads;
 
@@ -36,6 +37,7 @@ impl Phase {
     ghost use Rattle.callorder.specs.Programs.{MpiProgram};
     ghost use Rattle.callorder.specs.Resolving.{IsTextOfWithin};
     ghost use Rattle.phases.specs.Rests.{IsFront, IsRest, behind};
+    ghost use Rattle.sealing.specs.Loose.{AreLoose};
     ghost use Rattle.checker.specs.Verdicts.{IsNeverStuck, Judges, Refutes};
     ghost use Rattle.phase_checker.specs.Reasons.{IsNoPhase};
 
@@ -123,6 +125,25 @@ impl Phase {
         ensures rest { (q : MpiProgram) → IsRest program.now next.old q → result ≡ true → IsRest program.now next.new (behind q self.now.program) }
     {
         deal(program, &self.program, next)
+    }
+
+    /// The calls of all ranks, in rank order.
+    pub(crate) fn calls(&self) -> &[Call]
+        ensures { result.now ≡ self.now.program.calls }
+    {
+        self.program.calls()
+    }
+
+    /// What ranks could send to a receive or probe of any source that has found nothing yet where
+    /// they are finished, as far as is told: nothing where each names its source. The only error is
+    /// want of memory.
+    pub(crate) fn loose_ends(&self, alloc: Global) -> Result<Vec<Loose>, AllocError>
+        ensures { IfOk result (λ list. AreLoose self.now.program list.items) }
+    {
+        if self.names_sources() {
+            return Ok(Vec::new(alloc));
+        }
+        loose_ends(alloc, &self.program)
     }
 
     /// Whether each receive, matched probe and probe names its source.

@@ -29,6 +29,31 @@ const LEFT: &str = "ranks 2/policy any/rank 0/bsend 1 3/rank 1/";
 const LEFT_FIRST: &str =
     "ranks 2/policy any/rank 0/bsend 1 3/send 1 1/recv 1 2/rank 1/recv 0 1/send 0 2/";
 
+/// A message to a receive of any source. Its sender waits for nothing.
+const EAGER: &str = "ranks 2/policy any/rank 0/send 1 1/rank 1/recv * 1/";
+
+/// A message to a receive of any source and tag.
+const EAGER_TAG: &str = "ranks 2/policy any/rank 0/send 1 1/rank 1/recv * */";
+
+/// A message that a probe of any source sees.
+const SEEN: &str = "ranks 2/policy any/rank 0/send 1 1/rank 1/probe * 1/recv 0 1/";
+
+/// A message.
+const ONE: &str = "ranks 2/policy any/rank 0/send 1 1/rank 1/recv 0 1/";
+
+/// A message of another tag.
+const TWO: &str = "ranks 2/policy any/rank 0/send 1 2/rank 1/recv 0 2/";
+
+/// A round between two of three ranks, where the receive takes any source.
+const ANY_OF_THREE: &str =
+    "ranks 3/policy any/rank 0/send 1 1/recv 1 2/rank 1/recv * 1/send 0 2/rank 2/";
+
+/// A message of the first of three ranks.
+const FIRST_OF_THREE: &str = "ranks 3/policy any/rank 0/send 1 1/rank 1/recv 0 1/rank 2/";
+
+/// A message of the last of three ranks.
+const LAST_OF_THREE: &str = "ranks 3/policy any/rank 0/rank 1/recv 2 1/rank 2/send 1 1/";
+
 /// Two ranks that each send first.
 const STUCK: &str = "ranks 2/policy any/rank 0/send 1 1/recv 1 1/rank 1/send 0 1/recv 0 1/";
 
@@ -98,13 +123,83 @@ fn calls_that_do_not_fit(rt: HostRuntime) -> Result<(), Fail> {
 }
 
 #[test]
-fn phases_that_do_not_keep_to_themselves(rt: HostRuntime) -> Result<(), Fail> {
+fn phases_that_leave_messages(rt: HostRuntime) -> Result<(), Fail> {
     let alloc = rt.alloc();
-    assert_eq!(rt; told(alloc, ANY_FIRST, ROUND, ANY, &[1, 0])?, ("source", 0));
     assert_eq!(rt;
         told(alloc, LEFT_FIRST, ROUND, LEFT, &[1, 0])?,
         ("uneven", 0)
     );
+    Ok(())
+}
+
+/// The sender is done only after its message was found.
+#[test]
+fn answered_messages_are_not_too_early(rt: HostRuntime) -> Result<(), Fail> {
+    let alloc = rt.alloc();
+    assert_eq!(rt; told(alloc, ANY_FIRST, ROUND, ANY, &[1, 0])?, ("joined", 0));
+    let own =
+        "ranks 3/policy any/rank 0/send 1 1/recv 1 2/send 1 1/rank 1/recv * 1/send 0 2/recv 0 1/rank 2/";
+    assert_eq!(rt;
+        told(alloc, own, ANY_OF_THREE, FIRST_OF_THREE, &[0, 1])?,
+        ("joined", 0)
+    );
+    Ok(())
+}
+
+/// Rank 2 may send before rank 1 has found what rank 0 sends. Then rank 1 waits in vain.
+#[test]
+fn another_sender_is_too_early(rt: HostRuntime) -> Result<(), Fail> {
+    let alloc = rt.alloc();
+    let whole =
+        "ranks 3/policy any/rank 0/send 1 1/recv 1 2/rank 1/recv * 1/send 0 2/recv 2 1/rank 2/send 1 1/";
+    assert_eq!(rt;
+        told(alloc, whole, ANY_OF_THREE, LAST_OF_THREE, &[0, 1])?,
+        ("source", 0)
+    );
+    Ok(())
+}
+
+/// Nothing tells that the first message was found when its sender is done.
+#[test]
+fn eager_messages_are_too_early(rt: HostRuntime) -> Result<(), Fail> {
+    let alloc = rt.alloc();
+    let whole = "ranks 2/policy any/rank 0/send 1 1/send 1 1/rank 1/recv * 1/recv 0 1/";
+    assert_eq!(rt; told(alloc, whole, EAGER, ONE, &[0, 1])?, ("source", 0));
+    let again = "ranks 2/policy any/rank 0/send 1 1/send 1 1/rank 1/recv * 1/recv * 1/";
+    assert_eq!(rt; told(alloc, again, EAGER, ONE, &[0, 0])?, ("source", 0));
+    let between =
+        "ranks 2/policy any/rank 0/send 1 1/send 1 1/send 1 1/rank 1/recv 0 1/recv * 1/recv 0 1/";
+    assert_eq!(rt;
+        told(alloc, between, EAGER, ONE, &[1, 0, 1])?,
+        ("source", 1)
+    );
+    let last = "ranks 2/policy any/rank 0/send 1 1/send 1 1/rank 1/recv 0 1/recv * 1/";
+    assert_eq!(rt; told(alloc, last, EAGER, ONE, &[1, 0])?, ("joined", 0));
+    Ok(())
+}
+
+/// Only a message that fits can be found too early.
+#[test]
+fn other_tags_are_not_too_early(rt: HostRuntime) -> Result<(), Fail> {
+    let alloc = rt.alloc();
+    let tagged = "ranks 2/policy any/rank 0/send 1 1/send 1 2/rank 1/recv * 1/recv 0 2/";
+    assert_eq!(rt; told(alloc, tagged, EAGER, TWO, &[0, 1])?, ("joined", 0));
+    let untagged = "ranks 2/policy any/rank 0/send 1 1/send 1 2/rank 1/recv * */recv 0 2/";
+    assert_eq!(rt;
+        told(alloc, untagged, EAGER_TAG, TWO, &[0, 1])?,
+        ("source", 0)
+    );
+    Ok(())
+}
+
+/// A probe of any source, too.
+#[test]
+fn messages_are_too_early_for_probes(rt: HostRuntime) -> Result<(), Fail> {
+    let alloc = rt.alloc();
+    let whole = "ranks 2/policy any/rank 0/send 1 1/send 1 1/rank 1/probe * 1/recv 0 1/recv 0 1/";
+    assert_eq!(rt; told(alloc, whole, SEEN, ONE, &[0, 1])?, ("source", 0));
+    let tagged = "ranks 2/policy any/rank 0/send 1 1/send 1 2/rank 1/probe * 1/recv 0 1/recv 0 2/";
+    assert_eq!(rt; told(alloc, tagged, SEEN, TWO, &[0, 1])?, ("joined", 0));
     Ok(())
 }
 

@@ -1,0 +1,187 @@
+-- Tables of an order of phases, one entry more at a time.
+use Rattle.std.proofs.Common.{◌≡◌, ◌≢◌, ℕ, ◌+◌, ◌-◌, ◌<◌, ◌≤◌, ◌⊎◌, inl, inr, Bool, true, false, if◌then◌else◌, max, List, [], ◌∷◌, ◌++◌, Option, Some, None, IfSome, length, take, get_or, set, slice_get, refl, sym, ap, ◌∙◌, subst, arith, length-set, length-append, get_or-set_same, get_or-set_other}
+use Rattle.std.specs.List.{list_any}
+use Rattle.std.specs.Global.{Vec}
+use Rattle.std.proofs.lemmas.Bool.{cases_eq, cases_lt}
+use Rattle.std.proofs.lemmas.List.{get_or-take, length-take-le}
+use Rattle.std.proofs.lemmas.Option.{same_Some, slice_get_read, slice_get_within, slice_get-get_or, get_or_from_slice_get}
+use Rattle.naming.proofs.Numbering.{pushed_front, pushed_last}
+use Rattle.sealing.specs.declared.loose.Loose.{Loose}
+use Rattle.sealing.specs.Loose.{AreLoose}
+use Rattle.phase_checker.specs.declared.phase.Phase.{Phase}
+use Rattle.phase_checker.specs.declared.senders.Senders.{Senders}
+use Rattle.phase_checker.specs.Senders.{is_sent, place_of, IsRaised}
+use Rattle.phase_checker.specs.Early.{AreEnds, AreLast, AreSenders}
+
+-- ---- last places
+
+-- the table for the places before this one
+pub record IsLastTo (count : ℕ) (order : List ℕ) (last : List (Option ℕ)) (place : ℕ) : Type 0 where
+  pub size : length last ≡ count
+  pub stands : (number at : ℕ) → get_or last number None ≡ Some at → slice_get order at ≡ Some number
+  pub past : (other number : ℕ) → other < place → slice_get order other ≡ Some number → number < count → (at : ℕ) × (get_or last number None ≡ Some at) × (other ≤ at)
+
+pub last_done : (count : ℕ) (order : List ℕ) (last : List (Option ℕ)) (place : ℕ) → IsLastTo count order last place → length order ≤ place → AreLast count order last
+last_done count order last place so_far all =
+    record { size = so_far.size; stands = so_far.stands; past = λ other number there. so_far.past other number (omega (arith, all, slice_get_within order other number there)) there }
+
+module _ (count : ℕ) (order : List ℕ) (last : List (Option ℕ)) (place number : ℕ) (so_far : IsLastTo count order last place) (here : slice_get order place ≡ Some number) where
+  pub last_put : number < count → IsLastTo count order (set last number (Some place)) (place + 1)
+  last_put within = record { size = length-set last number (Some place) ∙ so_far.size; stands = stands; past = past }
+    where
+      same : get_or (set last number (Some place)) number None ≡ Some place
+      same = get_or-set_same last number (Some place) None (omega (arith, within, so_far.size))
+
+      other_is : (n : ℕ) → n ≢ number → get_or (set last number (Some place)) n None ≡ get_or last n None
+      other_is n differ = get_or-set_other last number n (Some place) None differ
+
+      stands : (n at : ℕ) → get_or (set last number (Some place)) n None ≡ Some at → slice_get order at ≡ Some n
+      stands n at is = elim (cases_eq n number) [
+        | inl e ↦
+            let there : Some place ≡ Some at = sym same ∙ ap (λ (z : ℕ). get_or (set last number (Some place)) z None) (sym e) ∙ is in
+            ap (slice_get order) (sym (same_Some place at there)) ∙ here ∙ ap (λ (z : ℕ). Some z) (sym e)
+        | inr differ ↦ so_far.stands n at (sym (other_is n differ) ∙ is)
+      ]
+
+      past : (other n : ℕ) → other < place + 1 → slice_get order other ≡ Some n → n < count → (at : ℕ) × (get_or (set last number (Some place)) n None ≡ Some at) × (other ≤ at)
+      past other n low there few = elim (cases_eq n number) [
+        | inl e ↦ (place, ap (λ (z : ℕ). get_or (set last number (Some place)) z None) e ∙ same, omega (arith, low))
+        | inr differ ↦ elim (cases_lt other place) [
+          | inl before ↦ let old = so_far.past other n before there few in (old.0, other_is n differ ∙ old.1, old.2)
+          | inr from ↦
+              let e : other ≡ place = omega (arith, low, from) in
+              absurd (differ (same_Some n number (sym there ∙ ap (slice_get order) e ∙ here)))
+        ]
+      ]
+
+  pub last_passed : (number < count → ⊥) → IsLastTo count order last (place + 1)
+  last_passed outside = record {
+    size = so_far.size;
+    stands = so_far.stands;
+    past = λ other n low there few. elim (cases_lt other place) [
+      | inl before ↦ so_far.past other n before there few
+      | inr from ↦
+          let e : other ≡ place = omega (arith, low, from) in
+          let same : n ≡ number = same_Some n number (sym there ∙ ap (slice_get order) e ∙ here) in
+          absurd (outside (omega (arith, same, few)))
+    ];
+  }
+
+-- what was read at a number
+pub read_at : (count : ℕ) (order : List ℕ) (last : List (Option ℕ)) (number : ℕ) (x : Option ℕ) → AreLast count order last → number < count → x ≡ get_or last number x → get_or last number None ≡ x
+read_at count order last number x are within is = get_or_from_slice_get last number x None (slice_get_read last (length last) number x refl (omega (arith, within, are.size)) is)
+
+-- ---- loose ends
+
+-- what could be sent too early to the phases before this number
+pub record IsEndsTo (phases : List Phase) (followed : List (Option ℕ)) (ends : List (Vec Loose)) (count : ℕ) : Type 0 where
+  pub size : length ends ≡ count
+  pub each : (number at : ℕ) (phase : Phase) → number < count → slice_get phases number ≡ Some phase → get_or followed number None ≡ Some at
+      → (list : Vec Loose) × (slice_get ends number ≡ Some list) × AreLoose phase.program list.items
+
+pub ends_more : (phases : List Phase) (followed : List (Option ℕ)) (ends : List (Vec Loose)) (count : ℕ) (phase : Phase) (list : Vec Loose) → IsEndsTo phases followed ends count
+    → slice_get phases count ≡ Some phase → (x : Option ℕ) → get_or followed count None ≡ x → IfSome x (λ at. AreLoose phase.program list.items) → IsEndsTo phases followed (ends ++ list ∷ []) (count + 1)
+ends_more phases followed ends count phase list so_far here x x_is loose = record {
+  size = omega (arith, length-append ends (list ∷ []), so_far.size);
+  each = λ number at other low there at_is. elim (cases_lt number count) [
+    | inl before ↦ let old = so_far.each number at other before there at_is in (old.0, pushed_front ends list old.0 number old.1, old.2)
+    | inr from ↦
+        let e : number ≡ count = omega (arith, low, from) in
+        let same : phase ≡ other = same_Some phase other (sym here ∙ ap (slice_get phases) (sym e) ∙ there) in (
+          list,
+          pushed_last ends list number (e ∙ sym so_far.size),
+          subst (λ (z : Phase). AreLoose z.program list.items) same (subst (λ (z : Option ℕ). IfSome z (λ place. AreLoose phase.program list.items)) (sym x_is ∙ ap (λ (z : ℕ). get_or followed z None) (sym e) ∙ at_is) loose),
+        )
+  ];
+}
+
+pub ends_done : (phases : List Phase) (order earlier : List ℕ) (followed : List (Option ℕ)) (ends : List (Vec Loose)) (count : ℕ) → earlier ≡ take (length order - 1) order
+    → AreLast (length phases) earlier followed → IsEndsTo phases followed ends count → count ≡ length phases → AreEnds phases order ends
+ends_done phases order earlier followed ends count cut last so_far all = record {
+  size = so_far.size ∙ all;
+  each = λ place number phase more entry there.
+      let within = slice_get_within phases number phase there in
+      let old = last.past place number (before place number more entry) within in
+      so_far.each number old.0 phase (omega (arith, within, all)) there old.1;
+}
+  where
+    before : (place number : ℕ) → place + 1 < length order → slice_get order place ≡ Some number → slice_get earlier place ≡ Some number
+    before place number more entry =
+        let size = length-take-le (length order - 1) order (omega arith) in
+        let stands : slice_get (take (length order - 1) order) place ≡ Some number =
+        slice_get-get_or (take (length order - 1) order) place 0 (omega (arith, size, more)) ∙ ap (λ (z : ℕ). Some z) (get_or-take (length order - 1) order place 0 (omega (arith, more)) ∙ get_or_from_slice_get order place number 0 entry) in
+        ap (λ (z : List ℕ). slice_get z place) cut ∙ stands
+
+-- ---- senders
+
+-- what the phases before this number send, and how late
+pub record IsSendersTo (phases : List Phase) (last : List (Option ℕ)) (senders : Senders) (count : ℕ) : Type 0 where
+  pub sent : (key : Loose) → 0 < place_of senders key
+      → (number : ℕ) × (phase : Phase) × (slice_get phases number ≡ Some phase) × (get_or last number None ≡ Some (place_of senders key)) × (list_any (is_sent key) phase.program.calls ≡ true)
+  pub past : (key : Loose) (number place : ℕ) (phase : Phase) → number < count → slice_get phases number ≡ Some phase → get_or last number None ≡ Some place
+      → list_any (is_sent key) phase.program.calls ≡ true → place ≤ place_of senders key
+
+-- The entry of a key when a phase is put at a place, which sends what the key stands for where the
+-- test says so: it is the place or the old entry, and no less than either.
+abbrev IsEntry : ℕ → ℕ → ℕ → Bool → Type 0
+IsEntry old place new sends = (((sends ≡ true) × (new ≡ place)) ⊎ (new ≡ old)) × (old ≤ new) × (sends ≡ true → place ≤ new)
+
+module _ (phases : List Phase) (last : List (Option ℕ)) (senders : Senders) (count : ℕ) (phase : Phase) (so_far : IsSendersTo phases last senders count) (here : slice_get phases count ≡ Some phase) where
+  pub senders_more : (more : Senders) (place : ℕ) → get_or last count None ≡ Some place → IsRaised (λ key. list_any (is_sent key) phase.program.calls) place senders more → IsSendersTo phases last more (count + 1)
+  senders_more more place at raised = record { sent = sent; past = past }
+    where
+      entry : (key : Loose) (b : Bool) → place_of more key ≡ (if b then max (place_of senders key) place else place_of senders key) → IsEntry (place_of senders key) place (place_of more key) b
+      entry key true is = elim (cases_lt (place_of senders key) place) [
+        | inl low ↦ (inl (refl, omega (arith, is, low)), omega (arith, is, low), λ on. omega (arith, is, low))
+        | inr high ↦ (inr (omega (arith, is, high)), omega (arith, is, high), λ on. omega (arith, is, high))
+      ]
+      entry key false is = (inr is, omega (arith, is), λ on. absurd (cc))
+
+      sent : (key : Loose) → 0 < place_of more key
+          → (number : ℕ) × (phase : Phase) × (slice_get phases number ≡ Some phase) × (get_or last number None ≡ Some (place_of more key)) × (list_any (is_sent key) phase.program.calls ≡ true)
+      sent key some =
+          elim ((entry key (list_any (is_sent key) phase.program.calls) (raised key)).0) [
+            | inl (sends, is) ↦ (count, phase, here, at ∙ ap (λ (z : ℕ). Some z) (sym is), sends)
+            | inr is ↦
+                let old = so_far.sent key (omega (arith, some, is)) in
+                (old.0, old.1, old.2, old.3 ∙ ap (λ (z : ℕ). Some z) (sym is), old.4)
+          ]
+
+      past : (key : Loose) (number place' : ℕ) (other : Phase) → number < count + 1 → slice_get phases number ≡ Some other → get_or last number None ≡ Some place'
+          → list_any (is_sent key) other.program.calls ≡ true → place' ≤ place_of more key
+      past key number place' other low there is sends =
+          let e = entry key (list_any (is_sent key) phase.program.calls) (raised key) in
+          elim (cases_lt number count) [
+            | inl before ↦ omega (arith, e.1, so_far.past key number place' other before there is sends)
+            | inr from ↦
+                let same : number ≡ count = omega (arith, low, from) in
+                let phase_is : other ≡ phase = same_Some other phase (sym there ∙ ap (slice_get phases) same ∙ here) in
+                let place_is : place' ≡ place = same_Some place' place (sym is ∙ ap (λ (z : ℕ). get_or last z None) same ∙ at) in
+                let high = e.2 (ap (λ (z : Phase). list_any (is_sent key) z.program.calls) (sym phase_is) ∙ sends) in
+                omega (arith, high, place_is)
+          ]
+
+  pub senders_passed : get_or last count None ≡ None → IsSendersTo phases last senders (count + 1)
+  senders_passed none = record {
+    sent = so_far.sent;
+    past = λ key number place other low there is sends. elim (cases_lt number count) [
+      | inl before ↦ so_far.past key number place other before there is sends
+      | inr from ↦
+          let same : number ≡ count = omega (arith, low, from) in
+          let never : None ≡ Some place = sym none ∙ ap (λ (z : ℕ). get_or last z None) (sym same) ∙ is in
+          absurd (cc)
+    ];
+  }
+
+pub senders_done : (phases : List Phase) (order : List ℕ) (last : List (Option ℕ)) (senders : Senders) → AreLast (length phases) order last → IsSendersTo phases last senders (length phases)
+    → AreSenders phases order senders
+senders_done phases order last senders are so_far = record {
+  sent = λ key some.
+      let old = so_far.sent key some in
+      (old.1, record { number = old.0; entry = are.stands old.0 (place_of senders key) old.3; there = old.2 }, old.4);
+  past = λ key place phase is sends.
+      let within = slice_get_within phases is.number phase is.there in
+      let at = are.past place is.number is.entry within in
+      let high = so_far.past key is.number at.0 phase within is.there at.1 sends in
+      omega (arith, high, at.2);
+}
