@@ -15,11 +15,14 @@ fn starred(number: Option<u32>) -> u64 {
     }
 }
 
-fn mode_number(mode: Mode) -> u64 {
-    match mode {
-        Mode::Standard => 0,
-        Mode::Synchronous => 1,
-        Mode::Buffered => 2,
+fn send_number(mode: Mode, blocking: bool) -> u64 {
+    match (mode, blocking) {
+        (Mode::Standard, true) => 0,
+        (Mode::Standard, false) => 1,
+        (Mode::Synchronous, true) => 2,
+        (Mode::Synchronous, false) => 3,
+        (Mode::Buffered, true) => 4,
+        (Mode::Buffered, false) => 5,
     }
 }
 
@@ -41,10 +44,6 @@ fn pattern_key(what: u64, pattern: &Pattern) -> [u64; 4] {
     ]
 }
 
-fn blocking_number(blocking: bool) -> u64 {
-    if blocking { 1 } else { 0 }
-}
-
 /// What stands for a call but for its rank. Calls that it names are told by how far they are.
 fn kind_key(call: &Call, place: usize) -> [u64; 4] {
     match call.kind {
@@ -52,16 +51,13 @@ fn kind_key(call: &Call, place: usize) -> [u64; 4] {
             mode,
             blocking,
             message,
-        } => message_key(
-            mode_number(mode) * 2 + blocking_number(blocking),
-            &message,
-        ),
+        } => message_key(send_number(mode, blocking), &message),
         Kind::Receive { blocking, pattern } => {
-            pattern_key(6 + blocking_number(blocking), &pattern)
+            pattern_key(if blocking { 6 } else { 7 }, &pattern)
         }
         Kind::MatchedProbe { pattern, .. } => pattern_key(8, &pattern),
         Kind::Probe { pattern } => pattern_key(9, &pattern),
-        Kind::MatchedReceive { blocking } => [10 + blocking_number(blocking), 0, 0, 0],
+        Kind::MatchedReceive { blocking } => [if blocking { 10 } else { 11 }, 0, 0, 0],
         Kind::Wait { operation } => [12, place.saturating_sub(operation) as u64, 0, 0],
     }
 }

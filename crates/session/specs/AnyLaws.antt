@@ -7,10 +7,11 @@ use Rattle.semantics.specs.Headline.{IsStuckRunWithin}
 use Rattle.semantics.specs.declared.state.Step.{Step}
 use Rattle.settings.specs.declared.form.Form.{Form}
 use Rattle.checker.specs.Verdicts.{Shows}
-use Rattle.command_line.specs.Requests.{AskFor, Task, to_decide, to_decide_each, to_export, to_shrink}
+use Rattle.command_line.specs.Requests.{AskFor, Task, to_decide, to_decide_each, to_export, to_phases, to_shrink}
 use Rattle.command_line.specs.UsualWords.{PlainForm}
 use Rattle.session.specs.Asking.{AskToCheck, AskToExplain, AskToExplainBy, AskToProve, AskToReplay, TellsDeadlock}
 use Rattle.session.specs.Endings.{FailsEarly, SessionEnds, TaskEnds}
+use Rattle.session.specs.PhaseLaws.{AskByPhases}
 use Rattle.session.specs.Runs.{SessionRun}
 use Rattle.session.specs.Shrinking.{Hangs}
 use Rattle.session.specs.SweepLaws.{AskUnrolled, HangsFor, IsAmongRanks}
@@ -30,11 +31,14 @@ PlainWordsAreAnswered = (run : SessionRun) (task : Task) → SessionEnds run →
 
 -- ---- a deadlock that any run told
 
--- the words ask to decide the program at a path by one run, or to explain it without an evidence
+-- the words ask to decide the program at a path by one run, also before phases are looked at, or to
+-- explain it without an evidence
 abbrev pub AskToRun : List Text → Text → Type 0
 AskToRun words p =
     ((out : Option Text) × (progress : Bool) × (as_json : Bool) × AskFor words (to_decide p out progress as_json))
-    ⊎ ((budget : ℕ) × (form : Form) × AskToExplain words p None budget form)
+    ⊎ (((out : Option Text) × AskByPhases words p out)
+    ⊎ (((folder : Text) × AskFor words (to_phases p folder))
+    ⊎ ((budget : ℕ) × (form : Form) × AskToExplain words p None budget form)))
 
 -- the words ask for a command, and a deadlock is shown of the program whose path they name, or of
 -- what the SPMD text there is unrolled to for a number of ranks that they tell, or of one of the
@@ -56,7 +60,7 @@ IsRightlyTold words before =
     × ((source : List ℕ) → before p ≡ Some source
     → (barriers : Bool) × (barriers_in way ≡ Some barriers) × (number : ℕ) × IsAmongRanks ranks number × HangsFor p source settings barriers number))))))
 
--- where any run told a deadlock, its words ask to prove, check, replay, explain, export, shrink or
--- decide, and it is true of the program, and of the evidence, that are named
+-- where any run told a deadlock, its words ask to prove, check, replay, explain, export, shrink,
+-- decide, cut or join, and it is true of the program, and of the evidence, that are named
 abbrev pub ToldDeadlockIsShown : Type 0
 ToldDeadlockIsShown = (run : SessionRun) → SessionEnds run → TellsDeadlock run → IsRightlyTold run.words run.before

@@ -40,7 +40,7 @@ pub record IsAmongRanks (text : List ℕ) (ranks : ℕ) : Type 0 where
 -- of ranks that a text tells, with these settings, where collective calls wait so
 abbrev pub AskUnrolled : List Text → Text → Text → List Text → Option Text → Type 0
 AskUnrolled words p ranks settings way =
-    ((out : Option Text) × (progress : Bool) × (as_json : Bool) × AskFor words (to_decide_unrolled p (Some ranks) settings way out progress as_json))
+    ((beside : Bool) × (as_json : Bool) × AskFor words (to_decide_unrolled p (Some ranks) settings way beside as_json))
     ⊎ ((evidence : Option Text) × (workers : ℕ) × (depth : ℕ) × (budget : ℕ) × (form : Form) × (map : Option Text)
     × AskFor words (to_explain_unrolled p (Some ranks) settings way evidence workers depth budget form map))
 

@@ -35,7 +35,7 @@ needs_ranks = codes "error: --set and --collectives need --ranks\n"
 
 -- by whether there may be several numbers: so with `decide`, and not with `explain`
 abbrev pub beside_ranks : Bool → List ℕ
-beside_ranks true = codes "error: --out and --progress don't go with --ranks\n"
+beside_ranks true = codes "error: --out, --progress and --phases don't go with --ranks\n"
 beside_ranks false = codes "error: an evidence and --map don't go with --ranks\n"
 
 abbrev pub no_ranks : Bool → List ℕ
@@ -167,4 +167,4 @@ abbrev pub IsOneUnread : (List ℕ → Bool) → List (List ℕ) → List ℕ �
 IsOneUnread reads paths path = Contains paths path × IsUnread reads path
 
 abbrev pub beside_several : List ℕ
-beside_several = codes "error: one program alone goes with --out, --progress, --ranks, --set and --collectives\n"
+beside_several = codes "error: one program alone goes with --out, --progress, --phases, --ranks, --set and --collectives\n"

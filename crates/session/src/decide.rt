@@ -25,7 +25,7 @@ use std::io::Write;
 
 /// Decides by one run whether some run of the program of a text gets stuck, and tells meanwhile how
 /// far it is, where that is asked for.
-fn decided<E: Write>(
+pub fn decided<E: Write>(
     alloc: Global,
     text: &[u8],
     progress: bool,
@@ -84,7 +84,7 @@ pub fn read_whole<'a, F: FileSet>(
 
 /// The page of what is decided of a text. The schedule of a deadlock is written where a file is
 /// named.
-fn decision_page<'a, F: FileSet>(
+pub fn decision_page<'a, F: FileSet>(
     alloc: Global,
     text: &[u8],
     decided: &Result<Decision, Undecided>,

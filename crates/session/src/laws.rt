@@ -4,6 +4,7 @@ ghost use Rattle.session.specs.CheckLaws.{CheckedDeadlockIsPrinted, CheckedDeadl
 ghost use Rattle.session.specs.FileLaws.{ExportedAnswerIsPrinted, ExportedProofIsWritten, ExportedSafetyIsTrue, ShrunkProgramHangs, TrimmedRefutationIsWritten};
 ghost use Rattle.session.specs.SweepLaws.{EachRunIsRight, UnrolledRunsAreRight};
 ghost use Rattle.session.specs.UnrollLaws.{UnrolledTextIsPrinted};
+ghost use Rattle.session.specs.PhaseLaws.{CutsStayInFolder, PhasesAreJoined};
 ghost use Rattle.session.specs.SearchLaws.{DecidedRunsAreRight, ExplainedDeadlockIsShown, ExplainedSafetyIsTrue, ExplainedUnknownFinishes, ProvedDeadlockIsPrinted, ProvedDeadlockIsShown, ProvedSafetyIsPrinted, ProvedSafetyIsTrue, ProvedUnknownFinishes, WrittenDeadlockIsShown, WrittenSafetyIsRefuted};
 
 /// Where words ask for a check, and the run printed the line that tells a deadlock or ended with
@@ -203,4 +204,16 @@ pub fn plain_words_are_answered()
 /// source. The program may have any length.
 pub fn decided_runs_are_right()
     ensures { DecidedRunsAreRight }
+{}
+
+/// A run that judges a program by phases: a deadlock that was told is a run of the program that gets
+/// stuck, and the file that is named holds it; where no deadlock was told, no run of the program gets
+/// stuck; and no other file changes.
+pub fn phases_are_joined()
+    ensures { PhasesAreJoined }
+{}
+
+/// A run that cuts a program into phases changes files in the folder that is named alone.
+pub fn cuts_stay_in_folder()
+    ensures { CutsStayInFolder }
 {}

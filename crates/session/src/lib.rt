@@ -3,7 +3,9 @@
 #![tactic(auto)]
 
 mod advice;
+mod by_phases;
 mod commands;
+mod cut_files;
 mod decide;
 mod explained;
 mod laws;
@@ -18,6 +20,7 @@ mod told;
 mod unrolled;
 
 pub use laws::{
+    cuts_stay_in_folder, phases_are_joined,
     checked_deadlock_is_printed, checked_deadlock_is_shown, checked_safety_is_printed,
     checked_safety_is_true, decided_runs_are_right, each_run_is_right, encoded_formula_is_printed,
     explained_deadlock_is_shown, explained_safety_is_true, explained_unknown_finishes,

@@ -48,13 +48,6 @@ pub fn ranks_wanted(ranks: Option<&str>, beside: bool, several: bool) -> Result<
     Ok(found)
 }
 
-/// Whether words stand there that don't go with `decide --ranks`.
-pub fn is_beside_decide(asked: &ToDecideUnrolled<'_>) -> bool
-    ensures { result ≡ is_some (path_of asked.now.out) || asked.now.progress }
-{
-    asked.out.is_some() || asked.progress
-}
-
 /// Whether words stand there that don't go with `explain --ranks`.
 pub fn is_beside_explain(asked: &ToExplainUnrolled<'_>) -> bool
     ensures { result ≡ is_some (path_of asked.now.evidence) || is_some (path_of asked.now.map) }
@@ -66,7 +59,7 @@ fn beside_ranks(several: bool) -> &'static str
     ensures { result.now ≡ beside_ranks several }
 {
     if several {
-        "error: --out and --progress don't go with --ranks\n"
+        "error: --out, --progress and --phases don't go with --ranks\n"
     } else {
         "error: an evidence and --map don't go with --ranks\n"
     }

@@ -1,0 +1,38 @@
+-- What follows from how a run of `join`, `phases` or `decide --phases` ended.
+use Rattle.std.specs.Prelude.{◌≡◌, ◌≢◌, ◌⊎◌, ℕ, Bool, IsTrue, List, Option, Some, None}
+use Rattle.clap.specs.Words.{Text}
+use Rattle.calltext.specs.Limits.{long}
+use Rattle.semantics.specs.Headline.{IsNeverStuckWithin, IsStuckRunWithin}
+use Rattle.semantics.specs.declared.state.Step.{Step}
+use Rattle.deciding.specs.Schedules.{schedule_text}
+use Rattle.command_line.specs.Requests.{AskFor, to_decide_phases, to_join, to_phases}
+use Rattle.session.specs.Asking.{TellsDeadlock, TellsSafety}
+use Rattle.session.specs.Endings.{SessionEnds}
+use Rattle.session.specs.Phasing.{path_in}
+use Rattle.session.specs.Runs.{SessionRun}
+
+-- the words ask to judge the program at a path by phases in a folder, or by phases that are cut now
+abbrev pub AskByPhases : List Text → Text → Option Text → Type 0
+AskByPhases words p out =
+    ((folder : Text) × (as_json : Bool) × AskFor words (to_join p folder out as_json))
+    ⊎ ((progress : Bool) × (as_json : Bool) × AskFor words (to_decide_phases p out progress as_json))
+
+-- A run that judges a program by phases tells no deadlock only where no run of the program gets
+-- stuck, and a deadlock only where some run does; the schedule of such a run is in the file that is
+-- named for it. No other file changes.
+pub record PhasesAreJoined : Type 0 where
+  pub safe : (run : SessionRun) (p : Text) (out : Option Text) (program : List ℕ) → SessionEnds run → AskByPhases run.words p out
+      → run.before p ≡ Some program → TellsSafety run → IsNeverStuckWithin long program
+  pub stuck : (run : SessionRun) (p : Text) (out : Option Text) (program : List ℕ) → SessionEnds run → AskByPhases run.words p out
+      → run.before p ≡ Some program → TellsDeadlock run → (steps : List Step) × IsStuckRunWithin long program steps
+  pub schedule : (run : SessionRun) (p file : Text) (program : List ℕ) → SessionEnds run → AskByPhases run.words p (Some file)
+      → IsTrue run.tells.writes → run.before p ≡ Some program → run.status ≡ 1
+      → (steps : List Step) × IsStuckRunWithin long program steps × (run.after file ≡ Some (schedule_text steps))
+  pub others : (run : SessionRun) (p : Text) (out : Option Text) (path : List ℕ) → SessionEnds run → AskByPhases run.words p out
+      → out ≢ Some path → run.after path ≡ run.before path
+
+-- A run that cuts a program changes no file but those in the folder that is named.
+abbrev pub CutsStayInFolder : Type 0
+CutsStayInFolder =
+    (run : SessionRun) (p folder : Text) (path : List ℕ) → SessionEnds run → AskFor run.words (to_phases p folder)
+    → ((name : List ℕ) → path ≢ path_in folder name) → run.after path ≡ run.before path

@@ -1,0 +1,87 @@
+-- The pages of `phases`, `join` and `decide --phases`.
+use Rattle.std.specs.Prelude.{◌≡◌, ◌≢◌, ◌⊎◌, ℕ, Bool, false, List, ◌++◌, codes, decimal, Option, Some, Result, Ok, Err, slice_get, string_bytes}
+use Rattle.calltext.specs.Limits.{long}
+use Rattle.semantics.specs.Headline.{IsNeverStuckWithin}
+use Rattle.files.specs.Contents.{AreAll}
+use Rattle.deciding.specs.Decisions.{IsDecided}
+use Rattle.deciding.specs.declared.decision.Decision.{Decision}
+use Rattle.deciding.specs.declared.decision.Decision.TheVariants as decisions
+use Rattle.deciding.specs.declared.texts.Undecided.{Undecided}
+use Rattle.session.specs.Lines.{BeginsWith, IsLine, line_text}
+use Rattle.session.specs.Pages.{IsDecideFile, IsDecisionPage, IsProgram, IsScheduled, IsUnread}
+use Rattle.session.specs.declared.cut_files.Output.{Output}
+use Rattle.session.specs.declared.told.Told.TheVariants as told
+
+-- ---- what phases tell
+
+-- the line that tells that phases don't decide the program, and which of them lacks what
+abbrev pub IsLackingLine : Bool → List ℕ → ℕ → Type 0
+IsLackingLine json text status =
+    (words : List ℕ) × BeginsWith words (codes "unknown phases") × (text ≡ line_text json words 2) × (status ≡ 2)
+
+-- phases show that no run of the program gets stuck, and that is told; or what they lack is
+abbrev pub IsPhasesPage : Bool → List ℕ → List ℕ → ℕ → Type 0
+IsPhasesPage json program text status =
+    (IsNeverStuckWithin long program × IsLine told.NoDeadlock json text status) ⊎ IsLackingLine json text status
+
+-- one run's decision is told, and where messages may race what phases tell
+abbrev pub IsJoinDecision : Bool → List ℕ → Result Decision Undecided → List ℕ → ℕ → Type 0
+IsJoinDecision json program (Ok (decisions.Race race)) text status = IsPhasesPage json program text status
+IsJoinDecision json program (Ok decisions.NoDeadlock) text status = IsDecisionPage json program (Ok decisions.NoDeadlock) text status
+IsJoinDecision json program (Ok (decisions.Deadlock steps)) text status = IsDecisionPage json program (Ok (decisions.Deadlock steps)) text status
+IsJoinDecision json program (Err why) text status = IsDecisionPage json program (Err why) text status
+
+-- the page of `join`, and of `decide --phases`: so the program of the file is decided, and the
+-- schedule of a deadlock is written
+abbrev pub IsJoinedPage : Bool → (List ℕ → Option (List ℕ)) → (List ℕ → Option (List ℕ)) → List ℕ → Option (List ℕ) → Bool → List ℕ → ℕ → Type 0
+IsJoinedPage tells old new path out json text status =
+    (program : List ℕ) × (d : Result Decision Undecided) × AreAll (old path) program × IsDecided program d
+    × IsScheduled tells old new out d × IsJoinDecision json program d text status
+
+-- the path of a file in a folder
+abbrev pub path_in : List ℕ → List ℕ → List ℕ
+path_in folder name = folder ++ (codes "/" ++ name)
+
+-- the file that failed is one that can fail in `decide`; or it is told as its folder: it has the
+-- order of the phases, and no file has changed
+abbrev pub IsJoinFile : (List ℕ → Bool) → List ℕ → List ℕ → Option (List ℕ) → (List ℕ → Option (List ℕ)) → (List ℕ → Option (List ℕ)) → List ℕ → Type 0
+IsJoinFile reads program folder out old new path =
+    IsDecideFile reads program out old new path ⊎ ((path ≡ folder) × IsUnread reads (path_in folder (codes "phases")) × (new ≡ old))
+
+-- ---- cutting
+
+-- no file has changed but those in the folder
+abbrev pub ChangesWithin : List ℕ → (List ℕ → Option (List ℕ)) → (List ℕ → Option (List ℕ)) → Type 0
+ChangesWithin folder old new = (path : List ℕ) → ((name : List ℕ) → path ≢ path_in folder name) → new path ≡ old path
+
+-- each of these files is in the folder
+abbrev pub AreIn : List ℕ → List Output → Type 0
+AreIn folder outputs =
+    (place : ℕ) (output : Output) → slice_get outputs place ≡ Some output → (name : List ℕ) × (string_bytes output.path ≡ path_in folder name)
+
+-- the line that tells how many phases there are, how many of them differ, and how many of those have
+-- to be proved
+abbrev pub cut_line : ℕ → ℕ → ℕ → List ℕ
+cut_line phases different jobs =
+    codes "phases " ++ (decimal phases ++ (codes ", different " ++ (decimal different ++ (codes ", to prove " ++ (decimal jobs ++ codes "\n")))))
+
+abbrev pub IsCutLine : List ℕ → ℕ → Type 0
+IsCutLine text status = (phases different jobs : ℕ) × (text ≡ cut_line phases different jobs) × (status ≡ 0)
+
+-- one run's decision is told, and no file has changed; where messages may race, how the program is
+-- cut is told
+abbrev pub IsCutDecision : (List ℕ → Option (List ℕ)) → (List ℕ → Option (List ℕ)) → List ℕ → Result Decision Undecided → List ℕ → ℕ → Type 0
+IsCutDecision old new program (Ok (decisions.Race race)) text status = IsCutLine text status
+IsCutDecision old new program (Ok decisions.NoDeadlock) text status = (new ≡ old) × IsDecisionPage false program (Ok decisions.NoDeadlock) text status
+IsCutDecision old new program (Ok (decisions.Deadlock steps)) text status = (new ≡ old) × IsDecisionPage false program (Ok (decisions.Deadlock steps)) text status
+IsCutDecision old new program (Err why) text status = (new ≡ old) × IsDecisionPage false program (Err why) text status
+
+-- the page of `phases`: so the program of the file is cut
+abbrev pub IsCutPage : (List ℕ → Option (List ℕ)) → (List ℕ → Option (List ℕ)) → List ℕ → List ℕ → ℕ → Type 0
+IsCutPage old new path text status =
+    (program : List ℕ) × (d : Result Decision Undecided) × AreAll (old path) program × IsDecided program d × IsCutDecision old new program d text status
+
+-- the file that failed is the program's, and no file has changed; or it is told as the folder, and
+-- one there can't be written
+abbrev pub IsCutFile : (List ℕ → Bool) → List ℕ → List ℕ → (List ℕ → Option (List ℕ)) → (List ℕ → Option (List ℕ)) → List ℕ → Type 0
+IsCutFile reads program folder old new path = (IsProgram reads program path × (new ≡ old)) ⊎ (path ≡ folder)
