@@ -25,3 +25,4 @@ pub use laws::{
     unions_are_justified,
 };
 pub use order::issue_order;
+pub use rules::{knows, tells_return};

@@ -23,7 +23,8 @@ fn is_in(known: &[bool], call: usize) -> bool
     known.get(call).copied().unwrap_or(false)
 }
 
-/// Whether the finder is known to have found where the call is issued.
+/// Whether the finder is known to have found where the call is issued, by the column of the finder.
+/// Of a call behind the column's end nothing is known.
 pub fn knows(known: &[bool], finder: usize, call: usize) -> bool
     ensures { result ≡ column_table finder known.now call finder }
 {
@@ -118,8 +119,10 @@ fn tells_done(
     }
 }
 
-/// Whether the finder has found where the call has returned.
-fn tells_return(
+/// Whether the finder is known to have found where the call has returned, by the column of the
+/// finder and the list of partners: what a call waits for tells so, and its issue is no part of it.
+/// Of a call that isn't there nothing is known.
+pub fn tells_return(
     program: &LongProgram,
     partners: &[Option<usize>],
     known: &[bool],

@@ -1,0 +1,5 @@
+mod More
+mod Acts
+mod Numbered
+mod Counterparts
+mod Untold
