@@ -1,5 +1,5 @@
 mod More
 mod Acts
 mod Numbered
-mod Counterparts
+mod Pairs
 mod Untold
