@@ -2,3 +2,5 @@ pub mod Sealing
 pub mod Sure
 pub mod Loose
 pub mod Laws
+pub mod Sides
+pub mod Ends

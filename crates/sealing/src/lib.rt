@@ -5,10 +5,16 @@
 //! program's list, count from 0.
 #![tactic(auto)]
 
+mod asked;
+mod ends;
+mod finders;
+mod lasts;
 mod laws;
 mod loose;
+mod occurrences;
+mod partners;
+mod sides;
 
-pub use laws::{
-    finish_tells, no_loose_send_seals, one_sealed_phase_more, sure_partners_are_so,
-};
+pub use ends::loose_ends;
+pub use laws::{finish_tells, no_loose_send_seals, one_sealed_phase_more, sure_partners_are_so};
 pub use loose::Loose;
