@@ -79,7 +79,8 @@ pub fn codes_of(
     let mut codes = Vec::new(alloc);
     for place in members {
         if let Some(call) = program.call(*place) {
-            codes.push(call.rank as u64 * 2_147_483_648 + receive_distance(&call, *place))?;
+            let rank = call.rank as u64 * 2_147_483_648;
+            codes.push(rank.saturating_add(receive_distance(&call, *place)))?;
             codes.extend_from_slice(&kind_key(&call, *place))?;
         }
     }
