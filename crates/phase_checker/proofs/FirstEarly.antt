@@ -25,30 +25,29 @@ at_within xs i within = elim ((slice_get_cases xs i).1) [
 ]
 
 module _ (phases : List Phase) (order : List ℕ) (ends : List (Vec Loose)) (are_ends : AreEnds phases order ends) where
-  -- the list of a place with a later one
-  list_of : (place : ℕ) (phase : Phase) → IsAt phases order place phase → (early : IsEarly phases order place phase)
-      → (number : ℕ) × (list : Vec Loose) × (slice_get order place ≡ Some number) × (slice_get ends number ≡ Some list) × (index : ℕ) × (slice_get list.items index ≡ Some early.entry)
-  list_of place phase is early =
+  -- what stands for a send that comes too early
+  entry_of : (place : ℕ) (phase : Phase) (is : IsAt phases order place phase) (early : IsEarly phases order place phase)
+      → (list : Vec Loose) × (slice_get ends is.number ≡ Some list) × (index : ℕ) × (slice_get list.items index ≡ Some early.entry)
+  entry_of place phase is early =
       let past = slice_get_within order early.later early.is.number early.is.entry in
       let list = are_ends.each place is.number phase (omega (arith, past, early.behind)) is.entry is.there in
       let at = (list.2 early.entry).1 early.loose in
-      (is.number, list.0, is.entry, list.1, at.0, at.1)
+      (list.0, list.1, at.0, at.1)
 
   pub none_is_early : AreEmpty ends → IsFirstEarly phases order None
   none_is_early none = λ place phase is early.
-      let at = list_of place phase is early in
-      let inside = slice_get_within at.1.items at.4 early.entry at.5 in
-      omega (arith, inside, ap length (none at.0 at.1 at.3))
+      let at = entry_of place phase is early in
+      let inside = slice_get_within at.0.items at.2 early.entry at.3 in
+      omega (arith, inside, ap length (none is.number at.0 at.1))
 
   module _ (senders : Senders) (reaches : List ℕ) (are_senders : AreSenders phases order senders) (are_reaches : AreReaches senders ends reaches) where
     -- a place for whose phase a later one may send too early is before its reach
-    early_is_within : (place number : ℕ) (phase : Phase) → slice_get order place ≡ Some number → IsAt phases order place phase → IsEarly phases order place phase → place < get_or reaches number 0
-    early_is_within place number phase entry is early =
-        let at = list_of place phase is early in
-        let same : at.0 ≡ number = same_Some at.0 number (sym at.2 ∙ entry) in
-        let low = (are_reaches.each at.0 at.1 at.3).past at.4 early.entry at.5 in
+    early_is_within : (place : ℕ) (phase : Phase) (is : IsAt phases order place phase) → IsEarly phases order place phase → place < get_or reaches is.number 0
+    early_is_within place phase is early =
+        let at = entry_of place phase is early in
+        let low = (are_reaches.each is.number at.0 at.1).past at.2 early.entry at.3 in
         let high = are_senders.past early.entry early.later early.other early.is (loose_is_sent early.entry early.other.program early.sends) in
-        omega (arith, early.behind, low, high, ap (λ (z : ℕ). get_or reaches z 0) same)
+        omega (arith, early.behind, low, high)
 
     -- and no other one is
     within_is_early : (place number : ℕ) → slice_get order place ≡ Some number → place < get_or reaches number 0 → (phase : Phase) × IsAt phases order place phase × IsEarly phases order place phase
@@ -80,13 +79,13 @@ module _ (phases : List Phase) (order : List ℕ) (ends : List (Vec Loose)) (are
 
     pub first_is_early : (first : Option ℕ) → IsFirstWithin order reaches first → IsFirstEarly phases order first
     first_is_early None none = λ place phase is early.
-        let low = early_is_within place is.number phase is.entry is early in
+        let low = early_is_within place phase is early in
         let high = none place is.number is.entry in
         omega (arith, low, high)
     first_is_early (Some at) found = (
       within_is_early at found.0.0 found.0.1 found.0.2,
       λ place phase before is early.
-          let low = early_is_within place is.number phase is.entry is early in
+          let low = early_is_within place phase is early in
           let high = found.1 place is.number before is.entry in
           omega (arith, low, high),
     )

@@ -1,11 +1,12 @@
 -- Calls that are sends which a key stands for.
-use Rattle.std.proofs.Common.{◌≡◌, ◌⊎◌, ℕ, inl, inr, Bool, true, false, ◌||◌, ◌==◌, nat_eq, IsTrue, List, [], Option, Some, None, is_some, length, slice_get, refl, sym, ap, ◌∙◌, subst}
+use Rattle.std.proofs.Common.{◌≡◌, ◌⊎◌, ℕ, ◌+◌, ◌<◌, inl, inr, Bool, true, false, if◌then◌else◌, max, ◌||◌, ◌==◌, nat_eq, IsTrue, List, [], Option, Some, None, is_some, length, take, get_or, slice_get, refl, sym, ap, ◌∙◌, subst, arith}
 use Rattle.std.specs.List.{list_any}
 use Rattle.std.specs.Option.{option_eq}
 use Rattle.std.proofs.lemmas.Bool.{eqb-true, eq-eqb}
-use Rattle.std.proofs.lemmas.List.Folds.{Any-from_list_any, list_any-from_Any}
+use Rattle.std.proofs.lemmas.List.Folds.{Any-from_list_any, list_any-from_Any, list_any_more}
 use Rattle.std.proofs.lemmas.Option.{get_or_from_slice_get, slice_get_read, slice_get_within}
 use Rattle.calltext.proofs.Conjunctions.{and_true, and_both}
+use Rattle.callorder.specs.declared.calls.Call.{Call}
 use Rattle.callorder.specs.declared.calls.Message.{Message}
 use Rattle.callorder.specs.declared.calls.Pattern.{Pattern}
 use Rattle.callorder.specs.Calls.{message_of}
@@ -131,6 +132,20 @@ loose_is_sent key p s =
       get_or_from_slice_get p.calls s.place s.call s.call s.there,
       ap (is_message_of key s.call.rank) s.sends ∙ message_is_told key s.call.rank s.message s.source s.destination s.communicator s.tag,
     )
+
+-- ---- entries of a table of senders
+
+raised_again : (old now new place : ℕ) (a b : Bool) → now ≡ (if a then max old place else old) → new ≡ (if b then max now place else now) → new ≡ (if (a || b) then max old place else old)
+raised_again old now new place true true e f = omega (arith, e, f)
+raised_again old now new place true false e f = f ∙ e
+raised_again old now new place false b e f = f ∙ ap (λ (z : ℕ). if b then max z place else z) e
+
+-- the entry of a key after one more call
+pub raised_by_call : (calls : List Call) (index : ℕ) (d : Call) (key : Loose) (old now new place : ℕ) → index < length calls → now ≡ (if (list_any (is_sent key) (take index calls)) then max old place else old)
+    → new ≡ (if (is_sent key (get_or calls index d)) then max now place else now) → new ≡ (if (list_any (is_sent key) (take (index + 1) calls)) then max old place else old)
+raised_by_call calls index d key old now new place within e f =
+    raised_again old now new place (list_any (is_sent key) (take index calls)) (is_sent key (get_or calls index d)) e f
+    ∙ ap (λ (b : Bool). if b then max old place else old) (sym (list_any_more (is_sent key) calls index d within))
 
 -- ---- phases that name their sources
 

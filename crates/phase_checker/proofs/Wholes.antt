@@ -19,7 +19,6 @@ use Rattle.phases.proofs.Joined.{joined_is_cut}
 use Rattle.phases.proofs.Parts.{message_moved}
 use Rattle.phases.proofs.Rests.{empty_is_never_stuck, front_is_joined, last_phase}
 use Rattle.sealing.specs.declared.loose.Loose.{Loose}
-use Rattle.sealing.specs.Laws.{OneSealedPhaseMore, NoLooseSendSeals}
 use Rattle.sealing.specs.Loose.{IsLooseSend}
 use Rattle.sealing.proofs.Sealed.{one_sealed_phase_more}
 use Rattle.sealing.proofs.Seals.{no_loose_send_seals}
@@ -82,51 +81,50 @@ sends_of_phases phases (number ∷ order) p left entry is_p (rest, taken, dealt)
 
 -- ---- runs
 
-module _ (one_more : OneSealedPhaseMore) (seals : NoLooseSendSeals) where
-  keep_later : (phases : List Phase) (number : ℕ) (order : List ℕ) → Keep phases (number ∷ order) → Keep phases order
-  keep_later phases number order keep at phase below more is =
-      let whole = keep (suc at) phase (omega (arith, below)) (omega (arith, more)) (later_at phases number order at phase is) in
-      record {
-        late = λ early. whole.late (record {
-          entry = early.entry;
-          loose = early.loose;
-          later = suc early.later;
-          behind = omega (arith, early.behind);
-          other = early.other;
-          is = later_at phases number order early.later early.other early.is;
-          sends = early.sends;
-        });
-        even = whole.even;
-      }
+keep_later : (phases : List Phase) (number : ℕ) (order : List ℕ) → Keep phases (number ∷ order) → Keep phases order
+keep_later phases number order keep at phase below more is =
+    let whole = keep (suc at) phase (omega (arith, below)) (omega (arith, more)) (later_at phases number order at phase is) in
+    record {
+      late = λ early. whole.late (record {
+        entry = early.entry;
+        loose = early.loose;
+        later = suc early.later;
+        behind = omega (arith, early.behind);
+        other = early.other;
+        is = later_at phases number order early.later early.other early.is;
+        sends = early.sends;
+      });
+      even = whole.even;
+    }
 
-  made_up : (phases : List Phase) (order : List ℕ) (p left : MpiProgram) → IsWellFormed p → Dealt phases p order left → Keep phases order → left.calls ≡ [] → NoStuckRun p
-  made_up phases [] p left is_p e keep none = empty_is_never_stuck p (ap (λ (z : MpiProgram). z.calls) e ∙ none)
-  made_up phases (number ∷ []) p left is_p (rest, taken, e) keep none =
-      let nothing : (behind p taken.phase.program).calls ≡ [] = ap (λ (z : MpiProgram). z.calls) (sym taken.left ∙ e) ∙ none in
-      with_program taken.phase p (λ is_d. last_phase p taken.phase.program is_p is_d taken.front nothing taken.phase.never)
-  made_up phases (number ∷ second ∷ others) p left is_p (rest, taken, dealt) keep none =
-      with_program taken.phase p
-      (λ is_d.
-      let d = taken.phase.program in
-      let j = front_is_joined p d is_p is_d taken.front in
-      let keeps = keep 0 taken.phase (omega arith) (omega arith) (record { number = number; entry = refl; there = taken.there }) in
-      let is_rest = subst IsWellFormed (sym taken.left) j.1 in
-      let never : NoStuckRun rest = made_up phases (second ∷ others) rest left is_rest dealt (keep_later phases number (second ∷ others) keep) none in
-      let sealed =
-      seals d (behind p d) is_d j.1 (j.0.ranks_second ∙ sym j.0.ranks_first)
-      (λ entry loose sends.
-      sends_of_phases phases (second ∷ others) rest left entry is_rest dealt none
-      (λ later other is s. keeps.late (record {
-        entry = entry;
-        loose = loose;
-        later = suc later;
-        behind = omega arith;
-        other = other;
-        is = later_at phases number (second ∷ others) later other is;
-        sends = s;
-      }))
-      (subst (IsLooseSend entry) (sym taken.left) sends)) in
-      one_more p d is_p is_d taken.front taken.phase.never keeps.even sealed (subst NoStuckRun taken.left never))
+made_up : (phases : List Phase) (order : List ℕ) (p left : MpiProgram) → IsWellFormed p → Dealt phases p order left → Keep phases order → left.calls ≡ [] → NoStuckRun p
+made_up phases [] p left is_p e keep none = empty_is_never_stuck p (ap (λ (z : MpiProgram). z.calls) e ∙ none)
+made_up phases (number ∷ []) p left is_p (rest, taken, e) keep none =
+    let nothing : (behind p taken.phase.program).calls ≡ [] = ap (λ (z : MpiProgram). z.calls) (sym taken.left ∙ e) ∙ none in
+    with_program taken.phase p (λ is_d. last_phase p taken.phase.program is_p is_d taken.front nothing taken.phase.never)
+made_up phases (number ∷ second ∷ others) p left is_p (rest, taken, dealt) keep none =
+    with_program taken.phase p
+    (λ is_d.
+    let d = taken.phase.program in
+    let j = front_is_joined p d is_p is_d taken.front in
+    let keeps = keep 0 taken.phase (omega arith) (omega arith) (record { number = number; entry = refl; there = taken.there }) in
+    let is_rest = subst IsWellFormed (sym taken.left) j.1 in
+    let never : NoStuckRun rest = made_up phases (second ∷ others) rest left is_rest dealt (keep_later phases number (second ∷ others) keep) none in
+    let sealed =
+    no_loose_send_seals d (behind p d) is_d j.1 (j.0.ranks_second ∙ sym j.0.ranks_first)
+    (λ entry loose sends.
+    sends_of_phases phases (second ∷ others) rest left entry is_rest dealt none
+    (λ later other is s. keeps.late (record {
+      entry = entry;
+      loose = loose;
+      later = suc later;
+      behind = omega arith;
+      other = other;
+      is = later_at phases number (second ∷ others) later other is;
+      sends = s;
+    }))
+    (subst (IsLooseSend entry) (sym taken.left) sends)) in
+    one_sealed_phase_more p d is_p is_d taken.front taken.phase.never keeps.even sealed (subst NoStuckRun taken.left never))
 
 is_program : (text : List ℕ) (p : MpiProgram) → IsTextOfWithin long text p → IsWellFormed p
 is_program text p of =
@@ -140,7 +138,7 @@ joined_are_never_stuck text phases order joined =
     record {
       p = joined.p;
       text = joined.is_text;
-      never = made_up one_sealed_phase_more no_loose_send_seals phases order joined.p joined.left (is_program text joined.p joined.is_text) dealt joined.all.keep joined.nothing;
+      never = made_up phases order joined.p joined.left (is_program text joined.p joined.is_text) dealt joined.all.keep joined.nothing;
     }
 
 -- ---- texts of checked programs
