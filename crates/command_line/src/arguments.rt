@@ -248,9 +248,12 @@ pub fn phases<'a>(alloc: Global) -> Arg<'a>
 pub fn phases_folder<'a>(alloc: Global) -> Arg<'a>
     ensures { IsRuled result proof_rule }
 {
-    written(alloc, "Write the phases to this folder, which has to be there")
-        .value_name("FOLDER")
-        .required(true)
+    written(
+        alloc,
+        "Write the phases to this folder, which has to be there",
+    )
+    .value_name("FOLDER")
+    .required(true)
 }
 
 pub fn folder<'a>(alloc: Global) -> Arg<'a>

@@ -5,13 +5,14 @@ ghost use Rattle.clap.specs.Words.{App, Rule, new_app, with_rule, with_subcomman
 ghost use Rattle.command_line.specs.CommandLine.{IsRuled, IsShaped, check_app, command_line, decide_app, encode_app, explain_app, export_app, join_app, phases_app, prove_app, replay_app, shrink_app, trim_app, unroll_app, version_line, with_search, with_unrolling};
 
 use crate::arguments::{
-    all, budget, chart, collectives, depth, dimacs, dot, evidence, html, json, lines, map, object,
-    folder, optional_evidence, out, phases, phases_folder, pieces, program, programs, progress, proof, ranks, schedule, set,
-    several_ranks, smaller, spmd, stages, svg, trimmed, unrolled, workers, written_map,
+    all, budget, chart, collectives, depth, dimacs, dot, evidence, folder, html, json, lines, map,
+    object, optional_evidence, out, phases, phases_folder, pieces, program, programs, progress,
+    proof, ranks, schedule, set, several_ranks, smaller, spmd, stages, svg, trimmed, unrolled,
+    workers, written_map,
 };
 use crate::help_ends::{
-    CHECK_END, DECIDE_END, ENCODE_END, EXPLAIN_END, EXPORT_END, HELP_END, JOIN_END, PHASES_END, PROVE_END, REPLAY_END,
-    SHRINK_END, TRIM_END, UNROLL_END,
+    CHECK_END, DECIDE_END, ENCODE_END, EXPLAIN_END, EXPORT_END, HELP_END, JOIN_END, PHASES_END,
+    PROVE_END, REPLAY_END, SHRINK_END, TRIM_END, UNROLL_END,
 };
 use clap::Arg;
 use clap::builder::Command;

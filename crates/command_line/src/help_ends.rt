@@ -130,7 +130,8 @@ pub const PHASES_END: &str = ending!(
   mpiprove join program.mpi phases",
     "
   0  the phases are written: 0001.mpi and so on, their order to phases, and to jobs the paths of
-     those that have to be proved
+     those that have to be proved; or no deadlock, and nothing is written
+  1  deadlock: some run of the program gets stuck, and nothing is written
   3  refused: the program, with the reason"
 );
 

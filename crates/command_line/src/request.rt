@@ -6,8 +6,8 @@ ghost use Rattle.command_line.specs.CommandLine.{command_line};
 ghost use Rattle.command_line.specs.Requests.{AskFor, Flags, Makes, MakesSome, Reads, form_in, is_beside_ranks, is_beside_several, is_several, is_spmd_asked, is_true, path_of, settings_in, task_of, texts_in};
 
 use crate::arguments::{
-    ALL, BUDGET, CHART, COLLECTIVES, DEPTH, DIMACS, DOT, EVIDENCE, FOLDER, HTML, JSON, LINES, MAP, OUT,
-    PHASES, PIECES, PROGRAM, PROGRESS, RANKS, SET, SVG, WORKERS,
+    ALL, BUDGET, CHART, COLLECTIVES, DEPTH, DIMACS, DOT, EVIDENCE, FOLDER, HTML, JSON, LINES, MAP,
+    OUT, PHASES, PIECES, PROGRAM, PROGRESS, RANKS, SET, SVG, WORKERS,
 };
 use crate::commands::command;
 use clap::error::ErrorKind;

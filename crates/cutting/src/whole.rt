@@ -1,13 +1,13 @@
 //! From a program to its phases.
 
 use crate::clocks::{Known, seal_all};
-use crate::strong::components;
 use crate::finders::{Columns, waits_of};
 use crate::graph::Graph;
 use crate::keys::{codes_of, numbers_of, part};
 use crate::lists::{at, put};
 use crate::printing::text_of;
 use crate::routes::Wildcards;
+use crate::strong::components;
 use crate::tying::{partner, partners_of, tie_all};
 use callorder::{Kind, LongProgram};
 use leastrun::least_buffered_run;
@@ -23,7 +23,10 @@ pub struct Phases {
 }
 
 /// The graph of what phases need.
-fn graph_of(alloc: Global, program: &LongProgram) -> Result<(Graph, Vec<Option<usize>>), AllocError> {
+fn graph_of(
+    alloc: Global,
+    program: &LongProgram,
+) -> Result<(Graph, Vec<Option<usize>>), AllocError> {
     let (run, _state) = least_buffered_run(alloc, program)?;
     let waits = waits_of(alloc, program)?;
     let columns = Columns::of(alloc, program, &waits)?;
@@ -70,7 +73,10 @@ fn phases_of(alloc: Global, program: &LongProgram) -> Result<Vec<usize>, AllocEr
 fn by_phase(alloc: Global, phases: &[usize]) -> Result<(Vec<usize>, Vec<usize>), AllocError> {
     let mut count = 0;
     for place in 0..phases.len() {
-        count = at(phases, place).saturating_add(1).min(phases.len()).max(count);
+        count = at(phases, place)
+            .saturating_add(1)
+            .min(phases.len())
+            .max(count);
     }
     let mut starts = vec![in alloc; 0; count.saturating_add(2)]?;
     for place in 0..phases.len() {

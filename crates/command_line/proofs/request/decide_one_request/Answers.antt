@@ -44,7 +44,7 @@ pub decide_phases_request-requires-clause-text : goal.decide_phases_request-requ
 decide_phases_request-requires-clause-text c =
     let m = c.args.matches.now in
     sym (c.is_spmd_asked.ensures (rows_of (found_of m)) (given_by_rows m (codes "ranks") c.get_str-ranks.result c.get_str-ranks.ensures) (ap (map (λ (s : Bor (List ℕ)). s.now)) c.deref.ensures.value ∙ c.in_ok-settings.ensures)
-        (given_by_rows m (codes "collectives") c.get_str-collectives.result c.get_str-collectives.ensures)) ∙ c.if-is_spmd_asked.false
+    (given_by_rows m (codes "collectives") c.get_str-collectives.result c.get_str-collectives.ensures)) ∙ c.if-is_spmd_asked.false
 
 pub decide_phases_request-requires-clause-program : goal.decide_phases_request-requires-clause-program
 decide_phases_request-requires-clause-program c =
