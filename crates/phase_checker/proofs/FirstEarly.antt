@@ -14,8 +14,8 @@ use Rattle.phase_checker.specs.Senders.{place_of}
 use Rattle.phase_checker.proofs.Sent.{loose_is_sent, sent_is_loose}
 
 -- what stands in a list stands in each one that is there in its place
-in_own : (ends : List (Vec Loose)) (number index : ℕ) (list own : Vec Loose) (entry : Loose) → slice_get ends number ≡ Some list → slice_get ends number ≡ Some own
-    → slice_get list.items index ≡ Some entry → slice_get own.items index ≡ Some entry
+in_own : (ends : List (Vec Loose)) (number index : ℕ) (list own : Vec Loose) (entry : Loose) → slice_get ends number ≡ Some list
+    → slice_get ends number ≡ Some own → slice_get list.items index ≡ Some entry → slice_get own.items index ≡ Some entry
 in_own ends number index list own entry a b there = ap (λ (z : Vec Loose). slice_get z.items index) (same_Some own list (sym b ∙ a)) ∙ there
 
 at_within : {X : Type 0} (xs : List X) (i : ℕ) → i < length xs → (x : X) × (slice_get xs i ≡ Some x)
@@ -50,7 +50,8 @@ module _ (phases : List Phase) (order : List ℕ) (ends : List (Vec Loose)) (are
         omega (arith, early.behind, low, high)
 
     -- and no other one is
-    within_is_early : (place number : ℕ) → slice_get order place ≡ Some number → place < get_or reaches number 0 → (phase : Phase) × IsAt phases order place phase × IsEarly phases order place phase
+    within_is_early : (place number : ℕ) → slice_get order place ≡ Some number → place < get_or reaches number 0
+        → (phase : Phase) × IsAt phases order place phase × IsEarly phases order place phase
     within_is_early place number entry within = elim (cases_lt number (length reaches)) [
       | inl inside ↦ found (at_within phases number (omega (arith, inside, are_reaches.size, are_ends.size)))
       | inr past ↦ absurd (omega (arith, within, get_or_past reaches number 0 past))

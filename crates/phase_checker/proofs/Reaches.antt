@@ -20,31 +20,36 @@ pub record AreReachesTo (senders : Senders) (ends : List (Vec Loose)) (reaches :
   pub size : length reaches ≡ count
   pub each : (number : ℕ) (list : Vec Loose) → number < count → slice_get ends number ≡ Some list → IsReach senders list.items (get_or reaches number 0)
 
-pub reaches_more : (senders : Senders) (ends : List (Vec Loose)) (reaches : List ℕ) (count reach : ℕ) (item : Vec Loose) → AreReachesTo senders ends reaches count → count < length ends
-    → item ≡ get_or ends count item → IsReach senders item.items reach → AreReachesTo senders ends (reaches ++ reach ∷ []) (count + 1)
+pub reaches_more : (senders : Senders) (ends : List (Vec Loose)) (reaches : List ℕ) (count reach : ℕ) (item : Vec Loose) → AreReachesTo senders ends reaches count
+    → count < length ends → item ≡ get_or ends count item → IsReach senders item.items reach → AreReachesTo senders ends (reaches ++ reach ∷ []) (count + 1)
 reaches_more senders ends reaches count reach item so_far within is reaches_it = record {
   size = omega (arith, length-append reaches (reach ∷ []), so_far.size);
   each = λ number list low there. elim (cases_lt number count) [
     | inl before ↦
-        let same : get_or (reaches ++ reach ∷ []) number 0 ≡ get_or reaches number 0 = get_or_append_left reaches (reach ∷ []) 0 number (omega (arith, before, so_far.size)) in
+        let same = get_or_append_left reaches (reach ∷ []) 0 number (omega (arith, before, so_far.size)) in
         subst (IsReach senders list.items) (sym same) (so_far.each number list before there)
     | inr from ↦
         let e : number ≡ length reaches = omega (arith, low, from, so_far.size) in
-        let last : get_or (reaches ++ reach ∷ []) number 0 ≡ reach = ap (λ (z : ℕ). get_or (reaches ++ reach ∷ []) z 0) e ∙ get_or-append_seam reaches reach [] 0 in
+        let last = ap (λ (z : ℕ). get_or (reaches ++ reach ∷ []) z 0) e ∙ get_or-append_seam reaches reach [] 0 in
         let here = slice_get_read ends (length ends) count item refl within is in
         let same : item ≡ list = same_Some item list (sym here ∙ ap (slice_get ends) (sym so_far.size ∙ sym e) ∙ there) in
         subst (IsReach senders list.items) (sym last) (subst (λ (z : Vec Loose). IsReach senders z.items reach) same reaches_it)
   ];
 }
 
-pub reaches_done : (senders : Senders) (ends : List (Vec Loose)) (reaches : List ℕ) (count : ℕ) → AreReachesTo senders ends reaches count → count ≡ length ends → AreReaches senders ends reaches
-reaches_done senders ends reaches count so_far all = record { size = so_far.size ∙ all; each = λ number list there. so_far.each number list (omega (arith, all, slice_get_within ends number list there)) there }
+pub reaches_done : (senders : Senders) (ends : List (Vec Loose)) (reaches : List ℕ) (count : ℕ) → AreReachesTo senders ends reaches count → count ≡ length ends
+    → AreReaches senders ends reaches
+reaches_done senders ends reaches count so_far all = record {
+  size = so_far.size ∙ all;
+  each = λ number list there. so_far.each number list (omega (arith, all, slice_get_within ends number list there)) there;
+}
 
 -- nothing is in the lists before this index
 abbrev pub AreEmptyTo : List (Vec Loose) → ℕ → Type 0
 AreEmptyTo ends index = (number : ℕ) (list : Vec Loose) → number < index → slice_get ends number ≡ Some list → list.items ≡ []
 
-pub empty_so_far : (ends : List (Vec Loose)) (index : ℕ) (item : Vec Loose) → AreEmptyTo ends index → index < length ends → item ≡ get_or ends index item → item.items ≡ [] → AreEmptyTo ends (index + 1)
+pub empty_so_far : (ends : List (Vec Loose)) (index : ℕ) (item : Vec Loose) → AreEmptyTo ends index → index < length ends → item ≡ get_or ends index item → item.items ≡ []
+    → AreEmptyTo ends (index + 1)
 empty_so_far ends index item so_far within is none number list low there = elim (cases_lt number index) [
   | inl before ↦ so_far number list before there
   | inr from ↦

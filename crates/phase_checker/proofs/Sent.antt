@@ -47,7 +47,8 @@ same_key a b e =
 key_same : (a : Loose) → is_same a a ≡ true
 key_same a =
     and_both (a.source == a.source) _ (eq-eqb a.source a.source refl)
-    (and_both (a.destination == a.destination) _ (eq-eqb a.destination a.destination refl) (and_both (a.communicator == a.communicator) _ (eq-eqb a.communicator a.communicator refl) (tag_same a.tag)))
+    (and_both (a.destination == a.destination) _ (eq-eqb a.destination a.destination refl)
+    (and_both (a.communicator == a.communicator) _ (eq-eqb a.communicator a.communicator refl) (tag_same a.tag)))
 
 -- ---- sends
 
@@ -97,8 +98,8 @@ message_told key rank (Some m) e = elim (or_true (is_same (key_of rank m None) k
       }
 ]
 
-message_is_told : (key : Loose) (rank : ℕ) (m : Message) → rank ≡ key.source → m.destination ≡ key.destination → m.communicator ≡ key.communicator → (key.tag ≡ None) ⊎ (key.tag ≡ Some m.tag)
-    → is_message_of key rank (Some m) ≡ true
+message_is_told : (key : Loose) (rank : ℕ) (m : Message) → rank ≡ key.source → m.destination ≡ key.destination → m.communicator ≡ key.communicator
+    → (key.tag ≡ None) ⊎ (key.tag ≡ Some m.tag) → is_message_of key rank (Some m) ≡ true
 message_is_told key rank m s d k (inl any) =
     or_left (is_same (key_of rank m None) key) _
     (ap (λ (z : Loose). is_same z key) (four_parts (key_of rank m None) key s d k (sym any)) ∙ key_same key)
@@ -135,30 +136,38 @@ loose_is_sent key p s =
 
 -- ---- entries of a table of senders
 
-raised_again : (old now new place : ℕ) (a b : Bool) → now ≡ (if a then max old place else old) → new ≡ (if b then max now place else now) → new ≡ (if (a || b) then max old place else old)
+-- an entry where something is sent at this place, or not
+abbrev pub raised : Bool → ℕ → ℕ → ℕ
+raised sends old place = if sends then max old place else old
+
+raised_again : (old now new place : ℕ) (a b : Bool) → now ≡ raised a old place → new ≡ raised b now place → new ≡ raised (a || b) old place
 raised_again old now new place true true e f = omega (arith, e, f)
 raised_again old now new place true false e f = f ∙ e
-raised_again old now new place false b e f = f ∙ ap (λ (z : ℕ). if b then max z place else z) e
+raised_again old now new place false b e f = f ∙ ap (λ (z : ℕ). raised b z place) e
 
 -- the entry of a key after one more call
-pub raised_by_call : (calls : List Call) (index : ℕ) (d : Call) (key : Loose) (old now new place : ℕ) → index < length calls → now ≡ (if (list_any (is_sent key) (take index calls)) then max old place else old)
-    → new ≡ (if (is_sent key (get_or calls index d)) then max now place else now) → new ≡ (if (list_any (is_sent key) (take (index + 1) calls)) then max old place else old)
+pub raised_by_call : (calls : List Call) (index : ℕ) (d : Call) (key : Loose) (old now new place : ℕ) → index < length calls
+    → now ≡ raised (list_any (is_sent key) (take index calls)) old place → new ≡ raised (is_sent key (get_or calls index d)) now place
+    → new ≡ raised (list_any (is_sent key) (take (index + 1) calls)) old place
 raised_by_call calls index d key old now new place within e f =
     raised_again old now new place (list_any (is_sent key) (take index calls)) (is_sent key (get_or calls index d)) e f
-    ∙ ap (λ (b : Bool). if b then max old place else old) (sym (list_any_more (is_sent key) calls index d within))
+    ∙ ap (λ (b : Bool). raised b old place) (sym (list_any_more (is_sent key) calls index d within))
 
 -- ---- phases that name their sources
 
 unnamed : (p : MpiProgram) (entry : Loose) → NamesSources p → IsLoose p entry → ⊥
 unnamed p entry names loose =
     let finder = loose.is_finder in
-    let named : IsTrue (is_some loose.pattern.source) = subst (λ (z : Option Pattern). IsTrue (names_source z)) finder.finds (names loose.f loose.finder finder.there) in
+    let names_it = names loose.f loose.finder finder.there in
+    let named : IsTrue (is_some loose.pattern.source) = subst (λ (z : Option Pattern). IsTrue (names_source z)) finder.finds names_it in
     let never : IsTrue false = subst (λ (z : Option ℕ). IsTrue (is_some z)) finder.any named in
     cc
 
 -- nothing could be sent too early to a program that names its sources
 pub named_has_none : (p : MpiProgram) (list : List Loose) → NamesSources p → list ≡ [] → AreLoose p list
 named_has_none p list names none entry = (
-  λ (at : (place : ℕ) × (slice_get list place ≡ Some entry)). let never : None ≡ Some entry = ap (λ (z : List Loose). slice_get z at.0) (sym none) ∙ at.1 in absurd (cc),
+  λ (at : (place : ℕ) × (slice_get list place ≡ Some entry)).
+      let never : None ≡ Some entry = ap (λ (z : List Loose). slice_get z at.0) (sym none) ∙ at.1 in
+      absurd (cc),
   λ (loose : IsLoose p entry). absurd (unnamed p entry names loose),
 )

@@ -25,7 +25,7 @@ pub last_done : (count : ℕ) (order : List ℕ) (last : List (Option ℕ)) (pla
 last_done count order last place so_far all =
     record { size = so_far.size; stands = so_far.stands; past = λ other number there. so_far.past other number (omega (arith, all, slice_get_within order other number there)) there }
 
-module _ (count : ℕ) (order : List ℕ) (last : List (Option ℕ)) (place number : ℕ) (so_far : IsLastTo count order last place) (here : slice_get order place ≡ Some number) where
+module _ (count : ℕ) (order : List ℕ) (last : List (Option ℕ)) (place : ℕ) (so_far : IsLastTo count order last place) (number : ℕ) (here : slice_get order place ≡ Some number) where
   pub last_put : number < count → IsLastTo count order (set last number (Some place)) (place + 1)
   last_put within = record { size = length-set last number (Some place) ∙ so_far.size; stands = stands; past = past }
     where
@@ -68,8 +68,10 @@ module _ (count : ℕ) (order : List ℕ) (last : List (Option ℕ)) (place numb
   }
 
 -- what was read at a number
-pub read_at : (count : ℕ) (order : List ℕ) (last : List (Option ℕ)) (number : ℕ) (x : Option ℕ) → AreLast count order last → number < count → x ≡ get_or last number x → get_or last number None ≡ x
-read_at count order last number x are within is = get_or_from_slice_get last number x None (slice_get_read last (length last) number x refl (omega (arith, within, are.size)) is)
+pub read_at : (count : ℕ) (order : List ℕ) (last : List (Option ℕ)) (number : ℕ) (x : Option ℕ) → AreLast count order last → number < count
+    → x ≡ get_or last number x → get_or last number None ≡ x
+read_at count order last number x are within is =
+    get_or_from_slice_get last number x None (slice_get_read last (length last) number x refl (omega (arith, within, are.size)) is)
 
 -- ---- loose ends
 
@@ -79,85 +81,95 @@ pub record IsEndsTo (phases : List Phase) (followed : List (Option ℕ)) (ends :
   pub each : (number at : ℕ) (phase : Phase) → number < count → slice_get phases number ≡ Some phase → get_or followed number None ≡ Some at
       → (list : Vec Loose) × (slice_get ends number ≡ Some list) × AreLoose phase.program list.items
 
-pub ends_more : (phases : List Phase) (followed : List (Option ℕ)) (ends : List (Vec Loose)) (count : ℕ) (phase : Phase) (list : Vec Loose) → IsEndsTo phases followed ends count
-    → slice_get phases count ≡ Some phase → (x : Option ℕ) → get_or followed count None ≡ x → IfSome x (λ at. AreLoose phase.program list.items) → IsEndsTo phases followed (ends ++ list ∷ []) (count + 1)
-ends_more phases followed ends count phase list so_far here x x_is loose = record {
-  size = omega (arith, length-append ends (list ∷ []), so_far.size);
-  each = λ number at other low there at_is. elim (cases_lt number count) [
-    | inl before ↦ let old = so_far.each number at other before there at_is in (old.0, pushed_front ends list old.0 number old.1, old.2)
-    | inr from ↦
-        let e : number ≡ count = omega (arith, low, from) in
-        let same : phase ≡ other = same_Some phase other (sym here ∙ ap (slice_get phases) (sym e) ∙ there) in (
-          list,
-          pushed_last ends list number (e ∙ sym so_far.size),
-          subst (λ (z : Phase). AreLoose z.program list.items) same (subst (λ (z : Option ℕ). IfSome z (λ place. AreLoose phase.program list.items)) (sym x_is ∙ ap (λ (z : ℕ). get_or followed z None) (sym e) ∙ at_is) loose),
-        )
-  ];
-}
+-- what could be sent too early to the phase, where others follow it
+abbrev pub AreEndsOf : Phase → List Loose → Option ℕ → Type 0
+AreEndsOf phase list followed = IfSome followed (λ place. AreLoose phase.program list)
 
-pub ends_done : (phases : List Phase) (order earlier : List ℕ) (followed : List (Option ℕ)) (ends : List (Vec Loose)) (count : ℕ) → earlier ≡ take (length order - 1) order
-    → AreLast (length phases) earlier followed → IsEndsTo phases followed ends count → count ≡ length phases → AreEnds phases order ends
-ends_done phases order earlier followed ends count cut last so_far all = record {
-  size = so_far.size ∙ all;
-  each = λ place number phase more entry there.
-      let within = slice_get_within phases number phase there in
-      let old = last.past place number (before place number more entry) within in
-      so_far.each number old.0 phase (omega (arith, within, all)) there old.1;
-}
-  where
-    before : (place number : ℕ) → place + 1 < length order → slice_get order place ≡ Some number → slice_get earlier place ≡ Some number
-    before place number more entry =
-        let size = length-take-le (length order - 1) order (omega arith) in
-        let stands : slice_get (take (length order - 1) order) place ≡ Some number =
-        slice_get-get_or (take (length order - 1) order) place 0 (omega (arith, size, more)) ∙ ap (λ (z : ℕ). Some z) (get_or-take (length order - 1) order place 0 (omega (arith, more)) ∙ get_or_from_slice_get order place number 0 entry) in
-        ap (λ (z : List ℕ). slice_get z place) cut ∙ stands
+module _ (phases : List Phase) (followed : List (Option ℕ)) (ends : List (Vec Loose)) (count : ℕ) (so_far : IsEndsTo phases followed ends count) where
+  pub ends_more : (phase : Phase) (list : Vec Loose) (x : Option ℕ) → slice_get phases count ≡ Some phase → get_or followed count None ≡ x → AreEndsOf phase list.items x
+      → IsEndsTo phases followed (ends ++ list ∷ []) (count + 1)
+  ends_more phase list x here x_is loose = record {
+    size = omega (arith, length-append ends (list ∷ []), so_far.size);
+    each = λ number at other low there at_is. elim (cases_lt number count) [
+      | inl before ↦ let old = so_far.each number at other before there at_is in (old.0, pushed_front ends list old.0 number old.1, old.2)
+      | inr from ↦
+          let e : number ≡ count = omega (arith, low, from) in
+          let same : phase ≡ other = same_Some phase other (sym here ∙ ap (slice_get phases) (sym e) ∙ there) in
+          let some : x ≡ Some at = sym x_is ∙ ap (λ (z : ℕ). get_or followed z None) (sym e) ∙ at_is in
+          let own : AreLoose phase.program list.items = subst (AreEndsOf phase list.items) some loose in
+          (list, pushed_last ends list number (e ∙ sym so_far.size), subst (λ (z : Phase). AreLoose z.program list.items) same own)
+    ];
+  }
+
+  pub ends_done : (order earlier : List ℕ) → earlier ≡ take (length order - 1) order → AreLast (length phases) earlier followed → count ≡ length phases → AreEnds phases order ends
+  ends_done order earlier cut last all = record {
+    size = so_far.size ∙ all;
+    each = λ place number phase more entry there.
+        let within = slice_get_within phases number phase there in
+        let old = last.past place number (before place number more entry) within in
+        so_far.each number old.0 phase (omega (arith, within, all)) there old.1;
+  }
+    where
+      before : (place number : ℕ) → place + 1 < length order → slice_get order place ≡ Some number → slice_get earlier place ≡ Some number
+      before place number more entry =
+          let front = take (length order - 1) order in
+          let size = length-take-le (length order - 1) order (omega arith) in
+          let is : get_or front place 0 ≡ number = get_or-take (length order - 1) order place 0 (omega (arith, more)) ∙ get_or_from_slice_get order place number 0 entry in
+          let stands : slice_get front place ≡ Some number = slice_get-get_or front place 0 (omega (arith, size, more)) ∙ ap (λ (z : ℕ). Some z) is in
+          ap (λ (z : List ℕ). slice_get z place) cut ∙ stands
 
 -- ---- senders
 
+-- the phase has a send that the key stands for
+abbrev pub Sends : Loose → Phase → Type 0
+Sends key phase = list_any (is_sent key) phase.program.calls ≡ true
+
+-- a phase that has one and stands last at this place
+abbrev pub IsSentLast : List Phase → List (Option ℕ) → Loose → ℕ → Type 0
+IsSentLast phases last key place = (number : ℕ) × (phase : Phase) × (slice_get phases number ≡ Some phase) × (get_or last number None ≡ Some place) × Sends key phase
+
 -- what the phases before this number send, and how late
 pub record IsSendersTo (phases : List Phase) (last : List (Option ℕ)) (senders : Senders) (count : ℕ) : Type 0 where
-  pub sent : (key : Loose) → 0 < place_of senders key
-      → (number : ℕ) × (phase : Phase) × (slice_get phases number ≡ Some phase) × (get_or last number None ≡ Some (place_of senders key)) × (list_any (is_sent key) phase.program.calls ≡ true)
-  pub past : (key : Loose) (number place : ℕ) (phase : Phase) → number < count → slice_get phases number ≡ Some phase → get_or last number None ≡ Some place
-      → list_any (is_sent key) phase.program.calls ≡ true → place ≤ place_of senders key
+  pub sent : (key : Loose) → 0 < place_of senders key → IsSentLast phases last key (place_of senders key)
+  pub past : (key : Loose) (number place : ℕ) (phase : Phase) → number < count → slice_get phases number ≡ Some phase → get_or last number None ≡ Some place → Sends key phase
+      → place ≤ place_of senders key
 
 -- The entry of a key when a phase is put at a place, which sends what the key stands for where the
 -- test says so: it is the place or the old entry, and no less than either.
 abbrev IsEntry : ℕ → ℕ → ℕ → Bool → Type 0
 IsEntry old place new sends = (((sends ≡ true) × (new ≡ place)) ⊎ (new ≡ old)) × (old ≤ new) × (sends ≡ true → place ≤ new)
 
-module _ (phases : List Phase) (last : List (Option ℕ)) (senders : Senders) (count : ℕ) (phase : Phase) (so_far : IsSendersTo phases last senders count) (here : slice_get phases count ≡ Some phase) where
-  pub senders_more : (more : Senders) (place : ℕ) → get_or last count None ≡ Some place → IsRaised (λ key. list_any (is_sent key) phase.program.calls) place senders more → IsSendersTo phases last more (count + 1)
-  senders_more more place at raised = record { sent = sent; past = past }
-    where
-      entry : (key : Loose) (b : Bool) → place_of more key ≡ (if b then max (place_of senders key) place else place_of senders key) → IsEntry (place_of senders key) place (place_of more key) b
-      entry key true is = elim (cases_lt (place_of senders key) place) [
-        | inl low ↦ (inl (refl, omega (arith, is, low)), omega (arith, is, low), λ on. omega (arith, is, low))
-        | inr high ↦ (inr (omega (arith, is, high)), omega (arith, is, high), λ on. omega (arith, is, high))
-      ]
-      entry key false is = (inr is, omega (arith, is), λ on. absurd (cc))
+entry_is : (old place new : ℕ) (b : Bool) → new ≡ (if b then max old place else old) → IsEntry old place new b
+entry_is old place new true is = elim (cases_lt old place) [
+  | inl low ↦ (inl (refl, omega (arith, is, low)), omega (arith, is, low), λ on. omega (arith, is, low))
+  | inr high ↦ (inr (omega (arith, is, high)), omega (arith, is, high), λ on. omega (arith, is, high))
+]
+entry_is old place new false is = (inr is, omega (arith, is), λ on. absurd (cc))
 
-      sent : (key : Loose) → 0 < place_of more key
-          → (number : ℕ) × (phase : Phase) × (slice_get phases number ≡ Some phase) × (get_or last number None ≡ Some (place_of more key)) × (list_any (is_sent key) phase.program.calls ≡ true)
-      sent key some =
-          elim ((entry key (list_any (is_sent key) phase.program.calls) (raised key)).0) [
+module _ (phases : List Phase) (last : List (Option ℕ)) (senders : Senders) (count : ℕ) (so_far : IsSendersTo phases last senders count) where
+  module _ (phase : Phase) (here : slice_get phases count ≡ Some phase) where
+    module _ (more : Senders) (place : ℕ) (at : get_or last count None ≡ Some place) (raised : IsRaised (λ key. list_any (is_sent key) phase.program.calls) place senders more) where
+      entry : (key : Loose) → IsEntry (place_of senders key) place (place_of more key) (list_any (is_sent key) phase.program.calls)
+      entry key = entry_is (place_of senders key) place (place_of more key) (list_any (is_sent key) phase.program.calls) (raised key)
+
+      pub senders_more : IsSendersTo phases last more (count + 1)
+      senders_more = record { sent = sent; past = past }
+        where
+          sent : (key : Loose) → 0 < place_of more key → IsSentLast phases last key (place_of more key)
+          sent key some = elim ((entry key).0) [
             | inl (sends, is) ↦ (count, phase, here, at ∙ ap (λ (z : ℕ). Some z) (sym is), sends)
-            | inr is ↦
-                let old = so_far.sent key (omega (arith, some, is)) in
-                (old.0, old.1, old.2, old.3 ∙ ap (λ (z : ℕ). Some z) (sym is), old.4)
+            | inr is ↦ subst (IsSentLast phases last key) (sym is) (so_far.sent key (omega (arith, some, is)))
           ]
 
-      past : (key : Loose) (number place' : ℕ) (other : Phase) → number < count + 1 → slice_get phases number ≡ Some other → get_or last number None ≡ Some place'
-          → list_any (is_sent key) other.program.calls ≡ true → place' ≤ place_of more key
-      past key number place' other low there is sends =
-          let e = entry key (list_any (is_sent key) phase.program.calls) (raised key) in
-          elim (cases_lt number count) [
-            | inl before ↦ omega (arith, e.1, so_far.past key number place' other before there is sends)
+          past : (key : Loose) (number place' : ℕ) (other : Phase) → number < count + 1 → slice_get phases number ≡ Some other → get_or last number None ≡ Some place' → Sends key other
+              → place' ≤ place_of more key
+          past key number place' other low there is sends = elim (cases_lt number count) [
+            | inl before ↦ omega (arith, (entry key).1, so_far.past key number place' other before there is sends)
             | inr from ↦
                 let same : number ≡ count = omega (arith, low, from) in
                 let phase_is : other ≡ phase = same_Some other phase (sym there ∙ ap (slice_get phases) same ∙ here) in
                 let place_is : place' ≡ place = same_Some place' place (sym is ∙ ap (λ (z : ℕ). get_or last z None) same ∙ at) in
-                let high = e.2 (ap (λ (z : Phase). list_any (is_sent key) z.program.calls) (sym phase_is) ∙ sends) in
+                let high = (entry key).2 (subst (Sends key) phase_is sends) in
                 omega (arith, high, place_is)
           ]
 
@@ -173,15 +185,14 @@ module _ (phases : List Phase) (last : List (Option ℕ)) (senders : Senders) (c
     ];
   }
 
-pub senders_done : (phases : List Phase) (order : List ℕ) (last : List (Option ℕ)) (senders : Senders) → AreLast (length phases) order last → IsSendersTo phases last senders (length phases)
-    → AreSenders phases order senders
-senders_done phases order last senders are so_far = record {
-  sent = λ key some.
-      let old = so_far.sent key some in
-      (old.1, record { number = old.0; entry = are.stands old.0 (place_of senders key) old.3; there = old.2 }, old.4);
-  past = λ key place phase is sends.
-      let within = slice_get_within phases is.number phase is.there in
-      let at = are.past place is.number is.entry within in
-      let high = so_far.past key is.number at.0 phase within is.there at.1 sends in
-      omega (arith, high, at.2);
-}
+  pub senders_done : (order : List ℕ) → AreLast (length phases) order last → count ≡ length phases → AreSenders phases order senders
+  senders_done order are all = record {
+    sent = λ key some.
+        let old = so_far.sent key some in
+        (old.1, record { number = old.0; entry = are.stands old.0 (place_of senders key) old.3; there = old.2 }, old.4);
+    past = λ key place phase is sends.
+        let within = slice_get_within phases is.number phase is.there in
+        let at = are.past place is.number is.entry within in
+        let high = so_far.past key is.number at.0 phase (omega (arith, within, all)) is.there at.1 sends in
+        omega (arith, high, at.2);
+  }

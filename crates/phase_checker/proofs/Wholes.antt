@@ -38,7 +38,8 @@ with_program phase p from steps stuck = not_there phase.program_kept (λ kept. f
 -- ---- sends of what is left
 
 -- a send of a part of a program is one of the same message there
-part_sends : (entry : Loose) (p part : MpiProgram) (moved : ℕ → ℕ) → IsPart p part moved → (s : IsLooseSend entry p) → IsFrom part moved s.place → IsLooseSend entry part
+part_sends : (entry : Loose) (p part : MpiProgram) (moved : ℕ → ℕ) → IsPart p part moved → (s : IsLooseSend entry p)
+    → IsFrom part moved s.place → IsLooseSend entry part
 part_sends entry p part moved is s from =
     let same : moved_call (moved from.call.rank) from.call ≡ s.call =
     same_Some (moved_call (moved from.call.rank) from.call) s.call (sym (is.calls from.place from.call from.there) ∙ ap (call_at p) (sym from.is) ∙ s.there) in
@@ -57,7 +58,8 @@ part_sends entry p part moved is s from =
 none_sends : (entry : Loose) (p : MpiProgram) → p.calls ≡ [] → IsLooseSend entry p → ⊥
 none_sends entry p none s = let never = ap (λ (z : List Call). slice_get z s.place) (sym none) ∙ s.there in cc
 
-later_at : (phases : List Phase) (number : ℕ) (order : List ℕ) (place : ℕ) (phase : Phase) → IsAt phases order place phase → IsAt phases (number ∷ order) (suc place) phase
+later_at : (phases : List Phase) (number : ℕ) (order : List ℕ) (place : ℕ) (phase : Phase) → IsAt phases order place phase
+    → IsAt phases (number ∷ order) (suc place) phase
 later_at phases number order place phase is = record { number = is.number; entry = is.entry; there = is.there }
 
 -- each send of a program that is dealt to phases is one of a phase
@@ -72,7 +74,8 @@ sends_of_phases phases (number ∷ order) p left entry is_p (rest, taken, dealt)
     let j = front_is_joined p d is_p is_d taken.front in
     let cut = joined_is_cut p d (behind p d) is_p is_d j.1 j.0 in
     elim (cut.each s.place s.call s.there) [
-      | inl from ↦ never 0 taken.phase (record { number = number; entry = refl; there = taken.there }) (part_sends entry p d (first_call (behind p d)) cut.first s from)
+      | inl from ↦
+          never 0 taken.phase (record { number = number; entry = refl; there = taken.there }) (part_sends entry p d (first_call (behind p d)) cut.first s from)
       | inr from ↦
           sends_of_phases phases order rest left entry (subst IsWellFormed (sym taken.left) j.1) dealt none
           (λ later other is sends. never (suc later) other (later_at phases number order later other is) sends)

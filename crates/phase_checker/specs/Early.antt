@@ -8,6 +8,7 @@ use Rattle.sealing.specs.Loose.{AreLoose}
 use Rattle.phase_checker.specs.declared.phase.Phase.{Phase}
 use Rattle.phase_checker.specs.declared.senders.Senders.{Senders}
 use Rattle.phase_checker.specs.Dealing.{IsAt}
+use Rattle.phase_checker.specs.Parts.{IsFirstEarly}
 use Rattle.phase_checker.specs.Senders.{is_sent, place_of}
 
 -- the last place of the order at which each of so many numbers stands, if there is one
@@ -24,8 +25,10 @@ pub record AreEnds (phases : List Phase) (order : List ℕ) (ends : List (Vec Lo
 
 -- Of what is sent behind the first place, the place is the last at which a phase sends it.
 pub record AreSenders (phases : List Phase) (order : List ℕ) (senders : Senders) : Type 0 where
-  pub sent : (key : Loose) → 0 < place_of senders key → (phase : Phase) × IsAt phases order (place_of senders key) phase × (list_any (is_sent key) phase.program.calls ≡ true)
-  pub past : (key : Loose) (place : ℕ) (phase : Phase) → IsAt phases order place phase → list_any (is_sent key) phase.program.calls ≡ true → place ≤ place_of senders key
+  pub sent : (key : Loose) → 0 < place_of senders key
+      → (phase : Phase) × IsAt phases order (place_of senders key) phase × (list_any (is_sent key) phase.program.calls ≡ true)
+  pub past : (key : Loose) (place : ℕ) (phase : Phase) → IsAt phases order place phase → list_any (is_sent key) phase.program.calls ≡ true
+      → place ≤ place_of senders key
 
 -- the last place at which something of the list is sent, or 0
 pub record IsReach (senders : Senders) (list : List Loose) (reach : ℕ) : Type 0 where
@@ -43,6 +46,11 @@ IsFirstWithin order reaches None = (place number : ℕ) → slice_get order plac
 IsFirstWithin order reaches (Some at) =
     ((number : ℕ) × (slice_get order at ≡ Some number) × (at < get_or reaches number 0))
     × ((place number : ℕ) → place < at → slice_get order place ≡ Some number → get_or reaches number 0 ≤ place)
+
+-- The claim holds of each order of phases that has this phase at the place, and this place as the
+-- first one that is early.
+abbrev pub HoldsAt : (List Phase → List ℕ → Type 0) → Option ℕ → ℕ → Phase → Type 0
+HoldsAt claim early place phase = (phases : List Phase) (order : List ℕ) → IsFirstEarly phases order early → IsAt phases order place phase → claim phases order
 
 -- nothing is in any of the lists
 abbrev pub AreEmpty : List (Vec Loose) → Type 0

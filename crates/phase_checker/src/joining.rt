@@ -1,13 +1,13 @@
 //! Whether phases make up a program.
 
-ghost use Rattle.std.specs.Prelude.{◌≡◌, ◌<◌, ◌≤◌, ◌⊎◌, ℕ, List, length, IfOk, IfErr, IfSome};
+ghost use Rattle.std.specs.Prelude.{◌≡◌, ◌<◌, ◌≤◌, ◌⊎◌, length, IfOk, IfErr, IfSome};
 ghost use Rattle.calltext.specs.Limits.{long};
 ghost use Rattle.callorder.specs.Programs.{MpiProgram};
 ghost use Rattle.semantics.specs.Headline.{IsNeverStuckWithin};
 ghost use Rattle.phases.specs.Rests.{IsRest};
-ghost use Rattle.phase_checker.specs.Dealing.{AreJoined, IsAt, IsNotJoined, IsWrong, KeepsToItself};
+ghost use Rattle.phase_checker.specs.Dealing.{AreJoined, IsNotJoined, IsWrong, KeepsToItself};
+ghost use Rattle.phase_checker.specs.Early.{HoldsAt};
 ghost use Rattle.phase_checker.specs.Parts.{IsDealtAt, IsFirstEarly, IsFirstWrong, IsUnkept, MakeUp};
-ghost use Rattle.phase_checker.specs.declared.phase.Phase.{Phase};
 
 use crate::early::first_early;
 use crate::phase::Phase;
@@ -21,8 +21,8 @@ use std::alloc::{AllocError, Global};
 /// whose phase a later one may send too early; else what is wrong there.
 fn check_kept(phase: &Phase, place: usize, early: Option<usize>) -> Result<(), NotJoined>
     requires { IfSome early (λ first. place ≤ first) }
-    ensures kept { IfOk result (λ done. (phases : List Phase) (order : List ℕ) → IsFirstEarly phases order early → IsAt phases order place phase.now → KeepsToItself phases order place phase.now) }
-    ensures why { IfErr result (λ why. (phases : List Phase) (order : List ℕ) → IsFirstEarly phases order early → IsAt phases order place phase.now → IsUnkept phases order place phase.now why) }
+    ensures kept { IfOk result (λ done. HoldsAt (λ phases order. KeepsToItself phases order place phase.now) early place phase.now) }
+    ensures why { IfErr result (λ why. HoldsAt (λ phases order. IsUnkept phases order place phase.now why) early place phase.now) }
 {
     if early == Some(place) {
         return Err(NotJoined::Source { place });

@@ -3,7 +3,7 @@
 //!
 //! A phase keeps to itself where it takes all that is sent in it, and none of its receives and
 //! probes can find a message of a later phase: each names its source; or each rank that later sends
-//! a message that would fit finishes the phase only after the receive or probe has found its own, as
+//! one that would fit finishes the phase only after the receive or probe has found its own, as
 //! messages with sure partners tell. It is judged once, by one run or by an evidence, and may occur
 //! any number of times. `specs/Dealing.antt` says what is asked of the phases and their order.
 #![tactic(auto)]

@@ -203,6 +203,17 @@ fn messages_are_too_early_for_probes(rt: HostRuntime) -> Result<(), Fail> {
     Ok(())
 }
 
+#[test]
+fn words_count_places_from_1(rt: HostRuntime) -> Result<(), Fail> {
+    let alloc = rt.alloc();
+    let source = NotJoined::Source { place: 0 };
+    assert_eq!(rt;
+        format!(in alloc; "{source}")?.as_str(),
+        "any source at place 1"
+    );
+    Ok(())
+}
+
 /// Whether a run of the text's program is told to get stuck.
 fn hangs(alloc: Global, text: &str) -> Result<bool, Fail> {
     let text = lines(alloc, text)?;

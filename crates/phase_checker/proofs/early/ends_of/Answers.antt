@@ -15,8 +15,10 @@ loop-number-preserved c =
     let here = slice_get_read phases _ count phase refl (omega arith) c.index-phases-number.is in
     let at = read_at _ _ followed count c.index.result.now c.in_ok-followed.ensures (omega arith) c.index.ensures in
     subst (λ (z : List (Vec Loose)). IsEndsTo phases followed z (count + 1)) (sym {A = List (Vec Loose)} c.in_ok-push.ensures.items)
-    (ends_more phases followed ends count phase c.in_ok-ends_at.field-0 c.loop-number.invariant here c.index.result.now at c.in_ok-ends_at.ensures)
+    (ends_more phases followed ends count c.loop-number.invariant phase c.in_ok-ends_at.field-0 c.index.result.now here at c.in_ok-ends_at.ensures)
 
 pub returns : goal.returns
 returns c =
-    ends_done c.args.phases.now c.args.order.now _ c.in_ok-followed.followed.items c.loop-number.ends.items c.loop-number.number (ap (λ (z : ℕ). take z c.args.order.now) c.saturating_sub.ensures) c.in_ok-followed.ensures c.loop-number.invariant (omega arith)
+    let order = c.args.order.now in
+    let cut = ap (λ (z : ℕ). take z order) c.saturating_sub.ensures in
+    ends_done c.args.phases.now c.in_ok-followed.followed.items c.loop-number.ends.items c.loop-number.number c.loop-number.invariant order _ cut c.in_ok-followed.ensures (omega arith)

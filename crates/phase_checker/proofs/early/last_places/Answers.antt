@@ -13,10 +13,10 @@ loop-place-preserved c =
     elim c.if-number-count.branch [
       | then-number-count w ↦
           subst (λ (z : Vec (Option ℕ)). IsLastTo c.args.count order z.items (place + 1)) (sym w.last-is)
-          (last_put c.args.count order c.loop-place.last.items place _ c.loop-place.invariant here w.if-number-count.true)
+          (last_put c.args.count order c.loop-place.last.items place c.loop-place.invariant _ here w.if-number-count.true)
       | else-number-count w ↦
           subst (λ (z : Vec (Option ℕ)). IsLastTo c.args.count order z.items (place + 1)) (sym w.last-is)
-          (last_passed c.args.count order c.loop-place.last.items place _ c.loop-place.invariant here (λ within. omega (arith, within, w.if-number-count.false)))
+          (last_passed c.args.count order c.loop-place.last.items place c.loop-place.invariant _ here (λ within. omega (arith, within, w.if-number-count.false)))
     ]
 
 pub returns : goal.returns

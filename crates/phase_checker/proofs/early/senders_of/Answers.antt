@@ -22,14 +22,12 @@ loop-number-preserved c =
           let more = w.put_calls.new.self in
           let raised = subst (λ (z : List Call). IsRaised (λ key. list_any (is_sent key) z) w.in-Some.place old more) w.calls.ensures w.in_ok-put_calls.ensures in
           subst (λ (z : Senders). IsSendersTo phases last z (count + 1)) (sym w.senders-is)
-          (senders_more phases last old count phase c.loop-number.invariant here more w.in-Some.place (at ∙ w.in-Some.is) raised)
+          (senders_more phases last old count c.loop-number.invariant phase here more w.in-Some.place (at ∙ w.in-Some.is) raised)
       | in_default w ↦
           subst (λ (z : Senders). IsSendersTo phases last z (count + 1)) (sym w.senders-is)
-          (senders_passed phases last old count phase c.loop-number.invariant here (at ∙ w.in_default.is))
+          (senders_passed phases last old count c.loop-number.invariant (at ∙ w.in_default.is))
     ]
 
 pub returns : goal.returns
 returns c =
-    let phases = c.args.phases.now in
-    let last = c.in_ok-last.last.items in
-    senders_done phases c.args.order.now last c.loop-number.senders c.in_ok-last.ensures (subst (IsSendersTo phases last c.loop-number.senders) (omega arith) c.loop-number.invariant)
+    senders_done c.args.phases.now c.in_ok-last.last.items c.loop-number.senders c.loop-number.number c.loop-number.invariant c.args.order.now c.in_ok-last.ensures (omega arith)
