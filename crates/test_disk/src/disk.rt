@@ -4,8 +4,8 @@ ghost use Rattle.std.specs.Prelude.{◌≤◌, IfOk};
 use files::{Extent, FileSet, LoadFault, OpenFault, StoreFault, load};
 use std::alloc::Global;
 use std::cell::{Cell, RefCell};
-use std::io;
 use std::io::{Read, Write};
+use std::{io, str};
 
 /// The most bytes that one read or one write moves, so that a longer text takes several.
 const PIECE: usize = 7;
@@ -24,7 +24,9 @@ pub enum Trouble {
 }
 
 /// Two files that can be read, `program` and `evidence`, and one that can be written, `out`. The path
-/// `memory` can't be opened for want of memory, and every other path isn't there.
+/// `memory` can't be opened for want of memory. A path in the folder `folder` is that of a part of
+/// `evidence`: behind `== ` and the file's name on a line of its own, up to the next such line. Every
+/// other path isn't there.
 #[derive(Drop)]
 pub struct Disk<'a> {
     /// What the file `program` holds.
@@ -71,7 +73,10 @@ impl Disk<'_> {
             "program" => self.program,
             "evidence" => self.evidence,
             "memory" => return Err(OpenFault::Memory),
-            _ => return Err(OpenFault::Device),
+            path => match part_of(self.evidence, path) {
+                Some(part) => part,
+                None => return Err(OpenFault::Device),
+            },
         };
         Ok(DiskReader { rest, disk: self })
     }
@@ -88,6 +93,21 @@ impl Disk<'_> {
             None => Ok(PIECE.min(wanted)),
         }
     }
+}
+
+/// The part of an archive that stands for the file at a path in the folder `folder`.
+fn part_of<'a>(archive: &'a [u8], path: &str) -> Option<&'a [u8]> {
+    let name = path.strip_prefix("folder/")?;
+    let Ok(text) = str::from_utf8(archive) else {
+        return None;
+    };
+    for piece in text.split("== ") {
+        let (title, part) = piece.split_once("\n").unwrap_or(("", ""));
+        if title == name {
+            return Some(part.as_bytes());
+        }
+    }
+    None
 }
 
 /// The files of a disk.
