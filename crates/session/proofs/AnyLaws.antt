@@ -4,7 +4,7 @@ use Rattle.clap.specs.Words.{Text}
 use Rattle.clap.specs.declared.error.kind.ErrorKind.{ErrorKind}
 use Rattle.formulas.specs.Numbering.{formula_of}
 use Rattle.command_line.specs.CommandLine.{version_line}
-use Rattle.command_line.specs.Requests.{AskFor, Task, to_check, to_decide, to_decide_each, to_decide_unrolled, to_encode, to_explain, to_explain_unrolled, to_export, to_prove, to_replay, to_shrink, to_trim, to_unroll}
+use Rattle.command_line.specs.Requests.{AskFor, Task, to_check, to_decide, to_decide_each, to_decide_phases, to_decide_unrolled, to_encode, to_explain, to_explain_unrolled, to_export, to_join, to_phases, to_prove, to_replay, to_shrink, to_trim, to_unroll}
 use Rattle.session.specs.AnyLaws.{IsRightlyTold, ToldDeadlockIsShown}
 use Rattle.session.specs.Asking.{TellsDeadlock}
 use Rattle.session.specs.Endings.{EndsUnasked, Explains, TaskEnds}
@@ -20,6 +20,7 @@ use Rattle.session.proofs.Deadlocks.{check_shows, explained_shows, exported_chec
 use Rattle.session.proofs.MappedPages.{unmapped_told}
 use Rattle.session.proofs.ExplainedPages.{first_shows}
 use Rattle.session.proofs.DecidedPages.{decided_hangs}
+use Rattle.session.proofs.PhaseLaws.{cut_hangs, joined_hangs}
 use Rattle.session.proofs.RunLaws.{complaint_untold}
 use Rattle.session.proofs.FileLaws.{shrunk_hangs, trimmed_untold}
 use Rattle.session.proofs.SweepLaws.{rises}
@@ -64,7 +65,7 @@ asked_told run (to_replay p e lines) asks ends says =
 asked_told run (to_explain p None workers depth budget form map) asks ends says =
     inr (inr (inr (inl (
       p,
-      inr (budget, form, (workers, depth, map, asks)),
+      inr (inr (inr (budget, form, (workers, depth, map, asks)))),
       λ program held.
           let page = deadlock_page ends.1 says in
           let plain = unmapped_told run.before p form map (IsDecidedFirst (run.before p) budget form) page.0 page.1 page.2 page.3 in
@@ -113,23 +114,47 @@ asked_told run (to_decide p out progress as_json) asks ends says =
           let page = deadlock_page ends.1.2 says in
           decided_hangs run.tells.writes run.before run.after p out as_json page.0 page.1 program page.2 page.3 held,
     ))))
+asked_told run (to_decide_phases p out progress as_json) asks ends says =
+    inr (inr (inr (inl (
+      p,
+      inr (inl (out, inr (progress, as_json, asks))),
+      λ program held.
+          let page = deadlock_page ends.1.2 says in
+          joined_hangs run.tells.writes run.before run.after p out as_json page.0 page.1 program page.2 page.3 held,
+    ))))
+asked_told run (to_join p folder out as_json) asks ends says =
+    inr (inr (inr (inl (
+      p,
+      inr (inl (out, inl (folder, as_json, asks))),
+      λ program held.
+          let page = deadlock_page ends.1 says in
+          joined_hangs run.tells.writes run.before run.after p out as_json page.0 page.1 program page.2 page.3 held,
+    ))))
+asked_told run (to_phases p folder) asks ends says =
+    inr (inr (inr (inl (
+      p,
+      inr (inr (inl (folder, asks))),
+      λ program held.
+          let page = deadlock_page ends.1 says in
+          cut_hangs run.before run.after p page.0 page.1 program page.2 page.3 held,
+    ))))
 asked_told run (to_unroll p ranks settings way out map) asks (others, inl (none, complains)) says =
     absurd (complaint_untold run no_way 6 (λ one. omega (arith, one)) complains says)
 asked_told run (to_unroll p ranks settings way out map) asks (others, inr (barriers, is, ends)) says =
     let page = deadlock_page ends says in
     absurd (unrolled_untold run.tells.writes run.before run.after p ranks settings barriers out map page.0 page.1 page.2 page.3)
-asked_told run (to_decide_unrolled p ranks settings way out progress as_json) asks (same, inl (none, complains)) says =
+asked_told run (to_decide_unrolled p ranks settings way beside as_json) asks (same, inl (none, complains)) says =
     absurd (complaint_untold run no_way 6 (λ one. omega (arith, one)) complains says)
-asked_told run (to_decide_unrolled p ranks settings way out progress as_json) asks (same, inr (barriers, is, inl (told, why, complains))) says =
+asked_told run (to_decide_unrolled p ranks settings way beside as_json) asks (same, inr (barriers, is, inl (told, why, complains))) says =
     absurd (complaint_untold run told 6 (λ one. omega (arith, one)) complains says)
-asked_told run (to_decide_unrolled p ranks settings way out progress as_json) asks (same, inr (barriers, is, inr (first, last, ranked, ends))) says =
+asked_told run (to_decide_unrolled p ranks settings way beside as_json) asks (same, inr (barriers, is, inr (first, last, ranked, ends))) says =
     let page = deadlock_page ends says in
     inr (inr (inr (inr (inr (
       p,
       ranked.text,
       settings,
       way,
-      inl (out, progress, as_json, subst (λ (r : Option Text). AskFor run.words (to_decide_unrolled p r settings way out progress as_json)) ranked.given asks),
+      inl (beside, as_json, subst (λ (r : Option Text). AskFor run.words (to_decide_unrolled p r settings way beside as_json)) ranked.given asks),
       λ source held.
           let hangs = swept_hangs (run.before p) p source settings barriers as_json first last page.0 page.1 page.2 page.3 held in (
             barriers,

@@ -16,17 +16,17 @@ use Rattle.session.proofs.DeadlockLines.{PageTells, PageTellsSafety, line_tells,
 use Rattle.session.proofs.Deadlocks.{all_are}
 
 -- why a program isn't decided is told as neither answer, and with a status above
-not_stuck : (why : Undecided) → told_of_undecided why ≡ told.Deadlock → ⊥
+pub not_stuck : (why : Undecided) → told_of_undecided why ≡ told.Deadlock → ⊥
 not_stuck undecided.Memory e = cc
 not_stuck (undecided.Read fault) e = cc
 not_stuck (undecided.Resolve fault) e = cc
 
-not_safe : (why : Undecided) → told_of_undecided why ≡ told.NoDeadlock → ⊥
+pub not_safe : (why : Undecided) → told_of_undecided why ≡ told.NoDeadlock → ⊥
 not_safe undecided.Memory e = cc
 not_safe (undecided.Read fault) e = cc
 not_safe (undecided.Resolve fault) e = cc
 
-undecided_above : (why : Undecided) → 2 < told_status (told_of_undecided why)
+pub undecided_above : (why : Undecided) → 2 < told_status (told_of_undecided why)
 undecided_above undecided.Memory = omega arith
 undecided_above (undecided.Read fault) = omega arith
 undecided_above (undecided.Resolve fault) = omega arith

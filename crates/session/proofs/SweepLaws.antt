@@ -33,15 +33,15 @@ pub unrolled_runs : UnrolledRunsAreRight
 unrolled_runs = record {
   safe = λ run p ranks settings way source ends asks held zero. elim asks [
     | inl decide ↦
-        let by = way_end run way (task_ends run ends decide.3) 0 zero (λ e. omega (arith, e)) (λ e. omega (arith, e)) in
-        let end = ranked_end run (Some ranks) (is_some decide.0 || decide.1) true by.2 0 zero (λ e. omega (arith, e)) in
+        let by = way_end run way (task_ends run ends decide.2) 0 zero (λ e. omega (arith, e)) (λ e. omega (arith, e)) in
+        let end = ranked_end run (Some ranks) decide.0 true by.2 0 zero (λ e. omega (arith, e)) in
         let page = page_printed 0 (omega arith) (inl end.3) zero in (
           by.0,
           by.1,
           end.0,
           end.1,
           ranges ranks _ true end.0 end.1 end.2,
-          swept_safe (run.before p) p source settings by.0 decide.2 end.0 end.1 page.0 page.1 held,
+          swept_safe (run.before p) p source settings by.0 decide.1 end.0 end.1 page.0 page.1 held,
         )
     | inr explain ↦
         let by = way_end run way (task_ends run ends explain.6) 0 zero (λ e. omega (arith, e)) (λ e. omega (arith, e)) in
@@ -58,10 +58,10 @@ unrolled_runs = record {
   ];
   stuck = λ run p ranks settings way source ends asks held one. elim asks [
     | inl decide ↦
-        let by = way_end run way (task_ends run ends decide.3) 1 one (λ e. omega (arith, e)) (λ e. omega (arith, e)) in
-        let end = ranked_end run (Some ranks) (is_some decide.0 || decide.1) true by.2 1 one (λ e. omega (arith, e)) in
+        let by = way_end run way (task_ends run ends decide.2) 1 one (λ e. omega (arith, e)) (λ e. omega (arith, e)) in
+        let end = ranked_end run (Some ranks) decide.0 true by.2 1 one (λ e. omega (arith, e)) in
         let page = page_printed 1 (omega arith) (inl end.3) one in
-        let hangs = swept_hangs (run.before p) p source settings by.0 decide.2 end.0 end.1 page.0 1 page.1 (inl refl) held in (
+        let hangs = swept_hangs (run.before p) p source settings by.0 decide.1 end.0 end.1 page.0 1 page.1 (inl refl) held in (
           by.0,
           by.1,
           hangs.number,

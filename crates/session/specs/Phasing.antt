@@ -1,5 +1,5 @@
 -- The pages of `phases`, `join` and `decide --phases`.
-use Rattle.std.specs.Prelude.{◌≡◌, ◌≢◌, ◌⊎◌, ℕ, Bool, false, List, ◌++◌, codes, decimal, Option, Some, Result, Ok, Err, slice_get, string_bytes}
+use Rattle.std.specs.Prelude.{◌≡◌, ◌≢◌, ◌⊎◌, ℕ, Bool, true, false, List, ◌++◌, codes, decimal, Option, Some, Result, Ok, Err, slice_get, string_bytes}
 use Rattle.calltext.specs.Limits.{long}
 use Rattle.semantics.specs.Headline.{IsNeverStuckWithin}
 use Rattle.files.specs.Contents.{AreAll}
@@ -13,6 +13,13 @@ use Rattle.session.specs.declared.cut_files.Output.{Output}
 use Rattle.session.specs.declared.told.Told.TheVariants as told
 
 -- ---- what phases tell
+
+-- one run doesn't decide, since messages may race
+abbrev pub is_race : Result Decision Undecided → Bool
+is_race (Ok (decisions.Race race)) = true
+is_race (Ok decisions.NoDeadlock) = false
+is_race (Ok (decisions.Deadlock steps)) = false
+is_race (Err why) = false
 
 -- the line that tells that phases don't decide the program, and which of them lacks what
 abbrev pub IsLackingLine : Bool → List ℕ → ℕ → Type 0

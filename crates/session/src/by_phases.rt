@@ -1,13 +1,13 @@
 //! The commands `join` and `decide --phases`, from the files that they name to the page that they
 //! print.
-ghost use Rattle.std.specs.Prelude.{◌≡◌, IfErr, IfOk, codes, string_bytes};
+ghost use Rattle.std.specs.Prelude.{◌≡◌, IfErr, IfOk, IsTrue, codes, string_bytes};
 ghost use Rattle.calltext.specs.Limits.{long};
 ghost use Rattle.semantics.specs.Headline.{IsNeverStuckWithin};
 ghost use Rattle.command_line.specs.Requests.{path_of};
 ghost use Rattle.session.specs.Endings.{IsFollowedRun};
 ghost use Rattle.session.specs.Lines.{IsLine};
 ghost use Rattle.session.specs.Pages.{ChangesAtMost, IsDecideFile, IsUnread, StopsBy};
-ghost use Rattle.session.specs.Phasing.{IsJoinFile, IsJoinedPage, IsLackingLine, IsPhasesPage, path_in};
+ghost use Rattle.session.specs.Phasing.{IsJoinFile, IsJoinedPage, IsLackingLine, IsPhasesPage, is_race, path_in};
 
 use crate::commands::{Open, Stop};
 use crate::decide::{decided, decision_page, read_whole};
@@ -16,15 +16,15 @@ use crate::status::UNKNOWN;
 use crate::told::{Told, joined};
 use command_line::{ToDecidePhases, ToJoin};
 use cutting::cut;
-use deciding::{Decision, decide, program_of};
+use deciding::{Decision, Undecided, decide, program_of};
 use files::{Extent, FileSet, LoadFault};
 use phase_checker::{NotAPhase, Phase, join};
 use plaintext::{next_line, number_of};
 use prover::{Answer, Options, Reason, Verdict, prove};
 use std::alloc::{AllocError, Global};
+use std::io::Write;
 use std::sync::Wait;
 use std::thread::Threads;
-use std::io::Write;
 
 /// How many pieces of an evidence are checked at once.
 const PIECES: usize = 4;
@@ -35,6 +35,18 @@ const WORKERS: u32 = 4;
 const DEPTH: u32 = 4;
 
 const BUDGET: u32 = 1_000_000;
+
+/// Whether messages may race, so that one run doesn't decide.
+pub fn is_race(decided: &Result<Decision, Undecided>) -> bool
+    ensures { result ≡ is_race decided.now }
+{
+    match decided {
+        Ok(Decision::Race(_race)) => true,
+        Ok(Decision::NoDeadlock) => false,
+        Ok(Decision::Deadlock(_steps)) => false,
+        Err(_why) => false,
+    }
+}
 
 /// Why phases don't decide a program.
 #[derive(Drop)]
@@ -121,11 +133,34 @@ fn read_in<F: FileSet>(
     name: &str,
     files: &mut F,
 ) -> Result<Vec<u8>, LoadFault>
+    ensures fault { IfErr result (λ fault. IsTrue (F.reads files.old (path_in folder.now name.now)) → fault ≡ LoadFault.Memory) }
     ensures same { F.held files.new ≡ F.held files.old }
     ensures same_reads { F.reads files.new ≡ F.reads files.old }
 {
-    let path = path_in(alloc, folder, name)?;
-    files.read(alloc, &path, &Extent::Most(usize::MAX))
+    let Ok(path) = path_in(alloc, folder, name) else {
+        return Err(LoadFault::Memory);
+    };
+    files.read(alloc, path.as_str(), &Extent::Most(usize::MAX))
+}
+
+/// The bytes of the file in a folder that has the order of its phases. Where it can't be read, it is
+/// told as the folder.
+fn read_order<'a, F: FileSet>(
+    alloc: Global,
+    folder: &'a str,
+    files: &mut F,
+) -> Result<Vec<u8>, Stop<'a>>
+    ensures same { F.held files.new ≡ F.held files.old }
+    ensures same_reads { F.reads files.new ≡ F.reads files.old }
+    ensures stop { IfErr result (StopsBy
+        (λ path. (path ≡ folder.entry.now) × IsUnread (F.reads files.old) (path_in folder.entry.now (codes "phases")))
+        (F.held files.old) (F.held files.new)) }
+{
+    match read_in(alloc, folder, "phases", files) {
+        Ok(order) => Ok(order),
+        Err(LoadFault::Memory) => Err(Stop::Memory),
+        Err(LoadFault::Device) => Err(Stop::File(folder)),
+    }
 }
 
 /// The bytes of a file of a phase.
@@ -273,12 +308,7 @@ fn count_of(order: &[usize]) -> usize {
 }
 
 /// Whether phases in this order make up the program, and show that no run of it gets stuck.
-fn joined_by(
-    alloc: Global,
-    text: &[u8],
-    phases: &[Phase],
-    order: &[usize],
-) -> Result<(), Lack>
+fn joined_by(alloc: Global, text: &[u8], phases: &[Phase], order: &[usize]) -> Result<(), Lack>
     ensures { IfOk result (λ done. IsNeverStuckWithin long text.now) }
 {
     match join(alloc, text, phases, order) {
@@ -324,13 +354,9 @@ fn joined_now<R: Threads + Wait + Sync>(rt: &R, alloc: Global, text: &[u8]) -> R
 }
 
 /// The page of what phases show.
-fn phases_page<'a>(
-    alloc: Global,
-    shown: Result<(), Lack>,
-    json: bool,
-) -> Result<Page, Stop<'a>>
-    ensures shown { IfOk shown.entry (λ done. IfOk result (λ page. IsLine Told.NoDeadlock json page.text.items page.status)) }
-    ensures lacking { IfErr shown.entry (λ lack. IfOk result (λ page. IsLackingLine json page.text.items page.status)) }
+fn phases_page<'a>(alloc: Global, shown: Result<(), Lack>, json: bool) -> Result<Page, Stop<'a>>
+    ensures shown { IfOk shown (λ done. IfOk result (λ page. IsLine Told.NoDeadlock json page.text.items page.status)) }
+    ensures lacking { IfErr shown (λ lack. IfOk result (λ page. IsLackingLine json page.text.items page.status)) }
     ensures stop { IfErr result (λ stop. stop ≡ Stop.Memory) }
 {
     match shown {
@@ -361,7 +387,7 @@ pub fn join_page<'a, R: Threads + Wait + Sync, F: FileSet>(
 {
     let text = read_whole(alloc, asked.program, files)?;
     let decision = decide(alloc, &text);
-    if let Ok(Decision::Race(_race)) = decision {
+    if is_race(&decision) {
         return folder_page(rt, alloc, &text, asked, files);
     }
     decision_page(alloc, &text, &decision, asked.out, asked.json, files)
@@ -381,14 +407,9 @@ fn folder_page<'a, R: Threads + Wait + Sync, F: FileSet>(
         (λ path. (path ≡ asked.entry.folder.now) × IsUnread (F.reads files.old) (path_in asked.entry.folder.now (codes "phases")))
         (F.held files.old) (F.held files.new)) }
 {
-    match read_in(alloc, asked.folder, "phases", files) {
-        Ok(order) => {
-            let shown = joined_in(rt, alloc, text, asked.folder, &order, files);
-            phases_page(alloc, shown, asked.json)
-        }
-        Err(LoadFault::Memory) => Err(Stop::Memory),
-        Err(_fault) => Err(Stop::File(asked.folder)),
-    }
+    let order = read_order(alloc, asked.folder, files)?;
+    let shown = joined_in(rt, alloc, text, asked.folder, &order, files);
+    phases_page(alloc, shown, asked.json)
 }
 
 /// Decides the program of a file by one run, and where messages may race cuts it into phases, and
@@ -412,7 +433,7 @@ pub fn decide_phases_page<'a, R: Threads + Wait + Sync, F: FileSet, E: Write>(
 {
     let text = read_whole(alloc, asked.program, files)?;
     let decision = decided(alloc, &text, asked.progress, err);
-    if let Ok(Decision::Race(_race)) = decision {
+    if is_race(&decision) {
         let shown = joined_now(rt, alloc, &text);
         return phases_page(alloc, shown, asked.json);
     }

@@ -1,17 +1,17 @@
 //! The command `phases`, from the file that it names to the files that it writes and the page that it
 //! prints.
-ghost use Rattle.std.specs.Prelude.{◌≡◌, IfErr, IfOk, string_bytes};
+ghost use Rattle.std.specs.Prelude.{◌≡◌, ◌++◌, IfErr, IfOk, OnOk, decimal, string_bytes};
 ghost use Rattle.session.specs.Pages.{StopsBy};
 ghost use Rattle.session.specs.Phasing.{AreIn, ChangesWithin, IsCutFile, IsCutLine, IsCutPage, cut_line};
 
-use crate::by_phases::{file_name, path_in};
+use crate::by_phases::{file_name, is_race, path_in};
 use crate::commands::{Stop, write};
 use crate::decide::{decision_line, read_whole};
 use crate::page::Page;
 use crate::status::NO_DEADLOCK;
 use command_line::ToCut;
 use cutting::{Phases, cut};
-use deciding::{Decision, decide, program_of};
+use deciding::{decide, program_of};
 use files::FileSet;
 use phase_checker::{NotAPhase, Phase};
 use prooflog::Text;
@@ -33,13 +33,21 @@ pub struct Outputs {
     pub jobs: usize,
 }
 
-/// A file in a folder.
-fn output(alloc: Global, folder: &str, name: &str, text: Vec<u8>) -> Result<Output, AllocError>
-    ensures { IfOk result (λ output. string_bytes output.path ≡ path_in folder.now name.now) }
+/// Adds a file in a folder.
+fn put_file(
+    files: &mut Vec<Output>,
+    alloc: Global,
+    folder: &str,
+    name: &str,
+    text: Vec<u8>,
+) -> Result<(), AllocError>
+    requires { AreIn folder.now files.old.items }
+    ensures { OnOk result (AreIn folder.now files.new.items) }
 {
     let path = path_in(alloc, folder, name)?;
     let text = Text::of(alloc, text);
-    Ok(Output { path, text })
+    files.push(Output { path, text })?;
+    Ok(())
 }
 
 /// Whether the phase of a text has to be proved: one run doesn't tell.
@@ -79,11 +87,11 @@ fn outputs_of(alloc: Global, folder: &str, phases: Phases) -> Result<Outputs, Al
             list.push_str(&path_in(alloc, folder, &name)?)?;
             list.push('\n')?;
         }
-        files.push(output(alloc, folder, &name, text)?)?;
+        put_file(&mut files, alloc, folder, &name, text)?;
     }
-    files.push(output(alloc, folder, "jobs", list.into_bytes())?)?;
+    put_file(&mut files, alloc, folder, "jobs", list.into_bytes())?;
     let order = order_text(alloc, &phases.order)?;
-    files.push(output(alloc, folder, "phases", order)?)?;
+    put_file(&mut files, alloc, folder, "phases", order)?;
     Ok(Outputs {
         files,
         phases: phases.order.len(),
@@ -98,7 +106,7 @@ fn write_all<'a, F: FileSet>(
     outputs: &[Output],
     files: &mut F,
 ) -> Result<(), Stop<'a>>
-    requires { AreIn folder.entry.now outputs.now }
+    requires { AreIn folder.now outputs.now }
     ensures within { ChangesWithin folder.entry.now (F.held files.old) (F.held files.new) }
     ensures stop { IfErr result (λ stop. stop ≡ Stop.File folder.entry) }
 {
@@ -111,18 +119,46 @@ fn write_all<'a, F: FileSet>(
     Ok(())
 }
 
-/// The line that tells how a program is cut.
-fn cut_text(alloc: Global, outputs: &Outputs) -> Result<Vec<u8>, AllocError>
-    ensures { IfOk result (λ text. text.items ≡ cut_line outputs.now.phases outputs.now.different outputs.now.jobs) }
+/// Adds a number behind some words.
+fn put_count(
+    words: &mut String,
+    alloc: Global,
+    front: &str,
+    number: usize,
+) -> Result<(), AllocError>
+    ensures { OnOk result (string_bytes words.new ≡ string_bytes words.old ++ (front.now ++ decimal number)) }
 {
-    let mut text = String::from_str(alloc, "phases ")?;
-    text.push_str(&outputs.phases.to_string(alloc)?)?;
-    text.push_str(", different ")?;
-    text.push_str(&outputs.different.to_string(alloc)?)?;
-    text.push_str(", to prove ")?;
-    text.push_str(&outputs.jobs.to_string(alloc)?)?;
-    text.push('\n')?;
-    Ok(text.into_bytes())
+    words.push_str(front)?;
+    words.push_str(&number.to_string(alloc)?)?;
+    Ok(())
+}
+
+/// The line that tells into how many phases a program is cut, how many of them differ, and how many
+/// of those have to be proved.
+fn cut_words(
+    alloc: Global,
+    phases: usize,
+    different: usize,
+    jobs: usize,
+) -> Result<String, AllocError>
+    ensures { IfOk result (λ words. string_bytes words ≡ cut_line phases different jobs) }
+{
+    let mut words = String::new(alloc);
+    put_count(&mut words, alloc, "phases ", phases)?;
+    put_count(&mut words, alloc, ", different ", different)?;
+    put_count(&mut words, alloc, ", to prove ", jobs)?;
+    words.push_str("\n")?;
+    Ok(words)
+}
+
+/// The page that tells how a program is cut.
+fn cut_page_of(alloc: Global, outputs: &Outputs) -> Result<Page, AllocError>
+    ensures { IfOk result (λ page. IsCutLine page.text.items page.status) }
+{
+    let words = cut_words(alloc, outputs.phases, outputs.different, outputs.jobs)?;
+    let text = words.into_bytes();
+    let status = NO_DEADLOCK;
+    Ok(Page { text, status })
 }
 
 /// Cuts the program of a text, and writes the phases to a folder. All is made before the first file
@@ -143,10 +179,9 @@ fn written_page<'a, F: FileSet>(
     };
     let phases = cut(alloc, &program)?;
     let outputs = outputs_of(alloc, folder, phases)?;
-    let text = cut_text(alloc, &outputs)?;
+    let page = cut_page_of(alloc, &outputs)?;
     write_all(folder, &outputs.files, files)?;
-    let status = NO_DEADLOCK;
-    Ok(Page { text, status })
+    Ok(page)
 }
 
 /// Cuts the program of a file into phases, and writes them to a folder, unless one run decides it;
@@ -165,7 +200,7 @@ pub fn cut_page<'a, F: FileSet>(
 {
     let text = read_whole(alloc, asked.program, files)?;
     let decision = decide(alloc, &text);
-    if let Ok(Decision::Race(_race)) = decision {
+    if is_race(&decision) {
         return written_page(alloc, &text, asked.out, files);
     }
     Ok(decision_line(alloc, &text, &decision, false)?)

@@ -26,6 +26,15 @@ returns-in-Shrink g c = λ words. rw c.in-Shrink.is (c.shrink_page-page.ensures.
 pub returns-in-Decide : goal.returns-in-Decide
 returns-in-Decide g c = λ words. rw c.in-Decide.is (c.decide_page-page.ensures.others, (g.E.Write.contents c.decide_page-page.new.err, c.decide_page-page.ensures.followed, ended c.decide_page-page.result c.decide_page-page.ensures.page c.decide_page-page.ensures.stop c.finish-in-Decide.ensures))
 
+pub returns-in-DecidePhases : goal.returns-in-DecidePhases
+returns-in-DecidePhases g c = λ words. rw c.in-DecidePhases.is (c.decide_phases_page-page.ensures.others, (g.E.Write.contents c.decide_phases_page-page.new.err, c.decide_phases_page-page.ensures.followed, ended c.decide_phases_page-page.result c.decide_phases_page-page.ensures.page c.decide_phases_page-page.ensures.stop c.finish-in-DecidePhases.ensures))
+
+pub returns-in-Phases : goal.returns-in-Phases
+returns-in-Phases g c = λ words. rw c.in-Phases.is (c.cut_page-page.ensures.within, ended c.cut_page-page.result c.cut_page-page.ensures.page c.cut_page-page.ensures.stop c.finish-in-Phases.ensures)
+
+pub returns-in-Join : goal.returns-in-Join
+returns-in-Join g c = λ words. rw c.in-Join.is (c.join_page-page.ensures.others, ended c.join_page-page.result c.join_page-page.ensures.page c.join_page-page.ensures.stop c.finish-in-Join.ensures)
+
 pub returns-in-Unroll : goal.returns-in-Unroll
 returns-in-Unroll g c = λ words. rw c.in-Unroll.is (c.unroll.ensures words c.args.is_terminal)
 

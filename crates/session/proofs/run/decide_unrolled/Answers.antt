@@ -1,6 +1,4 @@
-use Rattle.std.proofs.Common.{◌∙◌, inl, inr, refl, subst, sym, Bool, true}
-use Rattle.command_line.specs.Requests.{path_of}
-use Rattle.session.specs.Sweeping.{IsRanked}
+use Rattle.std.proofs.Common.{◌∙◌, inl, inr, refl, sym}
 use Rattle.session.proofs.Ended.{ended}
 use Rattle.session.proofs.run.decide_unrolled.Goals as goal
 
@@ -17,7 +15,7 @@ returns-in-Ok g c = λ words terminal. (
     inr (
       c.in-Ok.wanted.first,
       c.in-Ok.wanted.last,
-      subst (λ (beside : Bool). IsRanked (path_of c.args.asked.now.ranks) beside true c.in-Ok.wanted.first c.in-Ok.wanted.last) c.is_beside_decide.ensures c.in-Ok.ensures.ranked,
+      c.in-Ok.ensures.ranked,
       ended c.decide_unrolled_page-page.result c.decide_unrolled_page-page.ensures.page c.decide_unrolled_page-page.ensures.stop c.finish.ensures,
     ),
   ),
