@@ -15,7 +15,6 @@ pub mod UnrolledPages
 pub mod UnrollLaws
 pub mod SweptPages
 pub mod SweepLaws
-pub mod DecidedFiles
 pub mod JoinedPages
 pub mod PhaseLaws
 pub mod AnyLaws

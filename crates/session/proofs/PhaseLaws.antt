@@ -1,5 +1,5 @@
 -- What the pages of `join`, `phases` and `decide --phases` tell, and the laws of their runs.
-use Rattle.std.proofs.Common.{◌≡◌, ◌≢◌, ◌<◌, ◌⊎◌, ap, arith, inl, inr, sym, subst, ℕ, Bool, false, List, Option, Ok, Err, Some, None}
+use Rattle.std.proofs.Common.{◌≡◌, ◌≢◌, ◌⊎◌, ap, arith, inl, inr, sym, subst, ℕ, Bool, false, List, Option, Ok, Err, Some, None}
 use Rattle.clap.specs.Words.{Text}
 use Rattle.calltext.specs.Limits.{long}
 use Rattle.semantics.specs.Headline.{IsNeverStuckWithin, IsStuckRunWithin}
@@ -31,7 +31,8 @@ phases_untold json program text status (inl shown) says =
 phases_untold json program text status (inr lacking) says = lacking_untold json text status lacking says
 
 -- and where it is that there is none, they show that
-phases_safe : (json : Bool) (program text : List ℕ) (status : ℕ) → IsPhasesPage json program text status → PageTellsSafety text status → IsNeverStuckWithin long program
+phases_safe : (json : Bool) (program text : List ℕ) (status : ℕ)
+    → IsPhasesPage json program text status → PageTellsSafety text status → IsNeverStuckWithin long program
 phases_safe json program text status (inl shown) says = shown.0
 phases_safe json program text status (inr lacking) says = absurd (lacking_unsafe json text status lacking says)
 
@@ -41,8 +42,9 @@ phases_above json program text (inl shown) = omega (arith, shown.1.3)
 phases_above json program text (inr lacking) = omega (arith, lacking.3)
 
 -- a page that tells a deadlock is of a program with a run that gets stuck
-pub joined_hangs : (tells : Bool) (before after : List ℕ → Option (List ℕ)) (p : List ℕ) (out : Option (List ℕ)) (json : Bool) (text : List ℕ) (status : ℕ) (program : List ℕ)
-    → IsJoinedPage tells before after p out json text status → PageTells text status → before p ≡ Some program → (steps : List Step) × IsStuckRunWithin long program steps
+pub joined_hangs : (tells : Bool) (before after : List ℕ → Option (List ℕ)) (p : List ℕ) (out : Option (List ℕ)) (json : Bool) (text : List ℕ)
+    (status : ℕ) (program : List ℕ) → IsJoinedPage tells before after p out json text status → PageTells text status → before p ≡ Some program
+    → (steps : List Step) × IsStuckRunWithin long program steps
 joined_hangs tells before after p out json text status program (given, Ok decisions.NoDeadlock, all, is, scheduled, page) says held =
     let other : told.NoDeadlock ≡ told.Deadlock = line_tells told.NoDeadlock json text status page says in absurd cc
 joined_hangs tells before after p out json text status program (given, Ok (decisions.Deadlock steps), all, is, scheduled, page) says held =
@@ -64,8 +66,9 @@ joined_written tells before after p out json text program (given, Ok (decisions.
 joined_written tells before after p out json text program (given, Err why, all, is, scheduled, page) held = absurd (omega (arith, page.3, undecided_above why))
 
 -- one that tells that there is none is of a program that never gets stuck
-joined_safe : (tells : Bool) (before after : List ℕ → Option (List ℕ)) (p : List ℕ) (out : Option (List ℕ)) (json : Bool) (text : List ℕ) (status : ℕ) (program : List ℕ)
-    → IsJoinedPage tells before after p out json text status → PageTellsSafety text status → before p ≡ Some program → IsNeverStuckWithin long program
+joined_safe : (tells : Bool) (before after : List ℕ → Option (List ℕ)) (p : List ℕ) (out : Option (List ℕ)) (json : Bool) (text : List ℕ)
+    (status : ℕ) (program : List ℕ) → IsJoinedPage tells before after p out json text status → PageTellsSafety text status → before p ≡ Some program
+    → IsNeverStuckWithin long program
 joined_safe tells before after p out json text status program (given, Ok decisions.NoDeadlock, all, is, scheduled, page) says held =
     subst (λ (bytes : List ℕ). IsNeverStuckWithin long bytes) (all_are (before p) given program all held) is
 joined_safe tells before after p out json text status program (given, Ok (decisions.Deadlock steps), all, is, scheduled, page) says held =

@@ -66,8 +66,8 @@ abbrev pub AreIn : List ℕ → List Output → Type 0
 AreIn folder outputs =
     (place : ℕ) (output : Output) → slice_get outputs place ≡ Some output → (name : List ℕ) × (string_bytes output.path ≡ path_in folder name)
 
--- the line that tells how many phases there are, how many of them differ, and how many of those have
--- to be proved
+-- the line that tells how many phases there are, how many of them differ, and how many of those
+-- have to be proved
 abbrev pub cut_line : ℕ → ℕ → ℕ → List ℕ
 cut_line phases different jobs =
     codes "phases " ++ (decimal phases ++ (codes ", different " ++ (decimal different ++ (codes ", to prove " ++ (decimal jobs ++ codes "\n")))))

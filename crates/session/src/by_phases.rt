@@ -79,7 +79,8 @@ fn lack_words(alloc: Global, number: usize, what: &str) -> Result<String, AllocE
     Ok(words)
 }
 
-/// The name of a file of a phase, whose number counts from 1: four digits or more, and what follows.
+/// The name of a file of a phase, whose number counts from 1: four digits or more, and what stands
+/// behind them.
 pub fn file_name(alloc: Global, number: usize, end: &str) -> Result<String, AllocError> {
     let digits = number.to_string(alloc)?;
     let mut name = String::new(alloc);
@@ -143,8 +144,8 @@ fn read_in<F: FileSet>(
     files.read(alloc, path.as_str(), &Extent::Most(usize::MAX))
 }
 
-/// The bytes of the file in a folder that has the order of its phases. Where it can't be read, it is
-/// told as the folder.
+/// The bytes of the file in a folder that has the order of its phases. Where it can't be read, that
+/// is told as the folder.
 fn read_order<'a, F: FileSet>(
     alloc: Global,
     folder: &'a str,
@@ -382,7 +383,8 @@ pub fn join_page<'a, R: Threads + Wait + Sync, F: FileSet>(
         (path_of asked.entry.out) asked.entry.json page.text.items page.status) }
     ensures others { ChangesAtMost (path_of asked.entry.out) (F.held files.old) (F.held files.new) }
     ensures stop { IfErr result (StopsBy
-        (IsJoinFile (F.reads files.old) asked.entry.program.now asked.entry.folder.now (path_of asked.entry.out) (F.held files.old) (F.held files.new))
+        (IsJoinFile (F.reads files.old) asked.entry.program.now asked.entry.folder.now (path_of asked.entry.out)
+        (F.held files.old) (F.held files.new))
         (F.held files.old) (F.held files.new)) }
 {
     let text = read_whole(alloc, asked.program, files)?;

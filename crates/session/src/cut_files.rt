@@ -1,5 +1,5 @@
-//! The command `phases`, from the file that it names to the files that it writes and the page that it
-//! prints.
+//! The command `phases`, from the file that it names to the files that it writes and the page that
+//! it prints.
 ghost use Rattle.std.specs.Prelude.{◌≡◌, ◌++◌, IfErr, IfOk, OnOk, decimal, string_bytes};
 ghost use Rattle.session.specs.Pages.{StopsBy};
 ghost use Rattle.session.specs.Phasing.{AreIn, ChangesWithin, IsCutFile, IsCutLine, IsCutPage, cut_line};

@@ -187,7 +187,8 @@ pub fn each_run_is_right()
 {}
 
 /// Where any run printed the line of a deadlock or ended with the status 1, its words ask to prove,
-/// check, replay, explain, export or shrink a program, and that program has a run that ends stuck.
+/// check, replay, explain, export, shrink, decide, cut or join a program, and that program has a run
+/// that ends stuck.
 pub fn told_deadlock_is_shown()
     ensures { ToldDeadlockIsShown }
 {}
