@@ -7,3 +7,4 @@ pub mod Seeking
 pub mod Taking
 pub mod Turns
 pub mod Opening
+pub mod Waitings

@@ -1,5 +1,5 @@
 -- Nothing waits in the opening configuration.
-use Rattle.std.proofs.Common.{◌≡◌, ℕ, ◌<◌, true, false, List, [], length, slice_get, Option, Some, None, sym, ◌∙◌, ap, subst, arith}
+use Rattle.std.proofs.Common.{◌≡◌, ℕ, ◌<◌, true, false, List, [], length, slice_get, Some, None, ap, subst, arith}
 use Rattle.std.proofs.lemmas.Option.{slice_get_within}
 use Rattle.calltext.specs.Limits.{long}
 use Rattle.callorder.specs.Programs.{MpiProgram, IsProgramWithin}
@@ -15,7 +15,7 @@ use Rattle.leastrun.specs.declared.walk.Buffering.TheVariants.{Least, Most}
 use Rattle.leastrun.specs.LeastBuffered.{BuffersSo}
 use Rattle.leastrun.specs.Slots.{HasForms}
 use Rattle.leastrun.specs.Queues.{row}
-use Rattle.leastrun.specs.Waiting.{AreInOrder, IsKept, IsFresh}
+use Rattle.leastrun.specs.Waiting.{AreInOrder, IsKept, NoOpenPair}
 use Rattle.leastrun.proofs.Openings.{open_parts}
 
 abbrev empty : List ℕ
@@ -44,13 +44,8 @@ kept_opening p t is forms no_sends no_finders =
       finder_order = order_of_none p (opening p) t.finders no_finders;
     }
 
-pub fresh_opening : (p : MpiProgram) (m : Configuration) (fresh : Option ℕ) → IsProgramWithin long p → m ≡ opening p → fresh ≡ None → IsFresh p m fresh
-fresh_opening p m fresh is now none =
-    record {
-      only = λ s f pair. absurd (none_issued p s (programs_are_in_order long p is).0 (subst (λ (z : Configuration). is_issued p z s ≡ true) now pair.send_issued));
-      issued = λ c here. absurd (let both : ◌≡◌ {A = Option ℕ} None (Some c) = sym none ∙ here in cc);
-      last = λ c d here issued one. absurd (let both : ◌≡◌ {A = Option ℕ} None (Some c) = sym none ∙ here in cc);
-    }
+pub none_open_at_first : (p : MpiProgram) (m : Configuration) → IsProgramWithin long p → m ≡ opening p → NoOpenPair p m
+none_open_at_first p m is now s f pair = none_issued p s (programs_are_in_order long p is).0 (subst (λ (z : Configuration). is_issued p z s ≡ true) now pair.send_issued)
 
 no_step : (steps : List Step) (place : ℕ) (step : Step) → steps ≡ [] → slice_get steps place ≡ Some step → ⊥
 no_step steps place step none there =

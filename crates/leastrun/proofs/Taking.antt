@@ -1,5 +1,5 @@
 -- What waits once a step is taken, and once the fresh call waits too.
-use Rattle.std.proofs.Common.{◌≡◌, ◌≢◌, ℕ, ◌+◌, ◌<◌, ◌≤◌, ◌⊎◌, inl, inr, Bool, true, false, length, slice_get, slice_set, slice_index, Option, Some, None, sym, ◌∙◌, ap, subst, refl, arith, List}
+use Rattle.std.proofs.Common.{◌≡◌, ◌≢◌, ℕ, ◌+◌, ◌<◌, ◌≤◌, inl, inr, Bool, true, false, length, slice_get, slice_set, slice_index, Option, Some, None, sym, ◌∙◌, ap, subst, refl, arith, List}
 use Rattle.std.proofs.lemmas.Bool.{cases_eq}
 use Rattle.std.proofs.lemmas.Option.{slice_get_within}
 use Rattle.callorder.specs.declared.calls.Call.{Call}
@@ -12,11 +12,12 @@ use Rattle.races.proofs.Steps.{is_or_not, next_is, now_issued, issued_within, on
 use Rattle.races.proofs.Passing.{issued_call_before}
 use Rattle.leastrun.specs.declared.rows.Rows.{Rows}
 use Rattle.leastrun.specs.declared.tables.Tables.{Tables}
-use Rattle.leastrun.specs.Slots.{send_slot, finder_slot}
+use Rattle.leastrun.specs.declared.slot.Form.{Form}
+use Rattle.leastrun.specs.Slots.{HasForms}
+use Rattle.leastrun.specs.Along.{IsAddedTo}
 use Rattle.leastrun.specs.Queues.{row, StandsIn, IsGrown, IsPassed}
 use Rattle.leastrun.specs.declared.walk.Buffering.{Buffering}
-use Rattle.leastrun.specs.Waiting.{IsSendIn, IsFinderIn, AreInOrder, IsKept, NoOpenPair, IsFresh, fresh_after, IsSettled, IsNext}
-use Rattle.leastrun.proofs.Slotting.{same_at}
+use Rattle.leastrun.specs.Waiting.{IsSendIn, AreInOrder, IsKept, NoOpenPair, IsFresh, fresh_after, IsSettled, IsNext}
 use Rattle.leastrun.proofs.Queued.{grown_there}
 use Rattle.leastrun.proofs.Openings.{open_made, open_parts, pair_made, pair_open}
 
@@ -149,12 +150,12 @@ still_fresh buffering p m fresh (See s f) new next = fresh_by_find p m (See s f)
 
 -- ---- the fresh call waits
 
-order_grown : (p : MpiProgram) (m : Configuration) (old new : Rows) (c : ℕ) → IsFresh p m (Some c) → IsGrown old new c → AreInOrder p m old → AreInOrder p m new
-order_grown p m old new c fresh grown order =
+pub order_grown : (p : MpiProgram) (m : Configuration) (old new : Rows) (c : ℕ) → is_issued p m c ≡ true → ((q i d : ℕ) → slice_get (row old q) i ≡ Some d → are_of_one_rank p d c ≡ true → d ≤ c) → IsGrown old new c → AreInOrder p m old → AreInOrder p m new
+order_grown p m old new c issued last grown order =
     record {
       issued = λ q i e there. elim (grown.more q i e there) [
         | inl before ↦ order.issued q i e before
-        | inr last ↦ subst (λ (z : ℕ). is_issued p m z ≡ true) (sym last.1) (fresh.issued c refl)
+        | inr new_e ↦ subst (λ (z : ℕ). is_issued p m z ≡ true) (sym new_e.1) issued
       ];
       ordered = λ q i j d e first second below one. elim (grown.more q j e second) [
         | inl old_e ↦ elim (grown.more q i d first) [
@@ -165,7 +166,7 @@ order_grown p m old new c fresh grown order =
         ]
         | inr new_e ↦ elim (grown.more q i d first) [
           | inl old_d ↦
-              let low : d ≤ c = fresh.last c d refl (order.issued q i d old_d) (subst (λ (z : ℕ). are_of_one_rank p d z ≡ true) new_e.1 one) in
+              let low : d ≤ c = last q i d old_d (subst (λ (z : ℕ). are_of_one_rank p d z ≡ true) new_e.1 one) in
               omega (arith, low, new_e.1)
           | inr new_d ↦ omega (arith, new_d.1, new_e.1)
         ]
@@ -175,26 +176,24 @@ order_grown p m old new c fresh grown order =
 not_some : (c d : ℕ) → (c ≡ d → ⊥) → ◌≡◌ {A = Option ℕ} (Some c) (Some d) → ⊥
 not_some c d differ is = differ (same_some c d is)
 
-pub kept_posted : (p : MpiProgram) (m : Configuration) (t : Tables) (sends finders : Rows) (c : ℕ) (call : Call) → IsFresh p m (Some c) → IsKept p (Some c) m t → call_at p c ≡ Some call
-    → IsGrown t.sends sends c → IsSendIn t.forms.items sends call c → IsGrown t.finders finders c → IsFinderIn finders call c → IsKept p None m (record t { sends = sends; finders = finders })
-kept_posted p m t sends finders c call fresh kept here more_sends send_there more_finders finder_there =
+pub kept_posted : (p : MpiProgram) (m : Configuration) (t new : Tables) (c : ℕ) → IsFresh p m (Some c) → IsKept p (Some c) m t → IsAddedTo p c t new → IsKept p None m new
+kept_posted p m t new c fresh kept added =
     record {
-      all_forms = kept.all_forms;
-      sent = λ d other opened old there i q form listed slot. elim (cases_eq c d) [
-        | inl same ↦
-            let is : other ≡ call = same_at p d other call there (subst (λ (z : ℕ). call_at p z ≡ Some call) same here) in
-            subst (λ (z : ℕ). StandsIn sends q z) same (send_there i q form listed (ap (λ (z : Call). send_slot form z) (sym is) ∙ slot))
-        | inr differ ↦ grown_there t.sends sends c q d more_sends (kept.sent d other opened (not_some c d differ) there i q form listed slot)
-      ];
+      all_forms = subst (HasForms p) (sym added.forms) kept.all_forms;
+      sent = λ d other opened old there. subst (λ (z : List Form). IsSendIn z new.sends other d) (sym added.forms) (sent_there d other opened there);
       sought = λ d other opened old there q slot. elim (cases_eq c d) [
-        | inl same ↦
-            let is : other ≡ call = same_at p d other call there (subst (λ (z : ℕ). call_at p z ≡ Some call) same here) in
-            subst (λ (z : ℕ). StandsIn finders q z) same (finder_there q (ap finder_slot (sym is) ∙ slot))
-        | inr differ ↦ grown_there t.finders finders c q d more_finders (kept.sought d other opened (not_some c d differ) there q slot)
+        | inl same ↦ subst (λ (z : ℕ). StandsIn new.finders q z) same (added.sought other (subst (λ (z : ℕ). call_at p z ≡ Some other) (sym same) there) q slot)
+        | inr differ ↦ grown_there t.finders new.finders c q d added.finders (kept.sought d other opened (not_some c d differ) there q slot)
       ];
-      send_order = order_grown p m t.sends sends c fresh more_sends kept.send_order;
-      finder_order = order_grown p m t.finders finders c fresh more_finders kept.finder_order;
+      send_order = order_grown p m t.sends new.sends c (fresh.issued c refl) (λ q i d there one. fresh.last c d refl (kept.send_order.issued q i d there) one) added.sends kept.send_order;
+      finder_order = order_grown p m t.finders new.finders c (fresh.issued c refl) (λ q i d there one. fresh.last c d refl (kept.finder_order.issued q i d there) one) added.finders kept.finder_order;
     }
+  where
+    sent_there : (d : ℕ) (other : Call) → is_open p m d ≡ true → call_at p d ≡ Some other → IsSendIn t.forms.items new.sends other d
+    sent_there d other opened there i q form listed slot = elim (cases_eq c d) [
+      | inl same ↦ subst (λ (z : ℕ). StandsIn new.sends q z) same (added.sent other (subst (λ (z : ℕ). call_at p z ≡ Some other) (sym same) there) i q form listed slot)
+      | inr differ ↦ grown_there t.sends new.sends c q d added.sends (kept.sent d other opened (not_some c d differ) there i q form listed slot)
+    ]
 
 -- a fresh call that isn't open needs no place
 pub kept_closed : (p : MpiProgram) (m : Configuration) (t : Tables) (c : ℕ) → IsKept p (Some c) m t → is_open p m c ≡ false → IsKept p None m t
@@ -209,16 +208,6 @@ kept_closed p m t c kept closed =
   where
     not_this : (d : ℕ) → is_open p m d ≡ true → c ≡ d → ⊥
     not_this d opened same = let still : is_open p m c ≡ true = subst (λ (z : ℕ). is_open p m z ≡ true) (sym same) opened in absurd (cc)
-
--- nor does one that isn't there
-pub kept_absent : (p : MpiProgram) (m : Configuration) (t : Tables) (c : ℕ) → IsKept p (Some c) m t → call_at p c ≡ None → IsKept p None m t
-kept_absent p m t c kept none = kept_closed p m t c kept (closed (is_or_not (is_open p m c)))
-  where
-    closed : (is_open p m c ≡ true) ⊎ (is_open p m c ≡ false) → is_open p m c ≡ false
-    closed (inl on) =
-        let issued : is_issued_call m c None ≡ true = ap (is_issued_call m c) (sym none) ∙ (open_parts p m c on).0 in
-        absurd (cc)
-    closed (inr off) = off
 
 -- ---- what is matched is taken off
 

@@ -24,8 +24,8 @@ run_more p m steps next step s now run enabled more =
     subst (IsRun p m) (sym more) (IsRun-push p m steps step run (subst (λ (x : Configuration). IsEnabled p x step) now enabled))
 
 -- no run has so many steps
-pub too_long : (p : MpiProgram) (steps : List Step) (turn : ℕ) → IsRun p (opening p) steps → length steps ≡ turn → 2 * length p.calls + 1 ≤ turn → ⊥
-too_long p steps turn run size long = omega (arith, runs_are_short p steps run, size, long)
+pub too_long : (p : MpiProgram) (steps : List Step) (before turn : ℕ) → IsRun p (opening p) steps → before + turn ≡ length steps → 2 * length p.calls + 1 ≤ turn → ⊥
+too_long p steps before turn run size long = omega (arith, runs_are_short p steps run, size, long)
 
 last_of : (step : Step) (rank k : ℕ) (buffered : Bool) → slice_get (step ∷ []) k ≡ Some (Issue rank buffered) → (k ≡ 0) × (step ≡ Issue rank buffered)
 last_of step rank zero buffered there = (refl, same_Some step (Issue rank buffered) there)

@@ -1,5 +1,6 @@
-//! Runs of a program of any length: those that buffer as little and as much as the policy allows.
-//! And whether each receive and probe of a program names its source.
+//! Runs of a program of any length: those that buffer as little and as much as the policy allows, and
+//! one that goes through wanted steps. And whether each receive and probe of a program names its
+//! source.
 //!
 //! A run is made in one pass: each rank goes as far as it can, and a send or a finder that is issued
 //! finds at once, or is found by, the earliest call of the other side that waits for it. A finder is
@@ -9,6 +10,7 @@
 //! count from 0.
 #![tactic(auto)]
 
+mod along;
 mod lookup;
 mod rows;
 mod slot;
@@ -16,5 +18,6 @@ mod sources;
 mod tables;
 mod walk;
 
+pub use along::run_along;
 pub use sources::names_sources;
 pub use walk::{least_buffered_run, most_buffered_run};

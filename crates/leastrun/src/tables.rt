@@ -2,6 +2,7 @@
 
 ghost use Rattle.std.specs.Prelude.{ℕ, OnOk, IfOk, Option, None, Some};
 ghost use Rattle.semantics.specs.Machine.{opening};
+ghost use Rattle.leastrun.specs.Along.{AreOpenCalls, IsAddedTo};
 ghost use Rattle.leastrun.specs.Queues.{IsGrown, IsPassed};
 ghost use Rattle.leastrun.specs.Waiting.{IsSendIn, IsFinderIn, IsKept, IsFresh};
 
@@ -84,6 +85,18 @@ impl Tables {
         })
     }
 
+    /// Has the call wait. The only error is want of memory.
+    fn add(&mut self, program: &LongProgram, call: usize) -> Result<(), AllocError>
+        ensures { OnOk result (IsAddedTo program.now call self.old self.new) }
+    {
+        let Some(known) = program.call(call) else {
+            return Ok(());
+        };
+        add_send(&self.forms, &mut self.sends, &known, call)?;
+        add_finder(&mut self.finders, &known, call)?;
+        Ok(())
+    }
+
     /// Has the fresh call wait where it is open. The only error is want of memory.
     pub fn post(
         &mut self,
@@ -98,11 +111,26 @@ impl Tables {
         if !state.is_open(program, call) {
             return Ok(());
         }
-        let Some(known) = program.call(call) else {
-            return Ok(());
-        };
-        add_send(&self.forms, &mut self.sends, &known, call)?;
-        add_finder(&mut self.finders, &known, call)
+        self.add(program, call)?;
+        Ok(())
+    }
+
+    /// Has the open calls of a state wait. The only error is want of memory.
+    pub fn of(
+        alloc: Global,
+        program: &LongProgram,
+        state: &State,
+        calls: &[usize],
+    ) -> Result<Tables, AllocError>
+        requires { AreOpenCalls program.now state.now calls.now }
+        ensures { IfOk result (λ tables. IsKept program.now None state.now tables) }
+    {
+        let _calls = program.calls();
+        let mut tables = Tables::new(alloc, program)?;
+        for place in 0..calls.len() {
+            tables.add(program, calls[place])?;
+        }
+        Ok(tables)
     }
 
     /// Takes off the call's rows what is matched at their fronts.

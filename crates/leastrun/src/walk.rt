@@ -1,9 +1,10 @@
 //! The runs that buffer as little and as much as the policy allows.
 
-ghost use Rattle.std.specs.Prelude.{◌≡◌, ℕ, IfSome, IfNone, IfOk, OnOk, Option};
+ghost use Rattle.std.specs.Prelude.{◌≡◌, ℕ, [], IfSome, IfNone, IfOk, OnOk, None, Option};
 ghost use Rattle.semantics.specs.Machine.{IsConfigurationOf, opening, after_all};
+ghost use Rattle.leastrun.specs.Along.{IsReached};
 ghost use Rattle.leastrun.specs.Waiting.{IsKept, NoOpenPair, IsFresh, fresh_after, IsSettled, IsNext, NoIssueOf};
-ghost use Rattle.leastrun.specs.LeastBuffered.{NothingEnabled, IsLeastBufferedRun, IsMostBufferedRun, IsBufferedRun};
+ghost use Rattle.leastrun.specs.LeastBuffered.{BuffersSo, NothingEnabled, IsLeastBufferedRun, IsMostBufferedRun, IsBufferedRun};
 
 use crate::lookup::find_of;
 use crate::tables::Tables;
@@ -80,11 +81,38 @@ fn issue_of(program: &LongProgram, state: &State, buffering: Buffering, rank: u3
     }
 }
 
-/// An enabled issue of one of these ranks, which are taken off the list up to it.
+/// Whether the rank's next call is before its bound. A rank that has none is bounded by nothing.
+fn is_within(state: &State, bounds: &[usize], rank: u32) -> bool {
+    match (bounds.get(rank as usize), state.next_of(rank)) {
+        (Some(bound), Some(next)) => next < *bound,
+        _ => true,
+    }
+}
+
+/// The issue of the rank's next call, where that is before its bound.
+fn issue_within(
+    program: &LongProgram,
+    state: &State,
+    buffering: Buffering,
+    bounds: &[usize],
+    rank: u32,
+) -> Option<Step>
+    requires none_open { NoOpenPair program.now state.now }
+    ensures { IfSome result (IsNext buffering program.now state.now) }
+{
+    if !is_within(state, bounds, rank) {
+        return None;
+    }
+    issue_of(program, state, buffering, rank)
+}
+
+/// An enabled issue of one of these ranks, which are taken off the list up to it, of a call before
+/// its rank's bound.
 fn ready_issue(
     program: &LongProgram,
     state: &State,
     buffering: Buffering,
+    bounds: &[usize],
     ready: &mut Vec<u32>,
 ) -> Option<Step>
     requires none_open { NoOpenPair program.now state.now }
@@ -94,7 +122,7 @@ fn ready_issue(
         let Some(rank) = ready.pop() else {
             return None;
         };
-        let issue = issue_of(program, state, buffering, rank);
+        let issue = issue_within(program, state, buffering, bounds, rank);
         if issue.is_some() {
             return issue;
         }
@@ -118,32 +146,38 @@ fn any_issue(program: &LongProgram, state: &State, buffering: Buffering) -> Opti
     None
 }
 
-/// An enabled issue: of a rank that is ready, and where there is none, of any rank. The list of
-/// ready ranks misses none, so that all ranks are looked at once, at the end.
+/// An enabled issue: of a rank that is ready, and where there is none and no rank has a bound, of any
+/// rank. The list of ready ranks misses none, so that all ranks are looked at once, at the end.
 fn next_issue(
     program: &LongProgram,
     state: &State,
     buffering: Buffering,
+    bounds: &[usize],
     ready: &mut Vec<u32>,
 ) -> Option<Step>
     requires of { IsConfigurationOf program.now state.now }
     requires none_open { NoOpenPair program.now state.now }
     ensures some { IfSome result (IsNext buffering program.now state.now) }
-    ensures none { IfNone result (NothingEnabled program.now state.now) }
+    ensures none { bounds.now ≡ [] → IfNone result (NothingEnabled program.now state.now) }
 {
-    let issue = ready_issue(program, state, buffering, ready);
+    let issue = ready_issue(program, state, buffering, bounds, ready);
     if issue.is_some() {
         return issue;
+    }
+    if !bounds.is_empty() {
+        return None;
     }
     any_issue(program, state, buffering)
 }
 
 /// The next step: a find of the fresh call, and where there is none, that call waits from then on,
-/// and the step is an issue. `None` where no step is enabled. The only error is want of memory.
+/// and the step is an issue. `None` where no step is enabled but issues behind a bound. The only
+/// error is want of memory.
 fn next_step(
     program: &LongProgram,
     state: &State,
     buffering: Buffering,
+    bounds: &[usize],
     tables: &mut Tables,
     ready: &mut Vec<u32>,
     fresh: &mut Option<usize>,
@@ -155,10 +189,10 @@ fn next_step(
     ensures fresh { OnOk result (IsFresh program.now state.now fresh.new) }
     ensures settled { IfOk result (λ next. IfSome next (IsSettled fresh.new)) }
     ensures some { IfOk result (λ next. IfSome next (IsNext buffering program.now state.now)) }
-    ensures none { IfOk result (λ next. IfNone next (NothingEnabled program.now state.now)) }
+    ensures none { bounds.now ≡ [] → IfOk result (λ next. IfNone next (NothingEnabled program.now state.now)) }
 {
     let Some(call) = *fresh else {
-        return Ok(next_issue(program, state, buffering, ready));
+        return Ok(next_issue(program, state, buffering, bounds, ready));
     };
     let find = find_of(program, state, tables, call);
     if find.is_some() {
@@ -166,7 +200,7 @@ fn next_step(
     }
     tables.post(program, state, call)?;
     *fresh = None;
-    Ok(next_issue(program, state, buffering, ready))
+    Ok(next_issue(program, state, buffering, bounds, ready))
 }
 
 /// The fresh call once this step is taken, in a state before it.
@@ -261,28 +295,34 @@ fn all_ranks(alloc: Global, ranks: u32) -> Result<Vec<u32>, AllocError> {
     Ok(ready)
 }
 
-/// A run that buffers so, as far as it goes, and the state after it. The only error is want of
-/// memory.
-fn buffered_run(
+/// Goes on with a run, buffering so, as far as it goes and no rank past its bound; where no rank has a
+/// bound, until no step is enabled. The only error is want of memory.
+pub fn go_on(
     alloc: Global,
     program: &LongProgram,
     buffering: Buffering,
+    bounds: &[usize],
+    mut tables: Tables,
+    mut steps: Vec<Step>,
+    mut state: State,
 ) -> Result<(Vec<Step>, State), AllocError>
-    ensures run { IfOk result (λ walked. IsBufferedRun buffering program.now walked.0.items) }
-    ensures end { IfOk result (λ walked. walked.1 ≡ after_all (opening program.now) walked.0.items) }
+    requires reached { IsReached program.now steps.items state }
+    requires kept { IsKept program.now None state tables }
+    requires none_open { NoOpenPair program.now state }
+    ensures reached { IfOk result (λ walked. IsReached program.now walked.0.items walked.1) }
+    ensures ended { bounds.now ≡ [] → IfOk result (λ walked. NothingEnabled program.now walked.1) }
+    ensures choice { BuffersSo buffering program.now steps.items
+        → IfOk result (λ walked. BuffersSo buffering program.now walked.0.items) }
 {
     let probes = probes_of(alloc, program)?;
     let mut ready = all_ranks(alloc, program.ranks())?;
-    let mut tables = Tables::new(alloc, program)?;
-    let mut state = State::start(alloc, program)?;
-    let most = 2 * program.calls().len() + 1;
-    let mut steps = Vec::with_capacity(alloc, most)?;
     let mut fresh = None;
-    for turn in 0..most {
+    for turn in 0..2 * program.calls().len() + 1 {
         let next = next_step(
             program,
             &state,
             buffering,
+            bounds,
             &mut tables,
             &mut ready,
             &mut fresh,
@@ -299,6 +339,24 @@ fn buffered_run(
     Ok((steps, state))
 }
 
+/// A run that buffers so, as far as it goes and no rank past its bound, and the state after it. The
+/// only error is want of memory.
+pub fn buffered_run(
+    alloc: Global,
+    program: &LongProgram,
+    buffering: Buffering,
+    bounds: &[usize],
+) -> Result<(Vec<Step>, State), AllocError>
+    ensures run { bounds.now ≡ [] → IfOk result (λ walked. IsBufferedRun buffering program.now walked.0.items) }
+    ensures reached { IfOk result (λ walked. IsReached program.now walked.0.items walked.1) }
+{
+    let tables = Tables::new(alloc, program)?;
+    let state = State::start(alloc, program)?;
+    let steps = Vec::with_capacity(alloc, 2 * program.calls().len() + 1)?;
+    let walked = go_on(alloc, program, buffering, bounds, tables, steps, state)?;
+    Ok(walked)
+}
+
 /// The run that buffers as little as the policy allows, as far as it goes, and the state after it,
 /// in which no step is enabled. A standard send is issued as buffered only where the policy has
 /// each one buffered. Whether the run finishes or gets stuck, `State::unfinished` of that state
@@ -312,7 +370,7 @@ pub fn least_buffered_run(
     ensures run { IfOk result (λ walked. IsLeastBufferedRun program.now walked.0.items) }
     ensures end { IfOk result (λ walked. walked.1 ≡ after_all (opening program.now) walked.0.items) }
 {
-    let walked = buffered_run(alloc, program, Buffering::Least)?;
+    let walked = buffered_run(alloc, program, Buffering::Least, &[])?;
     Ok(walked)
 }
 
@@ -325,6 +383,6 @@ pub fn most_buffered_run(
     ensures run { IfOk result (λ walked. IsMostBufferedRun program.now walked.0.items) }
     ensures end { IfOk result (λ walked. walked.1 ≡ after_all (opening program.now) walked.0.items) }
 {
-    let walked = buffered_run(alloc, program, Buffering::Most)?;
+    let walked = buffered_run(alloc, program, Buffering::Most, &[])?;
     Ok(walked)
 }

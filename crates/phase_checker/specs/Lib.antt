@@ -4,3 +4,4 @@ pub mod Parts
 pub mod Laws
 pub mod Senders
 pub mod Early
+pub mod Hanging

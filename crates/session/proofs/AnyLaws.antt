@@ -120,7 +120,7 @@ asked_told run (to_decide_phases p out progress as_json) asks ends says =
       inr (inl (out, inr (progress, as_json, asks))),
       λ program held.
           let page = deadlock_page ends.1.2 says in
-          joined_hangs run.tells.writes run.before run.after p out as_json page.0 page.1 program page.2 page.3 held,
+          joined_hangs run.tells.writes run.before run.after out as_json p page.0 page.1 program page.2 page.3 held,
     ))))
 asked_told run (to_join p folder out as_json) asks ends says =
     inr (inr (inr (inl (
@@ -128,7 +128,7 @@ asked_told run (to_join p folder out as_json) asks ends says =
       inr (inl (out, inl (folder, as_json, asks))),
       λ program held.
           let page = deadlock_page ends.1 says in
-          joined_hangs run.tells.writes run.before run.after p out as_json page.0 page.1 program page.2 page.3 held,
+          joined_hangs run.tells.writes run.before run.after out as_json p page.0 page.1 program page.2 page.3 held,
     ))))
 asked_told run (to_phases p folder) asks ends says =
     inr (inr (inr (inl (

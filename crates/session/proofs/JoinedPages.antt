@@ -1,64 +1,96 @@
 -- The pages of `join`, `phases` and `decide --phases`, by what one run decides.
-use Rattle.std.proofs.Common.{◌≡◌, ◌∙◌, ◌++◌, ◌∷◌, [], ap, inl, inr, sym, Bool, true, List, ℕ, Result, Ok, Err, IfErr, IfOk, Some, zero, suc}
-use Rattle.std.specs.Prelude.{Option, slice_get, string_bytes}
+use Rattle.std.proofs.Common.{◌≡◌, ◌∙◌, ◌++◌, ◌∷◌, [], ap, inl, inr, subst, sym, Bool, true, false, List, ℕ, Result, Ok, Err, IfErr, IfOk, OnOk, Some, zero, suc}
+use Rattle.std.specs.Prelude.{Option, codes, slice_get, string_bytes}
 use Rattle.std.proofs.lemmas.Option.{same_Some}
 use Rattle.calltext.specs.Limits.{long}
 use Rattle.callorder.proofs.Lookups.{slice_get_of_append}
-use Rattle.semantics.specs.Headline.{IsNeverStuckWithin}
+use Rattle.semantics.specs.Headline.{IsStuckRunWithin}
 use Rattle.files.specs.Contents.{AreAll}
 use Rattle.deciding.specs.Decisions.{IsDecided}
 use Rattle.deciding.specs.declared.decision.Decision.{Decision}
 use Rattle.deciding.specs.declared.decision.Decision.TheVariants as decisions
 use Rattle.deciding.specs.declared.texts.Undecided.{Undecided}
-use Rattle.session.specs.Lines.{IsLine}
-use Rattle.session.specs.Pages.{IsScheduled, StopsBy}
-use Rattle.session.specs.Phasing.{AreIn, IsCutDecision, IsCutLine, IsCutPage, IsJoinDecision, IsJoinedPage, IsLackingLine, IsPhasesPage, is_race, path_in}
-use Rattle.session.specs.declared.by_phases.Lack.{Lack}
+use Rattle.session.specs.Pages.{HasStuckRun, IsDecideFile, IsDecisionPage, IsScheduled, IsUnread, StopsBy}
+use Rattle.session.specs.Phasing.{AreIn, IsCutDecision, IsCutLine, IsCutPage, IsFolderFile, IsJoinDecision, IsJoinFile, IsJoinedPage, IsPhasesPage, IsShownFile, is_race, path_in}
 use Rattle.session.specs.declared.commands.Stop.{Stop}
 use Rattle.session.specs.declared.commands.Stop.TheVariants as stop
 use Rattle.session.specs.declared.cut_files.Output.{Output}
 use Rattle.session.specs.declared.page.Page.{Page}
-use Rattle.session.specs.declared.told.Told.TheVariants as told
 
 abbrev pub Files : Type 0
 Files = List ℕ → Option (List ℕ)
 
--- ---- what phases show
-
--- what is shown is told, or what is lacking
-pub phases_told : (shown : Result (Unit {0}) Lack) (json : Bool) (program : List ℕ) (page : Result Page Stop)
-    → IfOk shown (λ done. IsNeverStuckWithin long program)
-    → IfOk shown (λ done. IfOk page (λ p. IsLine told.NoDeadlock json p.text.items p.status))
-    → IfErr shown (λ lack. IfOk page (λ p. IsLackingLine json p.text.items p.status))
-    → IfOk page (λ p. IsPhasesPage json program p.text.items p.status)
-phases_told (Ok done) json program (Ok page) never line lacking = inl (never, line)
-phases_told (Err lack) json program (Ok page) never line lacking = inr lacking
-phases_told shown json program (Err e) never line lacking = tt
-
 -- ---- one run's decision
 
-race_decision : (json : Bool) (program : List ℕ) (d : Result Decision Undecided) (text : List ℕ) (status : ℕ)
-    → is_race d ≡ true → IsPhasesPage json program text status → IsJoinDecision json program d text status
-race_decision json program (Ok decisions.NoDeadlock) text status race page = cc
-race_decision json program (Ok (decisions.Deadlock steps)) text status race page = cc
-race_decision json program (Ok (decisions.Race found)) text status race page = page
-race_decision json program (Err why) text status race page = cc
+race_decision : (tells : Bool) (old new : Files) (out : Option (List ℕ)) (json : Bool) (program : List ℕ) (d : Result Decision Undecided) (text : List ℕ) (status : ℕ)
+    → is_race d ≡ true → IsPhasesPage tells old new out json program text status → IsJoinDecision tells old new out json program d text status
+race_decision tells old new out json program (Ok decisions.NoDeadlock) text status race page = cc
+race_decision tells old new out json program (Ok (decisions.Deadlock steps)) text status race page = cc
+race_decision tells old new out json program (Ok (decisions.Race found)) text status race page = page
+race_decision tells old new out json program (Err why) text status race page = cc
 
-race_unscheduled : (tells : Bool) (old new : Files) (out : Option (List ℕ)) (d : Result Decision Undecided)
-    → is_race d ≡ true → new ≡ old → IsScheduled tells old new out d
-race_unscheduled tells old new out (Ok decisions.NoDeadlock) race same = same
-race_unscheduled tells old new out (Ok (decisions.Deadlock steps)) race same = cc
-race_unscheduled tells old new out (Ok (decisions.Race found)) race same = same
-race_unscheduled tells old new out (Err why) race same = same
+other_decision : (tells : Bool) (old new : Files) (out : Option (List ℕ)) (json : Bool) (program : List ℕ) (d : Result Decision Undecided) (text : List ℕ) (status : ℕ)
+    → is_race d ≡ false → IsScheduled tells old new out d → IsDecisionPage json program d text status → IsJoinDecision tells old new out json program d text status
+other_decision tells old new out json program (Ok decisions.NoDeadlock) text status race scheduled page = (scheduled, page)
+other_decision tells old new out json program (Ok (decisions.Deadlock steps)) text status race scheduled page = (scheduled, page)
+other_decision tells old new out json program (Ok (decisions.Race found)) text status race scheduled page = cc
+other_decision tells old new out json program (Err why) text status race scheduled page = (scheduled, page)
 
 -- ---- the page of the phases of a file's program
 
-pub race_joined : (tells : Bool) (old new : Files) (path : List ℕ) (out : Option (List ℕ)) (json : Bool) (program : List ℕ) (d : Result Decision Undecided)
-    (page : Result Page Stop) → new ≡ old → AreAll (old path) program → IsDecided program d → is_race d ≡ true
-    → IfOk page (λ p. IsPhasesPage json program p.text.items p.status) → IfOk page (λ p. IsJoinedPage tells old new path out json p.text.items p.status)
-race_joined tells old new path out json program d (Ok page) same all is race shown =
-    (program, d, all, is, race_unscheduled tells old new out d race same, race_decision json program d page.text.items page.status race shown)
-race_joined tells old new path out json program d (Err e) same all is race shown = tt
+pub race_joined : (tells : Bool) (old between new : Files) (path : List ℕ) (out : Option (List ℕ)) (json : Bool) (program given : List ℕ) (d : Result Decision Undecided)
+    (page : Result Page Stop) → between ≡ old → given ≡ program → AreAll (old path) program → IsDecided program d → is_race d ≡ true
+    → IfOk page (λ p. IsPhasesPage tells between new out json given p.text.items p.status) → IfOk page (λ p. IsJoinedPage tells old new path out json p.text.items p.status)
+race_joined tells old between new path out json program given d (Ok page) same one all is race shown = (
+  program,
+  d,
+  all,
+  is,
+  race_decision tells old new out json program d page.text.items page.status race
+      (subst (λ (bytes : List ℕ). IsPhasesPage tells old new out json bytes page.text.items page.status) one
+      (subst (λ (held : Files). IsPhasesPage tells held new out json given page.text.items page.status) same shown)),
+)
+race_joined tells old between new path out json program given d (Err e) same one all is race shown = tt
+
+pub other_joined : (tells : Bool) (old between new : Files) (path : List ℕ) (out : Option (List ℕ)) (json : Bool) (program given : List ℕ) (d : Result Decision Undecided)
+    (page : Result Page Stop) → between ≡ old → given ≡ program → AreAll (old path) program → IsDecided program d → is_race d ≡ false
+    → IfOk page (λ p. IsDecisionPage json given d p.text.items p.status) → OnOk page (IsScheduled tells between new out d)
+    → IfOk page (λ p. IsJoinedPage tells old new path out json p.text.items p.status)
+other_joined tells old between new path out json program given d (Ok page) same one all is race told scheduled = (
+  program,
+  d,
+  all,
+  is,
+  other_decision tells old new out json program d page.text.items page.status race
+      (subst (λ (held : Files). IsScheduled tells held new out d) same scheduled)
+      (subst (λ (bytes : List ℕ). IsDecisionPage json bytes d page.text.items page.status) one told),
+)
+other_joined tells old between new path out json program given d (Err e) same one all is race told scheduled = tt
+
+-- ---- files that fail
+
+-- where a schedule can't be written, the program has a run that gets stuck
+shown_hangs : (out : Option (List ℕ)) (file : Option (List ℕ)) (program given path : List ℕ) → given ≡ program → AreAll file program
+    → IsShownFile out given path → (out ≡ Some path) × HasStuckRun file
+shown_hangs out file program given path one all shown =
+    (shown.0, (program, shown.1, all, subst (λ (bytes : List ℕ). IsStuckRunWithin long bytes shown.1) one shown.2))
+
+pub stops_shown : (reads : List ℕ → Bool) (old between new : Files) (path : List ℕ) (out : Option (List ℕ)) (program given : List ℕ) (page : Result Page Stop)
+    → between ≡ old → given ≡ program → AreAll (old path) program → IfErr page (StopsBy (IsShownFile out given) between new)
+    → IfErr page (StopsBy (IsDecideFile reads path out old new) old new)
+stops_shown reads old between new path out program given (Ok page) same one all stops = tt
+stops_shown reads old between new path out program given (Err stop.Memory) same one all stops = stops ∙ same
+stops_shown reads old between new path out program given (Err (stop.File file)) same one all stops = inr (shown_hangs out (old path) program given file.now one all stops)
+
+pub stops_in_folder : (reads between_reads : List ℕ → Bool) (old between new : Files) (path folder : List ℕ) (out : Option (List ℕ)) (program given : List ℕ) (page : Result Page Stop)
+    → between ≡ old → between_reads ≡ reads → given ≡ program → AreAll (old path) program → IfErr page (StopsBy (IsFolderFile between_reads folder out given between new) between new)
+    → IfErr page (StopsBy (IsJoinFile reads path folder out old new) old new)
+stops_in_folder reads between_reads old between new path folder out program given (Ok page) same same_reads one all stops = tt
+stops_in_folder reads between_reads old between new path folder out program given (Err stop.Memory) same same_reads one all stops = stops ∙ same
+stops_in_folder reads between_reads old between new path folder out program given (Err (stop.File file)) same same_reads one all (inl named) =
+    inr (named.0, subst (λ (told : List ℕ → Bool). IsUnread told (path_in folder (codes "phases"))) same_reads named.1, named.2 ∙ same)
+stops_in_folder reads between_reads old between new path folder out program given (Err (stop.File file)) same same_reads one all (inr shown) =
+    inl (inr (shown_hangs out (old path) program given file.now one all shown))
 
 -- where memory alone can run out, that is why there is no page
 pub memory_stops : (IsFile : List ℕ → Type 0) (old new : Files) (page : Result Page Stop)

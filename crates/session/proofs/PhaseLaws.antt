@@ -24,59 +24,65 @@ use Rattle.session.proofs.TaskEnds.{task_ends}
 
 -- ---- pages
 
--- what phases tell is no deadlock
-phases_untold : (json : Bool) (program text : List ℕ) (status : ℕ) → IsPhasesPage json program text status → PageTells text status → ⊥
-phases_untold json program text status (inl shown) says =
-    let other : told.NoDeadlock ≡ told.Deadlock = line_tells told.NoDeadlock json text status shown.1 says in cc
-phases_untold json program text status (inr lacking) says = lacking_untold json text status lacking says
+module _ (tells : Bool) (before after : List ℕ → Option (List ℕ)) (out : Option (List ℕ)) (json : Bool) where
+  -- where phases tell a deadlock, they show a run that gets stuck
+  phases_hang : (program text : List ℕ) (status : ℕ) → IsPhasesPage tells before after out json program text status → PageTells text status
+      → (steps : List Step) × IsStuckRunWithin long program steps
+  phases_hang program text status (inl shown) says =
+      let other : told.NoDeadlock ≡ told.Deadlock = line_tells told.NoDeadlock json text status shown.2 says in absurd cc
+  phases_hang program text status (inr (inl hangs)) says = (hangs.0, hangs.1)
+  phases_hang program text status (inr (inr lacking)) says = absurd (lacking_untold json text status lacking.1 says)
 
--- and where it is that there is none, they show that
-phases_safe : (json : Bool) (program text : List ℕ) (status : ℕ)
-    → IsPhasesPage json program text status → PageTellsSafety text status → IsNeverStuckWithin long program
-phases_safe json program text status (inl shown) says = shown.0
-phases_safe json program text status (inr lacking) says = absurd (lacking_unsafe json text status lacking says)
+  -- where they tell that there is none, they show that
+  phases_safe : (program text : List ℕ) (status : ℕ) → IsPhasesPage tells before after out json program text status → PageTellsSafety text status
+      → IsNeverStuckWithin long program
+  phases_safe program text status (inl shown) says = shown.0
+  phases_safe program text status (inr (inl hangs)) says =
+      let other : told.Deadlock ≡ told.NoDeadlock = line_tells_safety told.Deadlock json text status hangs.3 says in absurd cc
+  phases_safe program text status (inr (inr lacking)) says = absurd (lacking_unsafe json text status lacking.1 says)
 
--- its status isn't 1
-phases_above : (json : Bool) (program text : List ℕ) → IsPhasesPage json program text 1 → ⊥
-phases_above json program text (inl shown) = omega (arith, shown.1.3)
-phases_above json program text (inr lacking) = omega (arith, lacking.3)
+  -- where the status is 1, the schedule of such a run is written
+  phases_written : (program text : List ℕ) → IsPhasesPage tells before after out json program text 1
+      → (steps : List Step) × IsStuckRunWithin long program steps × IsWritten tells before after out (schedule_text steps)
+  phases_written program text (inl shown) = absurd (omega (arith, shown.2.3))
+  phases_written program text (inr (inl hangs)) = (hangs.0, hangs.1, hangs.2)
+  phases_written program text (inr (inr lacking)) = absurd (omega (arith, lacking.1.3))
 
--- a page that tells a deadlock is of a program with a run that gets stuck
-pub joined_hangs : (tells : Bool) (before after : List ℕ → Option (List ℕ)) (p : List ℕ) (out : Option (List ℕ)) (json : Bool) (text : List ℕ)
-    (status : ℕ) (program : List ℕ) → IsJoinedPage tells before after p out json text status → PageTells text status → before p ≡ Some program
-    → (steps : List Step) × IsStuckRunWithin long program steps
-joined_hangs tells before after p out json text status program (given, Ok decisions.NoDeadlock, all, is, scheduled, page) says held =
-    let other : told.NoDeadlock ≡ told.Deadlock = line_tells told.NoDeadlock json text status page says in absurd cc
-joined_hangs tells before after p out json text status program (given, Ok (decisions.Deadlock steps), all, is, scheduled, page) says held =
-    (steps.items, subst (λ (bytes : List ℕ). IsStuckRunWithin long bytes steps.items) (all_are (before p) given program all held) is)
-joined_hangs tells before after p out json text status program (given, Ok (decisions.Race race), all, is, scheduled, page) says held =
-    absurd (phases_untold json given text status page says)
-joined_hangs tells before after p out json text status program (given, Err why, all, is, scheduled, page) says held =
-    absurd (not_stuck why (line_tells (told_of_undecided why) json text status page says))
+  -- a page that tells a deadlock is of a program with a run that gets stuck
+  pub joined_hangs : (p text : List ℕ) (status : ℕ) (program : List ℕ) → IsJoinedPage tells before after p out json text status → PageTells text status
+      → before p ≡ Some program → (steps : List Step) × IsStuckRunWithin long program steps
+  joined_hangs p text status program (given, Ok decisions.NoDeadlock, all, is, ends) says held =
+      let other : told.NoDeadlock ≡ told.Deadlock = line_tells told.NoDeadlock json text status ends.1 says in absurd cc
+  joined_hangs p text status program (given, Ok (decisions.Deadlock steps), all, is, ends) says held =
+      (steps.items, subst (λ (bytes : List ℕ). IsStuckRunWithin long bytes steps.items) (all_are (before p) given program all held) is)
+  joined_hangs p text status program (given, Ok (decisions.Race race), all, is, ends) says held =
+      subst (λ (bytes : List ℕ). (steps : List Step) × IsStuckRunWithin long bytes steps) (all_are (before p) given program all held)
+      (phases_hang given text status ends says)
+  joined_hangs p text status program (given, Err why, all, is, ends) says held =
+      absurd (not_stuck why (line_tells (told_of_undecided why) json text status ends.1 says))
 
--- one with the status 1 has its schedule written
-joined_written : (tells : Bool) (before after : List ℕ → Option (List ℕ)) (p : List ℕ) (out : Option (List ℕ)) (json : Bool) (text : List ℕ) (program : List ℕ)
-    → IsJoinedPage tells before after p out json text 1 → before p ≡ Some program
-    → (steps : List Step) × IsStuckRunWithin long program steps × IsWritten tells before after out (schedule_text steps)
-joined_written tells before after p out json text program (given, Ok decisions.NoDeadlock, all, is, scheduled, page) held = absurd (omega (arith, page.3))
-joined_written tells before after p out json text program (given, Ok (decisions.Deadlock steps), all, is, scheduled, page) held =
-    (steps.items, subst (λ (bytes : List ℕ). IsStuckRunWithin long bytes steps.items) (all_are (before p) given program all held) is, scheduled)
-joined_written tells before after p out json text program (given, Ok (decisions.Race race), all, is, scheduled, page) held =
-    absurd (phases_above json given text page)
-joined_written tells before after p out json text program (given, Err why, all, is, scheduled, page) held = absurd (omega (arith, page.3, undecided_above why))
+  -- one with the status 1 has its schedule written
+  joined_written : (p text program : List ℕ) → IsJoinedPage tells before after p out json text 1 → before p ≡ Some program
+      → (steps : List Step) × IsStuckRunWithin long program steps × IsWritten tells before after out (schedule_text steps)
+  joined_written p text program (given, Ok decisions.NoDeadlock, all, is, ends) held = absurd (omega (arith, ends.1.3))
+  joined_written p text program (given, Ok (decisions.Deadlock steps), all, is, ends) held =
+      (steps.items, subst (λ (bytes : List ℕ). IsStuckRunWithin long bytes steps.items) (all_are (before p) given program all held) is, ends.0)
+  joined_written p text program (given, Ok (decisions.Race race), all, is, ends) held =
+      subst (λ (bytes : List ℕ). (steps : List Step) × IsStuckRunWithin long bytes steps × IsWritten tells before after out (schedule_text steps))
+      (all_are (before p) given program all held) (phases_written given text ends)
+  joined_written p text program (given, Err why, all, is, ends) held = absurd (omega (arith, ends.1.3, undecided_above why))
 
--- one that tells that there is none is of a program that never gets stuck
-joined_safe : (tells : Bool) (before after : List ℕ → Option (List ℕ)) (p : List ℕ) (out : Option (List ℕ)) (json : Bool) (text : List ℕ)
-    (status : ℕ) (program : List ℕ) → IsJoinedPage tells before after p out json text status → PageTellsSafety text status → before p ≡ Some program
-    → IsNeverStuckWithin long program
-joined_safe tells before after p out json text status program (given, Ok decisions.NoDeadlock, all, is, scheduled, page) says held =
-    subst (λ (bytes : List ℕ). IsNeverStuckWithin long bytes) (all_are (before p) given program all held) is
-joined_safe tells before after p out json text status program (given, Ok (decisions.Deadlock steps), all, is, scheduled, page) says held =
-    let other : told.Deadlock ≡ told.NoDeadlock = line_tells_safety told.Deadlock json text status page says in absurd cc
-joined_safe tells before after p out json text status program (given, Ok (decisions.Race race), all, is, scheduled, page) says held =
-    subst (λ (bytes : List ℕ). IsNeverStuckWithin long bytes) (all_are (before p) given program all held) (phases_safe json given text status page says)
-joined_safe tells before after p out json text status program (given, Err why, all, is, scheduled, page) says held =
-    absurd (not_safe why (line_tells_safety (told_of_undecided why) json text status page says))
+  -- one that tells that there is none is of a program that never gets stuck
+  joined_safe : (p text : List ℕ) (status : ℕ) (program : List ℕ) → IsJoinedPage tells before after p out json text status → PageTellsSafety text status
+      → before p ≡ Some program → IsNeverStuckWithin long program
+  joined_safe p text status program (given, Ok decisions.NoDeadlock, all, is, ends) says held =
+      subst (IsNeverStuckWithin long) (all_are (before p) given program all held) is
+  joined_safe p text status program (given, Ok (decisions.Deadlock steps), all, is, ends) says held =
+      let other : told.Deadlock ≡ told.NoDeadlock = line_tells_safety told.Deadlock json text status ends.1 says in absurd cc
+  joined_safe p text status program (given, Ok (decisions.Race race), all, is, ends) says held =
+      subst (IsNeverStuckWithin long) (all_are (before p) given program all held) (phases_safe given text status ends says)
+  joined_safe p text status program (given, Err why, all, is, ends) says held =
+      absurd (not_safe why (line_tells_safety (told_of_undecided why) json text status ends.1 says))
 
 -- the page of `phases` that tells a deadlock is of such a program too
 pub cut_hangs : (before after : List ℕ → Option (List ℕ)) (p text : List ℕ) (status : ℕ) (program : List ℕ)
@@ -139,13 +145,13 @@ pub joined_phases : PhasesAreJoined
 joined_phases = record {
   safe = λ run p out program ends asks held says.
       let page = reassured_by_phases run p out ends asks says in
-      joined_safe run.tells.writes run.before run.after p out page.0 page.1 page.2 program page.3 page.4 held;
+      joined_safe run.tells.writes run.before run.after out page.0 p page.1 page.2 program page.3 page.4 held;
   stuck = λ run p out program ends asks held says.
       let page = told_by_phases run p out ends asks says in
-      joined_hangs run.tells.writes run.before run.after p out page.0 page.1 page.2 program page.3 page.4 held;
+      joined_hangs run.tells.writes run.before run.after out page.0 p page.1 page.2 program page.3 page.4 held;
   schedule = λ run p file program ends asks writes held one.
       let page = printed_by_phases run p (Some file) ends asks one in
-      let is = joined_written run.tells.writes run.before run.after p (Some file) page.0 page.1 program page.2 held in
+      let is = joined_written run.tells.writes run.before run.after (Some file) page.0 p page.1 program page.2 held in
       (is.0, is.1, is.2 writes);
   others = λ run p out path ends asks other. kept_by_phases run p out ends asks path other;
 }

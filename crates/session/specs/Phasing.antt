@@ -1,14 +1,18 @@
 -- The pages of `phases`, `join` and `decide --phases`.
 use Rattle.std.specs.Prelude.{◌≡◌, ◌≢◌, ◌⊎◌, ℕ, Bool, true, false, List, ◌++◌, codes, decimal, Option, Some, Result, Ok, Err, slice_get, string_bytes}
 use Rattle.calltext.specs.Limits.{long}
-use Rattle.semantics.specs.Headline.{IsNeverStuckWithin}
+use Rattle.semantics.specs.Headline.{IsNeverStuckWithin, IsStuckRunWithin}
+use Rattle.semantics.specs.declared.state.Step.{Step}
 use Rattle.files.specs.Contents.{AreAll}
 use Rattle.deciding.specs.Decisions.{IsDecided}
+use Rattle.deciding.specs.Schedules.{schedule_text}
 use Rattle.deciding.specs.declared.decision.Decision.{Decision}
 use Rattle.deciding.specs.declared.decision.Decision.TheVariants as decisions
 use Rattle.deciding.specs.declared.texts.Undecided.{Undecided}
 use Rattle.session.specs.Lines.{BeginsWith, IsLine, line_text}
-use Rattle.session.specs.Pages.{IsDecideFile, IsDecisionPage, IsProgram, IsScheduled, IsUnread}
+use Rattle.session.specs.Pages.{IsDecideFile, IsDecisionPage, IsProgram, IsScheduled, IsUnread, IsWritten}
+use Rattle.session.specs.declared.by_phases.Shown.{Shown}
+use Rattle.session.specs.declared.by_phases.Shown.TheVariants as shows
 use Rattle.session.specs.declared.cut_files.Output.{Output}
 use Rattle.session.specs.declared.told.Told.TheVariants as told
 
@@ -26,28 +30,50 @@ abbrev pub IsLackingLine : Bool → List ℕ → ℕ → Type 0
 IsLackingLine json text status =
     (words : List ℕ) × BeginsWith words (codes "unknown phases") × (text ≡ line_text json words 2) × (status ≡ 2)
 
--- phases show that no run of the program gets stuck, and that is told; or what they lack is
-abbrev pub IsPhasesPage : Bool → List ℕ → List ℕ → ℕ → Type 0
-IsPhasesPage json program text status =
-    (IsNeverStuckWithin long program × IsLine told.NoDeadlock json text status) ⊎ IsLackingLine json text status
+-- what phases show of the program that bytes are the text of
+abbrev pub IsShown : List ℕ → Shown → Type 0
+IsShown program shows.Never = IsNeverStuckWithin long program
+IsShown program (shows.Stuck steps) = IsStuckRunWithin long program steps.items
 
--- one run's decision is told, and where messages may race what phases tell
-abbrev pub IsJoinDecision : Bool → List ℕ → Result Decision Undecided → List ℕ → ℕ → Type 0
-IsJoinDecision json program (Ok (decisions.Race race)) text status = IsPhasesPage json program text status
-IsJoinDecision json program (Ok decisions.NoDeadlock) text status = IsDecisionPage json program (Ok decisions.NoDeadlock) text status
-IsJoinDecision json program (Ok (decisions.Deadlock steps)) text status = IsDecisionPage json program (Ok (decisions.Deadlock steps)) text status
-IsJoinDecision json program (Err why) text status = IsDecisionPage json program (Err why) text status
+-- Phases show that no run of the program gets stuck, and that is told; or a run that does, whose
+-- schedule is written; or what they lack is told. But for a schedule all files are as before.
+abbrev pub IsPhasesPage : Bool → (List ℕ → Option (List ℕ)) → (List ℕ → Option (List ℕ)) → Option (List ℕ) → Bool → List ℕ → List ℕ → ℕ → Type 0
+IsPhasesPage tells old new out json program text status =
+    (IsNeverStuckWithin long program × (new ≡ old) × IsLine told.NoDeadlock json text status)
+    ⊎ (((steps : List Step) × IsStuckRunWithin long program steps × IsWritten tells old new out (schedule_text steps) × IsLine told.Deadlock json text status)
+    ⊎ ((new ≡ old) × IsLackingLine json text status))
 
--- the page of `join`, and of `decide --phases`: so the program of the file is decided, and the
--- schedule of a deadlock is written
+-- one run's decision is told, and the schedule of a deadlock is written; where messages may race,
+-- the same of what phases tell
+abbrev pub IsJoinDecision : Bool → (List ℕ → Option (List ℕ)) → (List ℕ → Option (List ℕ)) → Option (List ℕ) → Bool → List ℕ → Result Decision Undecided → List ℕ → ℕ → Type 0
+IsJoinDecision tells old new out json program (Ok (decisions.Race race)) text status = IsPhasesPage tells old new out json program text status
+IsJoinDecision tells old new out json program (Ok decisions.NoDeadlock) text status =
+    IsScheduled tells old new out (Ok decisions.NoDeadlock) × IsDecisionPage json program (Ok decisions.NoDeadlock) text status
+IsJoinDecision tells old new out json program (Ok (decisions.Deadlock steps)) text status =
+    IsScheduled tells old new out (Ok (decisions.Deadlock steps)) × IsDecisionPage json program (Ok (decisions.Deadlock steps)) text status
+IsJoinDecision tells old new out json program (Err why) text status =
+    IsScheduled tells old new out (Err why) × IsDecisionPage json program (Err why) text status
+
+-- the page of `join`, and of `decide --phases`: so the program of the file is decided
 abbrev pub IsJoinedPage : Bool → (List ℕ → Option (List ℕ)) → (List ℕ → Option (List ℕ)) → List ℕ → Option (List ℕ) → Bool → List ℕ → ℕ → Type 0
 IsJoinedPage tells old new path out json text status =
     (program : List ℕ) × (d : Result Decision Undecided) × AreAll (old path) program × IsDecided program d
-    × IsScheduled tells old new out d × IsJoinDecision json program d text status
+    × IsJoinDecision tells old new out json program d text status
+
+-- the file at this path is the one that is named for a schedule, and some run of the program of
+-- this text gets stuck
+abbrev pub IsShownFile : Option (List ℕ) → List ℕ → List ℕ → Type 0
+IsShownFile out program path = (out ≡ Some path) × (steps : List Step) × IsStuckRunWithin long program steps
 
 -- the path of a file in a folder
 abbrev pub path_in : List ℕ → List ℕ → List ℕ
 path_in folder name = folder ++ (codes "/" ++ name)
+
+-- the file that failed is told as its folder: it has the order of the phases, and no file has
+-- changed; or it is the one that is named for a schedule, and there is one
+abbrev pub IsFolderFile : (List ℕ → Bool) → List ℕ → Option (List ℕ) → List ℕ → (List ℕ → Option (List ℕ)) → (List ℕ → Option (List ℕ)) → List ℕ → Type 0
+IsFolderFile reads folder out program old new path =
+    ((path ≡ folder) × IsUnread reads (path_in folder (codes "phases")) × (new ≡ old)) ⊎ IsShownFile out program path
 
 -- the file that failed is one that can fail in `decide`; or it is told as its folder: it has the
 -- order of the phases, and no file has changed

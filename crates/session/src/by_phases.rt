@@ -1,26 +1,29 @@
 //! The commands `join` and `decide --phases`, from the files that they name to the page that they
 //! print.
-ghost use Rattle.std.specs.Prelude.{◌≡◌, IfErr, IfOk, IsTrue, codes, string_bytes};
+ghost use Rattle.std.specs.Prelude.{◌≡◌, IfErr, IfOk, IsTrue, OnOk, Some, codes, option_map, string_bytes};
 ghost use Rattle.calltext.specs.Limits.{long};
 ghost use Rattle.semantics.specs.Headline.{IsNeverStuckWithin};
 ghost use Rattle.command_line.specs.Requests.{path_of};
 ghost use Rattle.session.specs.Endings.{IsFollowedRun};
 ghost use Rattle.session.specs.Lines.{IsLine};
 ghost use Rattle.session.specs.Pages.{ChangesAtMost, IsDecideFile, IsUnread, StopsBy};
-ghost use Rattle.session.specs.Phasing.{IsJoinFile, IsJoinedPage, IsLackingLine, IsPhasesPage, is_race, path_in};
+ghost use Rattle.session.specs.Phasing.{IsFolderFile, IsJoinFile, IsJoinedPage, IsPhasesPage, IsShown, IsShownFile, is_race, path_in};
 
 use crate::commands::{Open, Stop};
-use crate::decide::{decided, decision_page, read_whole};
+use crate::decide::{deadlock_page, decided, decision_page, read_whole};
 use crate::page::{Page, page_of, page_with};
 use crate::status::UNKNOWN;
 use crate::told::{Told, joined};
+use checker::{NoRun, stuck_run_of};
 use command_line::{ToDecidePhases, ToJoin};
 use cutting::cut;
 use deciding::{Decision, Undecided, decide, program_of};
 use files::{Extent, FileSet, LoadFault};
-use phase_checker::{NotAPhase, Phase, join};
+use phase_checker::{NotAPhase, Phase, join, stuck_by};
 use plaintext::{next_line, number_of};
-use prover::{Answer, Options, Reason, Verdict, prove};
+use prooflog::Text;
+use prover::{Answer, Options, Reason, Verdict, Why, prove};
+use semantics::Step;
 use std::alloc::{AllocError, Global};
 use std::io::Write;
 use std::sync::Wait;
@@ -48,13 +51,32 @@ pub fn is_race(decided: &Result<Decision, Undecided>) -> bool
     }
 }
 
-/// Why phases don't decide a program.
+/// What phases show.
+#[derive(Drop)]
+pub enum Shown {
+    /// No run of the program gets stuck.
+    Never,
+    /// These steps are a run that does.
+    Stuck(Vec<Step>),
+}
+
+/// A phase that gets stuck: its number, from 1, its text, and a run of it.
+#[derive(Drop)]
+pub struct StuckPhase {
+    number: usize,
+    text: Vec<u8>,
+    steps: Vec<Step>,
+}
+
+/// Why phases don't show that no run of a program gets stuck.
 #[derive(Drop)]
 pub enum Lack {
     /// Memory ran out.
     Memory,
     /// What is lacking, in words.
     Words(String),
+    /// A phase gets stuck.
+    Stuck(StuckPhase),
 }
 
 impl From<AllocError> for Lack {
@@ -113,16 +135,57 @@ fn judged<R: Threads + Wait + Sync>(
     match Phase::judged(rt, alloc, text, evidence, PIECES, &Open) {
         Ok(phase) => Ok(phase),
         Err(Verdict::Refused(Reason::Memory)) => Err(Lack::Memory),
-        Err(Verdict::Deadlock) => Err(lack_of(alloc, number, "gets stuck")),
+        Err(Verdict::Deadlock) => Err(stuck_by_evidence(alloc, number, text, evidence)),
         Err(_verdict) => Err(lack_of(alloc, number, "has an evidence that is refused")),
     }
 }
 
+/// That a phase gets stuck, by these steps.
+fn stuck_by_steps(alloc: Global, number: usize, text: &[u8], steps: &[Step]) -> Lack {
+    match stuck_phase(alloc, number, text, steps) {
+        Ok(stuck) => Lack::Stuck(stuck),
+        Err(AllocError) => Lack::Memory,
+    }
+}
+
+fn stuck_phase(
+    alloc: Global,
+    number: usize,
+    text: &[u8],
+    steps: &[Step],
+) -> Result<StuckPhase, AllocError> {
+    let text = Vec::from_slice(alloc, text)?;
+    let steps = Vec::from_slice(alloc, steps)?;
+    Ok(StuckPhase {
+        number,
+        text,
+        steps,
+    })
+}
+
+/// That a phase gets stuck, by the run that its evidence shows.
+fn stuck_by_evidence(alloc: Global, number: usize, text: &[u8], evidence: &[u8]) -> Lack {
+    match stuck_run_of(alloc, text, evidence) {
+        Ok(run) => stuck_by_steps(alloc, number, text, run.schedule.steps()),
+        Err(NoRun::Refused(Reason::Memory)) => Lack::Memory,
+        Err(_why) => lack_of(alloc, number, "gets stuck"),
+    }
+}
+
+/// That a phase gets stuck, by the one run that decides it.
+fn stuck_by_run(alloc: Global, number: usize, text: &[u8]) -> Lack {
+    match decide(alloc, text) {
+        Ok(Decision::Deadlock(steps)) => stuck_by_steps(alloc, number, text, &steps),
+        Err(Undecided::Memory) => Lack::Memory,
+        _ => lack_of(alloc, number, "gets stuck"),
+    }
+}
+
 /// What is lacking where one run shows no phase, unless messages may race.
-fn undecided(alloc: Global, number: usize, why: NotAPhase) -> Lack {
+fn undecided(alloc: Global, number: usize, text: &[u8], why: NotAPhase) -> Lack {
     match why {
         NotAPhase::Memory => Lack::Memory,
-        NotAPhase::Deadlock => lack_of(alloc, number, "gets stuck"),
+        NotAPhase::Deadlock => stuck_by_run(alloc, number, text),
         _ => lack_of(alloc, number, "is no program's text"),
     }
 }
@@ -203,22 +266,22 @@ fn phase_in<R: Threads + Wait + Sync, F: FileSet>(
             let evidence = read_phase(alloc, folder, number, ".evidence", lacking, files)?;
             judged(rt, alloc, number, &text, &evidence)
         }
-        Err(why) => Err(undecided(alloc, number, why)),
+        Err(why) => Err(undecided(alloc, number, &text, why)),
     }
 }
 
-/// So many phases.
-fn phases_in<R: Threads + Wait + Sync, F: FileSet>(
+/// Adds so many phases, up to the first that is none.
+fn put_phases_in<R: Threads + Wait + Sync, F: FileSet>(
+    phases: &mut Vec<Phase>,
     rt: &R,
     alloc: Global,
     folder: &str,
     count: usize,
     files: &mut F,
-) -> Result<Vec<Phase>, Lack>
+) -> Result<(), Lack>
     ensures same { F.held files.new ≡ F.held files.old }
     ensures same_reads { F.reads files.new ≡ F.reads files.old }
 {
-    let mut phases = Vec::new(alloc);
     for place in 0..count {
         let phase = phase_in(rt, alloc, folder, place + 1, files)?;
         match phases.push(phase) {
@@ -226,7 +289,7 @@ fn phases_in<R: Threads + Wait + Sync, F: FileSet>(
             Err(_) => return Err(Lack::Memory),
         }
     }
-    Ok(phases)
+    Ok(())
 }
 
 /// The phase of a text, by one run or by a search.
@@ -239,7 +302,7 @@ fn phase_of<R: Threads + Wait + Sync>(
     match Phase::decided(alloc, text) {
         Ok(phase) => Ok(phase),
         Err(NotAPhase::Race(_race)) => proved(rt, alloc, number, text),
-        Err(why) => Err(undecided(alloc, number, why)),
+        Err(why) => Err(undecided(alloc, number, text, why)),
     }
 }
 
@@ -254,23 +317,33 @@ fn proved<R: Threads + Wait + Sync>(
         return Err(lack_of(alloc, number, "isn't searched"));
     };
     match prove(rt, alloc, text, options, &Open) {
-        Answer::NoDeadlock(evidence) => {
-            let evidence = evidence.joined(alloc)?;
-            judged(rt, alloc, number, text, &evidence)
-        }
-        Answer::Deadlock(_evidence) => Err(lack_of(alloc, number, "gets stuck")),
+        Answer::NoDeadlock(evidence) => judged_by(rt, alloc, number, text, &evidence),
+        Answer::Deadlock(evidence) => judged_by(rt, alloc, number, text, &evidence),
+        Answer::Unknown(Why::Memory) => Err(Lack::Memory),
         Answer::Unknown(_why) => Err(lack_of(alloc, number, "isn't decided by a search")),
         Answer::Refused(_reason) => Err(lack_of(alloc, number, "is too large for a search")),
     }
 }
 
-/// The phases of these texts.
-fn phases_of<R: Threads + Wait + Sync>(
+/// The phase of a text, by the evidence that a search has found.
+fn judged_by<R: Threads + Wait + Sync>(
+    rt: &R,
+    alloc: Global,
+    number: usize,
+    text: &[u8],
+    evidence: &Text,
+) -> Result<Phase, Lack> {
+    let evidence = evidence.joined(alloc)?;
+    judged(rt, alloc, number, text, &evidence)
+}
+
+/// Adds the phases of these texts, up to the first that is none.
+fn put_phases_of<R: Threads + Wait + Sync>(
+    phases: &mut Vec<Phase>,
     rt: &R,
     alloc: Global,
     texts: &[Vec<u8>],
-) -> Result<Vec<Phase>, Lack> {
-    let mut phases = Vec::new(alloc);
+) -> Result<(), Lack> {
     for place in 0..texts.len() {
         let phase = phase_of(rt, alloc, place + 1, texts[place].as_slice())?;
         match phases.push(phase) {
@@ -278,7 +351,7 @@ fn phases_of<R: Threads + Wait + Sync>(
             Err(_) => return Err(Lack::Memory),
         }
     }
-    Ok(phases)
+    Ok(())
 }
 
 /// The places of phases, from 0, by the text of their order: their numbers, from 1, one a line.
@@ -309,11 +382,11 @@ fn count_of(order: &[usize]) -> usize {
 }
 
 /// Whether phases in this order make up the program, and show that no run of it gets stuck.
-fn joined_by(alloc: Global, text: &[u8], phases: &[Phase], order: &[usize]) -> Result<(), Lack>
-    ensures { IfOk result (λ done. IsNeverStuckWithin long text.now) }
+fn joined_by(alloc: Global, text: &[u8], phases: &[Phase], order: &[usize]) -> Result<Shown, Lack>
+    ensures { IfOk result (IsShown text.now) }
 {
     match join(alloc, text, phases, order) {
-        Ok(()) => Ok(()),
+        Ok(()) => Ok(Shown::Never),
         Err(why) => match joined(alloc, ": ", &why) {
             Ok(words) => Err(Lack::Words(words)),
             Err(AllocError) => Err(Lack::Memory),
@@ -321,7 +394,54 @@ fn joined_by(alloc: Global, text: &[u8], phases: &[Phase], order: &[usize]) -> R
     }
 }
 
-/// Whether the phases in a folder show it, in this order.
+/// The first place in the order of the phase of this number, which counts from 1.
+fn first_place(order: &[usize], number: usize) -> Option<usize> {
+    for place in 0..order.len() {
+        if order[place].saturating_add(1) == number {
+            return Some(place);
+        }
+    }
+    None
+}
+
+/// The run of the program along a phase that gets stuck, behind the phases before it; else that this
+/// phase gets stuck.
+fn run_by(
+    alloc: Global,
+    text: &[u8],
+    phases: &[Phase],
+    order: &[usize],
+    stuck: &StuckPhase,
+) -> Result<Shown, Lack>
+    ensures { IfOk result (IsShown text.now) }
+{
+    let Some(place) = first_place(order, stuck.number) else {
+        return Err(lack_of(alloc, stuck.number, "gets stuck"));
+    };
+    match stuck_by(alloc, text, phases, order, place, &stuck.text, &stuck.steps)? {
+        Some(steps) => Ok(Shown::Stuck(steps)),
+        None => Err(lack_of(alloc, stuck.number, "gets stuck")),
+    }
+}
+
+/// What phases show, all of which are there unless something is lacking.
+fn shown_by(
+    alloc: Global,
+    text: &[u8],
+    phases: &[Phase],
+    order: &[usize],
+    made: Result<(), Lack>,
+) -> Result<Shown, Lack>
+    ensures { IfOk result (IsShown text.now) }
+{
+    match made {
+        Ok(()) => joined_by(alloc, text, phases, order),
+        Err(Lack::Stuck(stuck)) => run_by(alloc, text, phases, order, &stuck),
+        Err(lack) => Err(lack),
+    }
+}
+
+/// What the phases in a folder show, in this order.
 fn joined_in<R: Threads + Wait + Sync, F: FileSet>(
     rt: &R,
     alloc: Global,
@@ -329,8 +449,8 @@ fn joined_in<R: Threads + Wait + Sync, F: FileSet>(
     folder: &str,
     order: &[u8],
     files: &mut F,
-) -> Result<(), Lack>
-    ensures never { IfOk result (λ done. IsNeverStuckWithin long text.now) }
+) -> Result<Shown, Lack>
+    ensures shown { IfOk result (IsShown text.now) }
     ensures same { F.held files.new ≡ F.held files.old }
     ensures same_reads { F.reads files.new ≡ F.reads files.old }
 {
@@ -338,35 +458,48 @@ fn joined_in<R: Threads + Wait + Sync, F: FileSet>(
         let words = String::from_str(alloc, ": the order of phases isn't one number a line")?;
         return Err(Lack::Words(words));
     };
-    let phases = phases_in(rt, alloc, folder, count_of(&order), files)?;
-    joined_by(alloc, text, &phases, &order)
+    let mut phases = Vec::new(alloc);
+    let made = put_phases_in(&mut phases, rt, alloc, folder, count_of(&order), files);
+    shown_by(alloc, text, &phases, &order, made)
 }
 
-/// Whether phases that are cut now show it.
-fn joined_now<R: Threads + Wait + Sync>(rt: &R, alloc: Global, text: &[u8]) -> Result<(), Lack>
-    ensures { IfOk result (λ done. IsNeverStuckWithin long text.now) }
+/// What phases that are cut now show.
+fn joined_now<R: Threads + Wait + Sync>(rt: &R, alloc: Global, text: &[u8]) -> Result<Shown, Lack>
+    ensures { IfOk result (IsShown text.now) }
 {
     let Ok(program) = program_of(alloc, text) else {
         return Err(Lack::Memory);
     };
     let cut = cut(alloc, &program)?;
-    let phases = phases_of(rt, alloc, &cut.texts)?;
-    joined_by(alloc, text, &phases, &cut.order)
+    let mut phases = Vec::new(alloc);
+    let made = put_phases_of(&mut phases, rt, alloc, &cut.texts);
+    shown_by(alloc, text, &phases, &cut.order, made)
 }
 
-/// The page of what phases show.
-fn phases_page<'a>(alloc: Global, shown: Result<(), Lack>, json: bool) -> Result<Page, Stop<'a>>
-    ensures shown { IfOk shown (λ done. IfOk result (λ page. IsLine Told.NoDeadlock json page.text.items page.status)) }
-    ensures lacking { IfErr shown (λ lack. IfOk result (λ page. IsLackingLine json page.text.items page.status)) }
-    ensures stop { IfErr result (λ stop. stop ≡ Stop.Memory) }
+/// The page of what phases show. The schedule of a deadlock is written where a file is named.
+fn phases_page<'a, F: FileSet>(
+    alloc: Global,
+    text: &[u8],
+    shown: Result<Shown, Lack>,
+    out: Option<&'a str>,
+    json: bool,
+    files: &mut F,
+) -> Result<Page, Stop<'a>>
+    requires { IfOk shown (IsShown text.now) }
+    ensures page { IfOk result (λ page. IsPhasesPage F.tells_written (F.held files.old) (F.held files.new)
+        (option_map (λ path. path.now) out.entry) json text.now page.text.items page.status) }
+    ensures others { ChangesAtMost (option_map (λ path. path.now) out.entry) (F.held files.old) (F.held files.new) }
+    ensures stop { IfErr result (StopsBy (IsShownFile (option_map (λ path. path.now) out.entry) text.now)
+        (F.held files.old) (F.held files.new)) }
 {
     match shown {
-        Ok(()) => Ok(page_of(alloc, &Told::NoDeadlock, json)?),
-        Err(Lack::Memory) => Err(Stop::Memory),
+        Ok(Shown::Never) => Ok(page_of(alloc, &Told::NoDeadlock, json)?),
+        Ok(Shown::Stuck(steps)) => deadlock_page(alloc, &steps, out, json, files),
         Err(Lack::Words(words)) => {
             let words = joined(alloc, "unknown phases", &words)?;
             Ok(page_with(alloc, words, UNKNOWN, json)?)
         }
+        Err(_lack) => Err(Stop::Memory),
     }
 }
 
@@ -403,15 +536,16 @@ fn folder_page<'a, R: Threads + Wait + Sync, F: FileSet>(
     asked: ToJoin<'a>,
     files: &mut F,
 ) -> Result<Page, Stop<'a>>
-    ensures page { IfOk result (λ page. IsPhasesPage asked.entry.json text.now page.text.items page.status) }
-    ensures same { F.held files.new ≡ F.held files.old }
+    ensures page { IfOk result (λ page. IsPhasesPage F.tells_written (F.held files.old) (F.held files.new)
+        (path_of asked.entry.out) asked.entry.json text.now page.text.items page.status) }
+    ensures others { ChangesAtMost (path_of asked.entry.out) (F.held files.old) (F.held files.new) }
     ensures stop { IfErr result (StopsBy
-        (λ path. (path ≡ asked.entry.folder.now) × IsUnread (F.reads files.old) (path_in asked.entry.folder.now (codes "phases")))
+        (IsFolderFile (F.reads files.old) asked.entry.folder.now (path_of asked.entry.out) text.now (F.held files.old) (F.held files.new))
         (F.held files.old) (F.held files.new)) }
 {
     let order = read_order(alloc, asked.folder, files)?;
     let shown = joined_in(rt, alloc, text, asked.folder, &order, files);
-    phases_page(alloc, shown, asked.json)
+    phases_page(alloc, text, shown, asked.out, asked.json, files)
 }
 
 /// Decides the program of a file by one run, and where messages may race cuts it into phases, and
@@ -437,7 +571,7 @@ pub fn decide_phases_page<'a, R: Threads + Wait + Sync, F: FileSet, E: Write>(
     let decision = decided(alloc, &text, asked.progress, err);
     if is_race(&decision) {
         let shown = joined_now(rt, alloc, &text);
-        return phases_page(alloc, shown, asked.json);
+        return phases_page(alloc, &text, shown, asked.out, asked.json, files);
     }
     decision_page(alloc, &text, &decision, asked.out, asked.json, files)
 }

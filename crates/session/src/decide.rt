@@ -123,7 +123,7 @@ pub fn decision_line(
 }
 
 /// The page of a deadlock, whose schedule is written where a file is named.
-fn deadlock_page<'a, F: FileSet>(
+pub fn deadlock_page<'a, F: FileSet>(
     alloc: Global,
     steps: &[Step],
     out: Option<&'a str>,

@@ -1,5 +1,5 @@
 use Rattle.std.proofs.Common.{◌≡◌}
-use Rattle.session.proofs.by_phases.phases_in.Given as goal
+use Rattle.session.proofs.by_phases.put_phases_in.Given as goal
 
 -- files are as they were
 abbrev pub invariant-loop-place : goal.invariant-loop-place
