@@ -1,12 +1,18 @@
 -- The formula of a program's runs that finish: that of its stuck runs, without the clause that some
 -- rank is unfinished, and with clauses that say that all ranks finish.
-use Rattle.std.specs.Prelude.{ℕ, ◌-◌, Bool, true, false, not, ◌&&◌, List, [], ◌∷◌, ◌++◌, map, filter, length, Option, Some, None, slice_get}
+use Rattle.std.specs.Prelude.{◌-◌, Bool, true, false, not, ◌&&◌, List, [], ◌∷◌, ◌++◌, map, filter, Option, Some, None, slice_get}
 use Rattle.std.specs.List.{flat_map, list_all}
 use Rattle.callorder.specs.Programs.{MpiProgram}
 use Rattle.candidates.specs.Pairs.{places, takers_of}
 use Rattle.clauses.specs.Clauses.{Literal, Conjunction}
-use Rattle.formulas.specs.Facts.{Fact, issued, buffered, matched, unfinished, Meaning, fact, clock_bit, before, same_bits, Statement, is_true}
-use Rattle.formulas.specs.Families.{SymbolicClause, Condition, at_once, if_matched, if_fetched, if_buffered_or_fetched, sends_of, last_calls, when_returned}
+use Rattle.formulas.specs.declared.facts.Fact.{Fact}
+use Rattle.formulas.specs.declared.facts.Fact.TheVariants.{Issued as issued, Buffered as buffered, Matched as matched, Unfinished as unfinished}
+use Rattle.formulas.specs.declared.facts.Meaning.{Meaning}
+use Rattle.formulas.specs.declared.facts.Meaning.TheVariants.{OfFact as fact, ClockBit as clock_bit, Before as before, SameBits as same_bits}
+use Rattle.formulas.specs.declared.facts.Statement.TheVariants.{Holds as is_true}
+use Rattle.formulas.specs.declared.facts.Condition.{Condition}
+use Rattle.formulas.specs.declared.facts.Condition.TheVariants.{AtOnce as at_once, IfMatched as if_matched, IfFetched as if_fetched, IfBufferedOrFetched as if_buffered_or_fetched}
+use Rattle.formulas.specs.Families.{SymbolicClause, sends_of, last_calls, when_returned}
 use Rattle.formulas.specs.Numbering.{meanings, numbered, formula_of}
 
 -- ---- all ranks finish
