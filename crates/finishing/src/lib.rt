@@ -1,0 +1,8 @@
+//! Whether some run of a program finishes, where one run doesn't tell it: by a formula, which is
+//! searched by one thread. A refutation is checked on the spot, and a run is taken step by step, so
+//! that nothing of the search is trusted.
+#![tactic(auto)]
+
+mod laws;
+
+pub use laws::{finished_runs_satisfy_formula, unsatisfiable_get_stuck};
