@@ -2,3 +2,4 @@ pub mod Shorter
 pub mod Drawn
 pub mod Losses
 pub mod Tellings
+pub mod Programs

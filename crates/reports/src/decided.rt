@@ -57,7 +57,7 @@ pub fn explain_run<R: Threads + Wait + Sync>(
     let program = program_of(alloc, text)?;
     let source = source_of(alloc, text)?;
     let asked = ask_if_short(rt, alloc, text, schedule, form)?;
-    run_text(alloc, text, &source, &program, steps, &asked, form)
+    run_text(rt, alloc, text, &source, &program, steps, &asked, form)
 }
 
 /// Tells that no run of the program of a text of any length ends stuck, and the program's numbers: of ranks, calls, messages and

@@ -42,7 +42,7 @@ fn deadlock_text<R: Threads + Wait + Sync>(
     let program: &LongProgram = &run.program;
     let steps = run.schedule.steps();
     let asked = ask(rt, alloc, text, program, steps, form)?;
-    run_text(alloc, text, &run.source, program, steps, &asked, form)
+    run_text(rt, alloc, text, &run.source, program, steps, &asked, form)
 }
 
 /// The text on the run that an evidence shows of a program.

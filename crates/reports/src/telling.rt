@@ -1,7 +1,8 @@
 //! A run that ends stuck in each form, and what decided it.
 
 ghost use Rattle.std.specs.Prelude.{◌≡◌, IfOk, option_copied};
-ghost use Rattle.callorder.specs.Resolving.{IsTextOf};
+ghost use Rattle.calltext.specs.Limits.{long};
+ghost use Rattle.callorder.specs.Resolving.{IsTextOf, IsTextOfWithin};
 ghost use Rattle.semantics.specs.Machine.{IsStuckRun};
 ghost use Rattle.frequency.specs.Frequencies.{IsFrequency};
 ghost use Rattle.explain.specs.Often.{BeginsWith, often_line};
@@ -11,9 +12,10 @@ use crate::deciders::deciders_of;
 use callorder::LongProgram;
 use calltext::LongSource;
 use charts::{chart, picture};
-use checker::{NoRun, Reason};
+use checker::{NoRun, Reason, program_of};
 use choices::{Decided, Limits, decide, decide_run, told};
 use explain::{explanation, wait_graph};
+use finishing::frequency_by_formula;
 use frequency::{Frequency, frequency_of};
 use htmlpage::page;
 use objects::object_text;
@@ -26,6 +28,12 @@ use std::thread::Threads;
 
 /// The most calls of a program of which runs by chance are tried.
 const FEW_CALLS: usize = 1_024;
+
+/// The most calls of a program of which a formula is asked whether some run finishes.
+const FEW_CALLS_OF_A_FORMULA: usize = 256;
+
+/// How many conflicts it takes before it is given up.
+const CONFLICTS: u64 = 20_000;
 
 /// How much is asked about what decided a run.
 fn limits() -> Limits {
@@ -105,10 +113,38 @@ fn asked_text(alloc: Global, text: &[u8], asked: &Asked) -> Result<String, Alloc
     }
 }
 
+/// How often the runs of a program get stuck, where no run that was tried finishes: of a program of at
+/// most 256 calls, a formula is asked.
+fn often_by_formula<R: Threads + Sync>(
+    rt: &R,
+    alloc: Global,
+    text: &[u8],
+    program: &LongProgram,
+) -> Result<Frequency, AllocError>
+    requires text { IsTextOfWithin long text.now program.now }
+    requires unknown { IsFrequency program.now Frequency.Unknown }
+    ensures { IfOk result (IsFrequency program.now) }
+{
+    if program.calls().len() > FEW_CALLS_OF_A_FORMULA {
+        return Ok(Frequency::Unknown);
+    }
+    match program_of(alloc, text) {
+        Ok(short) => frequency_by_formula(rt, alloc, short, CONFLICTS),
+        Err(Reason::Memory) => Err(AllocError),
+        Err(_reason) => Ok(Frequency::Unknown),
+    }
+}
+
 /// How often the runs of a program get stuck, where its runs that buffer most and least don't tell it:
 /// of a program of at most 1,024 calls, runs by chance are tried.
-fn often_by_chance(alloc: Global, program: &LongProgram) -> Result<Frequency, AllocError>
-    requires { IsFrequency program.now Frequency.Unknown }
+fn often_by_chance<R: Threads + Sync>(
+    rt: &R,
+    alloc: Global,
+    text: &[u8],
+    program: &LongProgram,
+) -> Result<Frequency, AllocError>
+    requires text { IsTextOfWithin long text.now program.now }
+    requires unknown { IsFrequency program.now Frequency.Unknown }
     ensures { IfOk result (IsFrequency program.now) }
 {
     if program.calls().len() > FEW_CALLS {
@@ -116,18 +152,24 @@ fn often_by_chance(alloc: Global, program: &LongProgram) -> Result<Frequency, Al
     }
     match finished_walk(alloc, program)? {
         Some(steps) => Ok(Frequency::Sometimes(steps)),
-        None => Ok(Frequency::Unknown),
+        None => often_by_formula(rt, alloc, text, program),
     }
 }
 
-/// How often the runs of a program get stuck.
-fn often(alloc: Global, program: &LongProgram) -> Result<Frequency, AllocError>
+/// How often the runs of the program of a text get stuck.
+fn often<R: Threads + Sync>(
+    rt: &R,
+    alloc: Global,
+    text: &[u8],
+    program: &LongProgram,
+) -> Result<Frequency, AllocError>
+    requires { IsTextOfWithin long text.now program.now }
     ensures { IfOk result (IsFrequency program.now) }
 {
     match frequency_of(alloc, program)? {
         Frequency::Always => Ok(Frequency::Always),
         Frequency::Sometimes(steps) => Ok(Frequency::Sometimes(steps)),
-        Frequency::Unknown => often_by_chance(alloc, program),
+        Frequency::Unknown => often_by_chance(rt, alloc, text, program),
     }
 }
 
@@ -154,7 +196,8 @@ fn words_of(
 }
 
 /// The text that explains a run of the program of this text, with all lists whole or not.
-fn explained_text(
+fn explained_text<R: Threads + Sync>(
+    rt: &R,
     alloc: Global,
     text: &[u8],
     source: &LongSource,
@@ -163,10 +206,11 @@ fn explained_text(
     asked: &Asked,
     whole: bool,
 ) -> Result<Vec<u8>, AllocError>
-    requires { IsStuckRun program.now steps.now }
+    requires text { IsTextOfWithin long text.now program.now }
+    requires stuck { IsStuckRun program.now steps.now }
     ensures { IfOk result (λ told. SaysHowOften program.now told.items) }
 {
-    let frequency = often(alloc, program)?;
+    let frequency = often(rt, alloc, text, program)?;
     words_of(
         alloc, text, source, program, steps, asked, &frequency, whole,
     )
@@ -184,7 +228,8 @@ fn well_steps(frequency: &Frequency) -> Option<&[Step]>
 
 /// The page that explains a run of the program of this text, with the timeline of a run that ends
 /// well below its own, where one is known.
-fn explained_page(
+fn explained_page<R: Threads + Sync>(
+    rt: &R,
     alloc: Global,
     text: &[u8],
     source: &LongSource,
@@ -192,10 +237,11 @@ fn explained_page(
     steps: &[Step],
     asked: &Asked,
 ) -> Result<Vec<u8>, AllocError>
-    requires { IsStuckRun program.now steps.now }
+    requires text { IsTextOfWithin long text.now program.now }
+    requires stuck { IsStuckRun program.now steps.now }
     ensures { IfOk result (λ told. IsDrawnFrom Form.Page text.now source.now program.now steps.now told.items) }
 {
-    let frequency = often(alloc, program)?;
+    let frequency = often(rt, alloc, text, program)?;
     let words = words_of(
         alloc, text, source, program, steps, asked, &frequency, false,
     )?;
@@ -204,7 +250,8 @@ fn explained_page(
 }
 
 /// The object that explains a run of the program of this text.
-fn explained_object(
+fn explained_object<R: Threads + Sync>(
+    rt: &R,
     alloc: Global,
     text: &[u8],
     source: &LongSource,
@@ -212,15 +259,17 @@ fn explained_object(
     steps: &[Step],
     asked: &Asked,
 ) -> Result<Vec<u8>, AllocError>
-    requires { IsStuckRun program.now steps.now }
+    requires text { IsTextOfWithin long text.now program.now }
+    requires stuck { IsStuckRun program.now steps.now }
 {
-    let frequency = often(alloc, program)?;
+    let frequency = often(rt, alloc, text, program)?;
     let deciders = deciders_of(alloc, asked)?;
     object_text(alloc, text, source, program, steps, &frequency, &deciders)
 }
 
 /// The text, in this form, on a run of the program of this text that ends stuck.
-pub fn run_text(
+pub fn run_text<R: Threads + Sync>(
+    rt: &R,
     alloc: Global,
     text: &[u8],
     source: &LongSource,
@@ -229,16 +278,17 @@ pub fn run_text(
     asked: &Asked,
     form: Form,
 ) -> Result<Vec<u8>, AllocError>
-    requires { IsStuckRun program.now steps.now }
+    requires text { IsTextOfWithin long text.now program.now }
+    requires stuck { IsStuckRun program.now steps.now }
     ensures { IfOk result (λ told. IsDrawnFrom form text.now source.now program.now steps.now told.items) }
 {
     match form {
         Form::Graph => wait_graph(alloc, text, source, program, steps),
         Form::Chart => chart(alloc, text, source, program, steps),
         Form::Picture => picture(alloc, text, source, program, steps),
-        Form::Page => explained_page(alloc, text, source, program, steps, asked),
-        Form::Object => explained_object(alloc, text, source, program, steps, asked),
-        Form::Brief => explained_text(alloc, text, source, program, steps, asked, false),
-        Form::Whole => explained_text(alloc, text, source, program, steps, asked, true),
+        Form::Page => explained_page(rt, alloc, text, source, program, steps, asked),
+        Form::Object => explained_object(rt, alloc, text, source, program, steps, asked),
+        Form::Brief => explained_text(rt, alloc, text, source, program, steps, asked, false),
+        Form::Whole => explained_text(rt, alloc, text, source, program, steps, asked, true),
     }
 }

@@ -1,10 +1,17 @@
 -- The text draws what the checker handed out.
-use Rattle.std.proofs.Common.{IfOk, List, subst}
+use Rattle.std.proofs.Common.{IfOk, List, subst, sym}
+use Rattle.calltext.specs.Limits.{long}
+use Rattle.callorder.specs.Resolving.{IsTextOfWithin}
 use Rattle.calltext.specs.Grammar.{ProgramText}
 use Rattle.callorder.specs.Programs.{MpiProgram}
 use Rattle.semantics.specs.declared.state.Step.{Step}
 use Rattle.reports.specs.Explanations.{IsDrawnFrom}
+use Rattle.reports.proofs.Programs.{long_text}
 use Rattle.reports.proofs.explained.deadlock_text.Goals as goal
+
+pub run_text-requires-clause-text : goal.run_text-requires-clause-text
+run_text-requires-clause-text g c =
+    subst (IsTextOfWithin long c.args.text.now) (sym c.deref-program.ensures) (long_text c.args.text.now c.args.run.now.program c.requires.program)
 
 pub returns : goal.returns
 returns g c =

@@ -8,11 +8,11 @@ use Rattle.reports.proofs.Drawn.{ends_well, page_drawn}
 use Rattle.reports.proofs.telling.explained_page.Goals as goal
 
 pub page-requires-clause-well : goal.page-requires-clause-well
-page-requires-clause-well c =
+page-requires-clause-well g c =
     subst (λ (well : Option (List Step)). IfSome well (IsFinishedRun c.args.program.now)) (sym c.well_steps-well.ensures) (ends_well c.args.program.now c.in_ok-frequency.frequency c.in_ok-frequency.ensures)
 
 pub returns : goal.returns
-returns c =
+returns g c =
     let p = c.args.program.now in
     page_drawn c.page.result c.args.text.now c.args.source.now p c.args.steps.now c.in_ok-frequency.frequency c.deref.result.now c.in_ok-frequency.ensures
     (subst (λ (words : List ℕ). BeginsWith (often_line c.in_ok-frequency.frequency) words) (sym c.deref.ensures.value) c.in_ok-words.ensures)

@@ -2,4 +2,4 @@ use Rattle.std.proofs.Common.{inl}
 use Rattle.reports.proofs.telling.run_text.Goals as goal
 
 pub picture-requires : goal.picture-requires
-picture-requires c = inl c.requires
+picture-requires g c = inl c.requires.stuck
