@@ -15,7 +15,7 @@ use charts::{chart, picture};
 use checker::{NoRun, Reason, program_of};
 use choices::{Decided, Limits, decide, decide_run, told};
 use explain::{explanation, wait_graph};
-use finishing::frequency_by_formula;
+use finishing::frequency_of_program;
 use frequency::{Frequency, frequency_of};
 use htmlpage::page;
 use objects::object_text;
@@ -129,7 +129,7 @@ fn often_by_formula<R: Threads + Sync>(
         return Ok(Frequency::Unknown);
     }
     match program_of(alloc, text) {
-        Ok(short) => frequency_by_formula(rt, alloc, short, CONFLICTS),
+        Ok(short) => frequency_of_program(rt, alloc, short, CONFLICTS),
         Err(Reason::Memory) => Err(AllocError),
         Err(_reason) => Ok(Frequency::Unknown),
     }
