@@ -1,7 +1,7 @@
 """Gives the built program long texts that are put together from small random parts, and judges what phases tell of them.
 
-`decide --phases` may say `no deadlock` or `deadlock` only where `prove` says the same of the whole, which is small enough for it. The
-folder that `phases` writes, with the evidence of each job, has to give `join` the same answer. Then the folder is spoiled: two lines of
+`decide --phases` may say `no deadlock` or `deadlock` only where `prove` says the same of the whole, which is small enough for it; and
+the schedule of a deadlock has to end stuck by `replay`. The folder that `phases` writes, with the evidence of each job, has to give `join` the same answer. Then the folder is spoiled: two lines of
 the order change places, a number is another phase's, an evidence is another's, a line of a phase moves to another rank. `join` may go
 on saying `no deadlock` only where `prove` says so of the whole, which stays what it is."""
 import argparse
@@ -89,6 +89,11 @@ class Trial:
         elif status < 2 and proved[0] < 2 and status != proved[0]:
             self.find(f'{what} gives {words}, and prove {proved[1]}')
 
+    def ends_stuck(self, *words):
+        """The schedule that is written with a deadlock is one of the whole."""
+        if self.run(*words, '--out', 'schedule')[0] == 1 and self.run('replay', 'long.mpi', 'schedule')[0] != 1:
+            self.find(f'the schedule of {" ".join(words)} does not end stuck')
+
     def spoil(self, draw):
         path = os.path.join(self.folder, 'phases', 'phases')
         order = open(path).read().split()
@@ -127,6 +132,8 @@ class Trial:
         for job in open(os.path.join(self.folder, 'phases', 'jobs')).read().split():
             self.run('prove', job, '--workers', '1', '--out', job[:-len('mpi')] + 'evidence')
         self.agree('join', self.run('join', 'long.mpi', 'phases'), proved)
+        self.ends_stuck('join', 'long.mpi', 'phases')
+        self.ends_stuck('decide', 'long.mpi', '--phases')
         for _ in range(3):
             self.spoil(draw)
             self.agree('join, spoiled', self.run('join', 'long.mpi', 'phases'), proved)
@@ -151,8 +158,9 @@ def main():
     for what in sorted(trial.counts):
         print(f'{trial.counts[what]:6} {what}')
     print(f'{tried} programs, {trial.findings} findings')
-    # A run in which nothing was decided by phases tells nothing.
-    return 1 if trial.findings or not trial.counts.get('join: no deadlock') else 0
+    # A run in which phases decided nothing, or no deadlock, tells nothing.
+    decided = all(trial.counts.get(f'join: {answer}') for answer in ('no deadlock', 'deadlock'))
+    return 1 if trial.findings or not decided else 0
 
 
 sys.exit(main())
