@@ -23,12 +23,26 @@ shares_text m =
     codes ", " ++ (decimal (tree_percent m) ++ (codes " % of the tree, " ++ (decimal (percent m.used m.budget)
     ++ (codes " % of the budget, " ++ (decimal (log_percent m) ++ codes " % of the log\n")))))
 
--- the line that tells how far a search is at a moment
-abbrev pub moment_line : Moment → List ℕ
-moment_line m =
+-- the line that tells that there is no formula yet
+abbrev pub forming_line : ℕ → List ℕ
+forming_line seconds = codes "progress " ++ (decimal seconds ++ codes " s: runs are tried, and the formula is made\n")
+
+-- the line that tells how many clauses the formula has
+abbrev pub formed_line : ℕ → ℕ → List ℕ
+formed_line seconds clauses =
+    codes "progress " ++ (decimal seconds ++ (codes " s: the formula has " ++ (decimal clauses ++ codes " clauses, and is searched next\n")))
+
+-- the line that tells how far the workers are
+abbrev pub search_line : Moment → List ℕ
+search_line m =
     codes "progress " ++ (decimal m.seconds ++ (codes " s: " ++ (decimal m.open ++ (codes " cubes open, " ++ (decimal m.closed
     ++ (codes " closed, " ++ (decimal m.lines ++ (codes " lines, " ++ (decimal m.conflicts ++ (codes " conflicts, " ++ (decimal m.set_lines
     ++ (codes " set lines" ++ shares_text m))))))))))))
+
+-- the line that tells how far a search is at a moment
+abbrev pub moment_line : Moment → List ℕ
+moment_line m =
+    if m.is_begun then search_line m else (if m.clauses == 0 then forming_line m.seconds else formed_line m.seconds m.clauses)
 
 -- more seconds have passed than these at the first of some moments, and at each other one more than at the one before it
 abbrev pub Rises : ℕ → List Moment → Type 0

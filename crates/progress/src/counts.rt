@@ -21,6 +21,10 @@ fn share_of(depth: usize) -> u64
 pub struct Counts {
     /// How many conflicts each worker may count.
     budget: u32,
+    /// How many clauses the formula has; 0 until it is made.
+    clauses: AtomicU64,
+    /// 0 until a worker begins.
+    begun: AtomicU64,
     open: AtomicU64,
     closed: AtomicU64,
     /// How much of the tree is closed.
@@ -41,6 +45,8 @@ impl Counts {
     {
         Counts {
             budget,
+            clauses: AtomicU64::new(0),
+            begun: AtomicU64::new(0),
             open: AtomicU64::new(0),
             closed: AtomicU64::new(0),
             share: AtomicU64::new(0),
@@ -72,6 +78,8 @@ impl Counts {
         let share = self.share.load(Ordering::SeqCst);
         Moment {
             seconds,
+            clauses: self.clauses.load(Ordering::SeqCst),
+            is_begun: self.begun.load(Ordering::SeqCst) != 0,
             open: self.open.load(Ordering::SeqCst),
             closed: self.closed.load(Ordering::SeqCst),
             share,
@@ -90,9 +98,16 @@ impl Counts {
 }
 
 impl Gate for Counts {
-    fn before(&self, _worker: u32, _cube: u32) {}
+    fn formed(&self, clauses: usize) {
+        self.clauses.store(clauses as u64, Ordering::SeqCst);
+    }
+
+    fn before(&self, _worker: u32, _cube: u32) {
+        self.begun.store(1, Ordering::SeqCst);
+    }
 
     fn after(&self, _worker: u32, searched: Searched) {
+        self.begun.store(1, Ordering::SeqCst);
         self.open.store(u64::from(searched.open), Ordering::SeqCst);
         self.used.fetch_max(searched.used, Ordering::SeqCst);
         if searched.is_closed {

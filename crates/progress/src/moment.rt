@@ -1,7 +1,7 @@
 //! How far a search is at some moment, and the line that tells it.
 
 ghost use Rattle.std.specs.Prelude.{◌≡◌, ◌≤◌, ◌^◌, ◌++◌, IfOk, OnOk, decimal};
-ghost use Rattle.progress.specs.Telling.{log_percent, moment_line, percent, shares_text, tree_percent};
+ghost use Rattle.progress.specs.Telling.{formed_line, forming_line, log_percent, moment_line, percent, search_line, shares_text, tree_percent};
 
 use itoa::Buffer;
 use std::alloc::{AllocError, Global};
@@ -14,6 +14,10 @@ pub(crate) const WHOLE: u64 = 1 << 56;
 pub struct Moment {
     /// How many whole seconds have passed.
     pub seconds: u64,
+    /// How many clauses the formula has; none before it is made.
+    pub clauses: u64,
+    /// Whether a worker has begun.
+    pub is_begun: bool,
     /// How many cubes are open; none before the search begins.
     pub open: u64,
     /// How many cubes were refuted.
@@ -85,9 +89,43 @@ fn put_shares(line: &mut Vec<u8>, moment: &Moment) -> Result<(), AllocError>
     Ok(())
 }
 
+/// The line that tells that there is no formula yet.
+fn forming_line(alloc: Global, seconds: u64) -> Result<Vec<u8>, AllocError>
+    ensures { IfOk result (λ line. line.items ≡ forming_line seconds) }
+{
+    let mut line = Vec::new(alloc);
+    put(&mut line, "progress ", seconds)?;
+    line.extend_from_slice(b" s: runs are tried, and the formula is made\n")?;
+    Ok(line)
+}
+
+/// The line that tells how many clauses the formula has.
+fn formed_line(alloc: Global, seconds: u64, clauses: u64) -> Result<Vec<u8>, AllocError>
+    ensures { IfOk result (λ line. line.items ≡ formed_line seconds clauses) }
+{
+    let mut line = Vec::new(alloc);
+    put(&mut line, "progress ", seconds)?;
+    put(&mut line, " s: the formula has ", clauses)?;
+    line.extend_from_slice(b" clauses, and is searched next\n")?;
+    Ok(line)
+}
+
 /// The line that tells it.
 pub(crate) fn line_of(alloc: Global, moment: &Moment) -> Result<Vec<u8>, AllocError>
     ensures { IfOk result (λ line. line.items ≡ moment_line moment.now) }
+{
+    if moment.is_begun {
+        return search_line(alloc, moment);
+    }
+    if moment.clauses == 0 {
+        return forming_line(alloc, moment.seconds);
+    }
+    formed_line(alloc, moment.seconds, moment.clauses)
+}
+
+/// The line that tells how far the workers are.
+fn search_line(alloc: Global, moment: &Moment) -> Result<Vec<u8>, AllocError>
+    ensures { IfOk result (λ line. line.items ≡ search_line moment.now) }
 {
     let mut line = Vec::new(alloc);
     put(&mut line, "progress ", moment.seconds)?;

@@ -42,7 +42,8 @@ fn to_next_second(passed: Duration) -> Duration {
 
 /// Tells once a second how far the search is, from its first second on, until it is over.
 ///
-/// The line is `progress S s: N cubes open, N closed, N lines, N conflicts, N set lines, N % of the tree, N % of the budget, N % of the log`. Each has
+/// Before a worker begins the line is `progress S s: runs are tried, and the formula is made`, and then `progress S s: the formula has N
+/// clauses, and is searched next`. Then it is `progress S s: N cubes open, N closed, N lines, N conflicts, N set lines, N % of the tree, N % of the budget, N % of the log`. Each has
 /// more whole seconds than the one before it. Where the clock or the output fails, or memory runs out, nothing more is told.
 pub fn tell<R: Wait, C: Clock, E: Write>(
     rt: &R,

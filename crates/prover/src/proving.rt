@@ -147,6 +147,7 @@ fn answer_over<G: Gate + Sync, R: Threads + Wait + Sync>(
     requires within { HasFormula encoded.program }
     ensures { (text : List ℕ) → IsTextOf text encoded.program → Answers text result }
 {
+    gate.formed(encoded.formula().len());
     match pool_of(rt, alloc, encoded, options, gate) {
         Ok((pool, was_short)) => answer_of(rt, alloc, pool, was_short, part_count(options)),
         Err(why) => Answer::Unknown(why),
@@ -210,7 +211,8 @@ fn answered<G: Gate + Sync, R: Threads + Wait + Sync>(
 /// tree that `split` gives at the depth of the options, each with the budget of the options and in a thread of its own where one can be started.
 /// Cube k of the first tree, from 0 in the order of its nodes, goes to worker k modulo their number; a worker without cubes takes another's. Each
 /// searches over sets of matched calls, too, in turn with cubes; these sets are shared. Who refutes the formula first closes all cubes. The options
-/// may ask for some of these searches alone. `gate.before` is called before each cube, and `gate.after` after each search.
+/// may ask for some of these searches alone. `gate.formed` is called
+/// once there is a formula, `gate.before` before each cube, and `gate.after` after each search.
 pub fn prove<G: Gate + Sync, R: Threads + Wait + Sync>(
     rt: &R,
     alloc: Global,

@@ -49,9 +49,13 @@ impl Searched {
     }
 }
 
-/// Is called before each cube of the search, so that a test can hold workers back, and after each search, so that it can be told
-/// how far they are.
+/// Is called before each cube of the search, so that a test can hold workers back, and once the formula is made and after each
+/// search, so that it can be told how far they are.
 pub trait Gate {
+    /// Called once the formula is made, with how many clauses it has, before the workers begin. A gate that leaves it out only
+    /// holds back.
+    fn formed(&self, _clauses: usize) {}
+
     /// Called by a worker, from 0, before it searches below a cube, by the number of its leaf, from 0.
     fn before(&self, worker: u32, cube: u32);
 

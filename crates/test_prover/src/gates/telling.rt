@@ -201,6 +201,25 @@ fn told_of<R: Wait>(rt: &R, alloc: Global, counts: &Counts) -> Result<Vec<u8>, F
     Ok(told)
 }
 
+/// Before a worker begins it is told that the formula is made, and then how large it is.
+#[test]
+fn the_formula_is_told_first(rt: HostRuntime) -> Result<(), Fail> {
+    let counts = Counts::new(1);
+    let forming = told_of(&rt, rt.alloc(), &counts)?;
+    assert_eq!(rt;
+        str::from_utf8(&forming)?,
+        "progress 1 s: runs are tried, and the formula is made\n"
+    );
+    let counts = Counts::new(1);
+    counts.formed(40);
+    let formed = told_of(&rt, rt.alloc(), &counts)?;
+    assert_eq!(rt;
+        str::from_utf8(&formed)?,
+        "progress 1 s: the formula has 40 clauses, and is searched next\n"
+    );
+    Ok(())
+}
+
 /// All of the tree is told to be closed once no cube is open, and a budget of none has no share.
 #[test]
 fn the_whole_tree_is_told_last(rt: HostRuntime) -> Result<(), Fail> {

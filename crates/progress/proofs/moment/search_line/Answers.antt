@@ -1,15 +1,7 @@
-use Rattle.std.proofs.Common.{◌≡◌, ◌∙◌, ap, List, ℕ, ◌++◌, append_assoc, codes, decimal}
+use Rattle.std.proofs.Common.{◌∙◌, ap, List, ℕ, ◌++◌, codes, decimal}
 use Rattle.progress.specs.Telling.{shares_text}
-use Rattle.progress.proofs.moment.line_of.Goals as goal
-
--- what is written after words and a number stands behind them
-then_more : (old words number more new : List ℕ) → new ≡ old ++ (words ++ number) → new ++ more ≡ old ++ (words ++ (number ++ more))
-then_more old words number more new is =
-    ap (λ (l : List ℕ). l ++ more) is ∙ append_assoc old (words ++ number) more ∙ ap (λ (l : List ℕ). old ++ l) (append_assoc words number more)
-
--- two parts that are written one after the other
-then_two : (old words more mid new : List ℕ) → mid ≡ old ++ words → new ≡ mid ++ more → new ≡ old ++ (words ++ more)
-then_two old words more mid new mid_is is = is ∙ ap (λ (l : List ℕ). l ++ more) mid_is ∙ append_assoc old words more
+use Rattle.progress.proofs.Parts.{then_more, then_two}
+use Rattle.progress.proofs.moment.search_line.Goals as goal
 
 pub returns : goal.returns
 returns c =

@@ -1,0 +1,11 @@
+use Rattle.std.proofs.Common.{◌∙◌, ap, List, ℕ, ◌++◌, codes, decimal}
+use Rattle.progress.proofs.Parts.{then_more}
+use Rattle.progress.proofs.moment.forming_line.Goals as goal
+
+pub returns : goal.returns
+returns c =
+    let two = codes " s: runs are tried, and the formula is made\n" in
+    let one = codes "progress " ++ (decimal c.args.seconds ++ two) in
+    c.in_ok-extend_from_slice.ensures.items
+    ∙ then_more _ (codes "progress ") (decimal c.args.seconds) two _ c.in_ok-put.ensures
+    ∙ ap (λ (l : List ℕ). l ++ one) c.new-line.ensures.items
