@@ -5,3 +5,4 @@ pub mod Named
 pub mod Unfinished
 pub mod Satisfied
 pub mod Sticking
+pub mod Growing

@@ -3,6 +3,14 @@
 //! that nothing of the search is trusted.
 #![tactic(auto)]
 
+mod asking;
+mod checking;
+mod endings;
+mod following;
+mod formula;
 mod laws;
+mod searching;
 
+pub use asking::frequency_of_program;
 pub use laws::{finished_runs_satisfy_formula, unsatisfiable_get_stuck};
+pub use searching::frequency_of_encoded;
