@@ -66,12 +66,14 @@ fn frequency_with(
     }
 }
 
-/// How often the runs of a program get stuck, by a formula that is satisfied where some run finishes, where one run doesn't
-/// tell it: as [`frequency_of_encoded`] tells it of the program with its formula.
+/// How often the runs of a program get stuck, by a formula that is satisfied where some run
+/// finishes, where one run doesn't tell it: as [`frequency_of_encoded`] tells it of the program
+/// with its formula.
 ///
-/// `Unknown` is told, too, of a program that is too large for a formula: one with more than 8,192 fitting pairs of a send and
-/// a finder, 1,024 events or 4,000,000 clauses. A call is an event, and each receive, matched probe and probe is one more.
-/// Threads find the earlier calls of its pairs; what is told doesn't depend on how many. The only error is want of memory.
+/// `Unknown` is told, too, of a program that is too large for a formula: one with more than 8,192
+/// fitting pairs of a send and a finder, 1,024 events or 4,000,000 clauses. A call is an event, and
+/// each receive, matched probe and probe is one more. Threads find the earlier calls of its pairs;
+/// what is told doesn't depend on how many. The only error is want of memory.
 pub fn frequency_of_program(
     rt: &(impl Threads + Sync),
     alloc: Global,

@@ -11,8 +11,8 @@ use clauses::Formula;
 use refutations::{Line, Node, PartialAssignment, ProofTree, TreeFault, check_line_in, check_tree};
 use std::alloc::{AllocError, Global};
 
-/// The number of the first line behind the clauses of the formula. One that doesn't fit counts as the largest that does, which
-/// no line can hold as a hint.
+/// The number of the first line behind the clauses of the formula. One that doesn't fit counts as
+/// the largest that does, which no line can hold as a hint.
 fn first_number(formula: &Formula) -> u32 {
     u32::try_from(formula.len().saturating_add(1)).unwrap_or(u32::MAX)
 }
@@ -77,8 +77,8 @@ fn checked_lines(
     Ok(Some(lines))
 }
 
-/// Whether the clause of this number, of the formula's clauses and then the lines, is empty: whether the tree whose only leaf
-/// names it refutes.
+/// Whether the clause of this number, of the formula's clauses and then the lines, is empty:
+/// whether the tree whose only leaf names it refutes.
 fn is_closed(
     alloc: Global,
     formula: &Formula,
@@ -100,8 +100,9 @@ fn is_closed(
     }
 }
 
-/// Whether the lines of a search refute the formula: each derives from the formula and those before it, and the clause that
-/// the hint names is empty. The only error is want of memory. It takes as much memory as the lines.
+/// Whether the lines of a search refute the formula: each derives from the formula and those before
+/// it, and the clause that the hint names is empty. The only error is want of memory. It takes as
+/// much memory as the lines.
 pub fn is_refuted(
     alloc: Global,
     formula: &Formula,
@@ -114,5 +115,10 @@ pub fn is_refuted(
     let Some(lines) = checked else {
         return Ok(false);
     };
-    is_closed(alloc, formula, lines.as_slice(), number_of(first_number(formula), last))
+    is_closed(
+        alloc,
+        formula,
+        lines.as_slice(),
+        number_of(first_number(formula), last),
+    )
 }

@@ -97,10 +97,7 @@ fn push_returned(
 }
 
 /// The clauses that say that all ranks finish. The only error is want of memory.
-pub fn all_ranks_finish(
-    alloc: Global,
-    program: &Program,
-) -> Result<Symbolic<Statement>, AllocError>
+pub fn all_ranks_finish(alloc: Global, program: &Program) -> Result<Symbolic<Statement>, AllocError>
     ensures { IfOk result (λ clauses. clauses ≡ all_ranks_finish program.now) }
 {
     let mut clauses = Symbolic::new(alloc);

@@ -9,8 +9,9 @@ use extract::told_steps;
 use semantics::{End, ReplayFault, Step, replay};
 use std::alloc::{AllocError, Global};
 
-/// The steps that the assignment tells, where they are a run in which all ranks finish. The assignment may come from
-/// anywhere: the steps are taken one by one. The only error is want of memory.
+/// The steps that the assignment tells, where they are a run in which all ranks finish. The
+/// assignment may come from anywhere: the steps are taken one by one. The only error is want of
+/// memory.
 pub fn finished_run(
     alloc: Global,
     encoded: &Encoded,

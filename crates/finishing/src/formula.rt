@@ -84,7 +84,8 @@ fn kept_clauses(alloc: Global, encoded: &Encoded) -> Result<Vec<Clause>, AllocEr
     Ok(kept)
 }
 
-/// The clauses that say that all ranks finish, in their normal forms; none where there are more than 4,000,000.
+/// The clauses that say that all ranks finish, in their normal forms; none where there are more
+/// than 4,000,000.
 fn ending_clauses(alloc: Global, encoded: &Encoded) -> Result<Option<Vec<Clause>>, AllocError>
     ensures { IfOk result (λ found. IfSome found (λ clauses. clauses.items ≡ numbered encoded.now.program (all_ranks_finish encoded.now.program))) }
 {
@@ -98,11 +99,13 @@ fn ending_clauses(alloc: Global, encoded: &Encoded) -> Result<Option<Vec<Clause>
     }
 }
 
-/// The formula of the runs that finish, by that of the stuck runs: without the clause that some rank is unfinished, and with
-/// clauses that say that all ranks finish. Its variables stand for what those of the formula of stuck runs stand for.
+/// The formula of the runs that finish, by that of the stuck runs: without the clause that some
+/// rank is unfinished, and with clauses that say that all ranks finish. Its variables stand for
+/// what those of the formula of stuck runs stand for.
 ///
-/// None is made where the clauses that say that all ranks finish are more than 4,000,000, or where one of them has a variable
-/// that isn't the formula's. The only error is want of memory: the formula of stuck runs is copied.
+/// None is made where the clauses that say that all ranks finish are more than 4,000,000, or where
+/// one of them has a variable that isn't the formula's. The only error is want of memory: the
+/// formula of stuck runs is copied.
 pub fn finishing_formula(alloc: Global, encoded: &Encoded) -> Result<Option<Formula>, AllocError>
     ensures { IfOk result (λ found. IfSome found (λ formula. formula ≡ finishing_formula_of encoded.now.program)) }
 {

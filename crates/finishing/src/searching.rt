@@ -13,7 +13,7 @@ use encode::Encoded;
 use frequency::Frequency;
 use std::alloc::{AllocError, Global};
 
-/// What a search of the formula finds until so many conflicts were counted. Nothing is promised of it: whoever takes it checks
+/// What a search of the formula finds until so many conflicts were counted. Whoever takes it checks
 /// it.
 fn searched(alloc: Global, formula: &Formula, conflicts: u64) -> Result<Found, AllocError> {
     let mut solver = Solver::new(alloc, formula, &[])?;
@@ -56,17 +56,19 @@ fn judge_found(
     }
 }
 
-/// How often the runs of a program get stuck, by a formula that is satisfied where some run finishes, where one run doesn't
-/// tell it.
+/// How often the runs of a program get stuck, by a formula that is satisfied where some run
+/// finishes, where one run doesn't tell it. That formula is made of the program's own.
 ///
-/// One thread searches the formula until it finds an assignment, or shows that there is none, or has counted so many
-/// conflicts. `Always` is told where the search's lines derive from the formula and refute it, `Sometimes` with a run that
-/// the assignment tells, taken step by step to its end. Else `Unknown` is told: where the conflicts are used up, which with
-/// none is at once, and where lines or run don't hold, which is promised of no search. So no answer rests on the search, and
-/// none is promised to come.
+/// One thread searches it until it finds an assignment, or shows that there is none, or has counted
+/// so many conflicts; with none to count it gives up at once. `Always` is told where the search's
+/// lines derive from the formula and refute it, and `Sometimes` with a run that the assignment
+/// tells, taken step by step to its end. Else `Unknown` is told: where the conflicts are used up,
+/// or where the lines or the run don't hold. So no answer rests on the search. That `Always` or
+/// `Sometimes` is told is promised of no program.
 ///
-/// The only error is want of memory. The formula is held twice, with a solver over it; the lines of a refutation are held
-/// once more while they are checked, and take memory by the conflicts.
+/// The only error is want of memory. The formula is held once more, and the solver keeps its
+/// clauses; then the lines of a refutation are held while they are checked. Their memory grows with
+/// the conflicts.
 pub fn frequency_of_encoded(
     alloc: Global,
     encoded: &Encoded,

@@ -1,6 +1,4 @@
-use Rattle.std.proofs.Common.{Option, IfSome, sym, subst}
-use Rattle.std.specs.Prelude.{Vec}
-use Rattle.refutations.specs.Proofs.{ProofLine}
+use Rattle.std.proofs.Common.{IfSome, sym, subst}
 use Rattle.refutations.specs.Refutations.{AreDerived}
 use Rattle.finishing.proofs.checking.is_refuted.Goals as goal
 
