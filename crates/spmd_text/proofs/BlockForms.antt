@@ -40,9 +40,9 @@ reads_begun {old} {mid} {new} {s} {scope} {depth} {line} {w} goes sound_so back 
   may = r.may;
 }
 
-pub put_back_is : (w : Word) (last : ℕ) (here : List Token) → begins (piece.Word w) (Some here) ≡ true → put_back (line_at last here) w (Some (behind here)) ≡ Some here
-put_back_is w last [] e = absurd (let never : false ≡ true = e in cc)
-put_back_is w last (t ∷ ts) e = ap (λ (p : Piece). Some (record { line = t.line; piece = p } ∷ ts)) (sym (piece_is (piece.Word w) t.piece e))
+pub put_back_is : (w : Word) (here : List Token) → begins (piece.Word w) (Some here) ≡ true → put_back (line_at here) w (Some (behind here)) ≡ Some here
+put_back_is w [] e = absurd (let never : false ≡ true = e in cc)
+put_back_is w (t ∷ ts) e = ap (λ (p : Piece). Some (record { line = t.line; piece = p } ∷ ts)) (sym (piece_is (piece.Word w) t.piece e))
 
 -- ---- what stands behind the statements of a branch
 

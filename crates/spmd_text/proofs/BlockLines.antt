@@ -43,15 +43,15 @@ block_same l m ls ms e = ap (λ (k : Level). k.block) (first_same l m ls ms e)
 
 -- ---- the end of a block
 
-end_stuck : (level : Level) (outer : List Level) (here : List Token) (last number : ℕ) → has_text_end here ≡ true → number ≡ line_at last here
+end_stuck : (level : Level) (outer : List Level) (here : List Token) (number : ℕ) → has_text_end here ≡ true → number ≡ line_at here
     → is_inner level.block ≡ true → is_end (next_of None here) ≡ true → (level.block ≡ lines.branch → goes_on (next_of None here) ≡ false)
     → ((beyond : List Token) → after_end false (Some here) ≡ Some beyond → ⊥) → IsStuckAt (level ∷ outer) here number
-end_stuck level outer [] last number ended told inner ends closed never = absurd (never_true ended)
-end_stuck level outer (t ∷ ts) last number ended told inner ends closed never = by_piece t.piece refl ends closed
+end_stuck level outer [] number ended told inner ends closed never = absurd (never_true ended)
+end_stuck level outer (t ∷ ts) number ended told inner ends closed never = by_piece t.piece refl ends closed
   where
     stuck : (k : kind.Kind) → kind_of t.piece ≡ k → ((line beyond : List Token) (next : List Level) → t ∷ ts ≡ line ++ beyond → kind.ByKind k (level ∷ outer) line next → ⊥)
         → IsStuckAt (level ∷ outer) (t ∷ ts) number
-    stuck k is no_line = stuck_here k (level ∷ outer) (t ∷ ts) last number ended is told no_line
+    stuck k is no_line = stuck_here k (level ∷ outer) (t ∷ ts) number ended is told no_line
 
     no_branch : (p : Piece) → goes_on p ≡ true → (level.block ≡ lines.branch → goes_on p ≡ false) → level.block ≡ lines.branch → ⊥
     no_branch p goes shut e = never_true (sym (shut e) ∙ goes)
@@ -67,11 +67,11 @@ end_stuck level outer (t ∷ ts) last number ended told inner ends closed never 
         stuck kind.text_end (ap kind_of e) (λ line beyond next split i. never_true (sym i.outermost ∙ (ap is_inner (sym (block_same level i.level outer [] i.here)) ∙ inner)))
     by_piece p e is shut = absurd (never_true is)
 
-pub end_tells : (old new : Parser) (level : Level) (outer : List Level) (number : ℕ) → EndsBlock level old → (old.fault ≡ None → number ≡ line_at old.last_line old.rest.now)
+pub end_tells : (old new : Parser) (level : Level) (outer : List Level) (number : ℕ) → EndsBlock level old → (old.fault ≡ None → number ≡ line_at old.rest.now)
     → ((why : ParseReason) → old.fault ≡ None → new.fault ≡ Some why → (why ≡ Memory → ⊥) → (beyond : List Token) → after_end false (Some old.rest.now) ≡ Some beyond → ⊥)
     → Tells (level ∷ outer) old new old.rest.now number
 end_tells old new level outer number ends told never why sound wrong other ended =
-    end_stuck level outer old.rest.now old.last_line number ended (told sound) ends.inner
+    end_stuck level outer old.rest.now number ended (told sound) ends.inner
     (ap (λ (f : Option ParseReason). is_end (next_of f old.rest.now)) (sym sound) ∙ ends.ends)
     (λ e. ap (λ (f : Option ParseReason). goes_on (next_of f old.rest.now)) (sym sound) ∙ ends.closed e) (never why sound wrong other)
 
@@ -112,7 +112,7 @@ kind_simple v level outer line next is plain w i = i
 pub simple_tells : {old new : Parser} {a : Statement} (block : Block) (outer : List Level) (depth line number : ℕ) (w : Word) → is_settled block ≡ true → word_of (piece.Word w) ≡ Some w → is_simple w ≡ true
     → Reads (begun_part (scope_of old) depth line w) old new a → number ≡ line → Tells (level_at block old depth ∷ outer) old new (from_word line w old) number
 simple_tells {old} {new} {a} block outer depth line number w is word_so plain r told =
-    tells_here (kind_of (piece.Word w)) (level ∷ outer) old new here line number refl (λ sound. told) never
+    tells_here (kind_of (piece.Word w)) (level ∷ outer) old new here number refl (λ sound. told) never
   where
     level : Level
     level = level_at block old depth
@@ -142,7 +142,7 @@ head_none name span = after_of piece.LineEnd _ (span_strict span)
 pub loop_head_tells : {old mid : Parser} {x : (ℕ × Span) × Unit {0}} (block : Block) (outer : List Level) (depth line number : ℕ)
     → Reads (loop_head_parts (scope_of old)) old mid x → number ≡ line → Tells (level_at block old depth ∷ outer) old mid (from_word line word.For old) number
 loop_head_tells {old} {mid} {x} block outer depth line number r told =
-    tells_here kind.repeat (level ∷ outer) old mid here line number refl (λ sound. told) never
+    tells_here kind.repeat (level ∷ outer) old mid here number refl (λ sound. told) never
   where
     level : Level
     level = level_at block old depth
@@ -163,7 +163,7 @@ loop_head_tells {old} {mid} {x} block outer depth line number r told =
 pub loop_deep_tells : (old new : Parser) (block : Block) (outer : List Level) (depth line number : ℕ) → depth ≡ 0 → number ≡ line
     → Tells (level_at block old depth ∷ outer) old new (from_word line word.For old) number
 loop_deep_tells old new block outer depth line number none told =
-    tells_here kind.repeat (level_at block old depth ∷ outer) old new (from_word line word.For old) line number refl (λ sound. told)
+    tells_here kind.repeat (level_at block old depth ∷ outer) old new (from_word line word.For old) number refl (λ sound. told)
     (λ why sound wrong other bad beyond next split i.
     let same : depth ≡ i.level.depth = ap (λ (l : Level). l.depth) (first_same (level_at block old depth) i.level outer i.outer i.here) in
     let low : 1 ≤ i.level.depth = i.deep in
@@ -213,12 +213,12 @@ head_found {old} {mid} {x} chained line r why sound wrong other bad beyond split
 pub head_tells : {old mid : Parser} {x : Expression × Unit {0}} (chained : Bool) (block : Block) (outer : List Level) (depth line number : ℕ)
     → Reads (head_parts old.in_parameter) old mid x → number ≡ line → Tells (level_at block old depth ∷ outer) old mid (from_word line (branch_word chained) old) number
 head_tells {old} {mid} {x} true block outer depth line number r told =
-    tells_here kind.chained (level_at block old depth ∷ outer) old mid (from_word line word.Elif old) line number refl (λ sound. told)
+    tells_here kind.chained (level_at block old depth ∷ outer) old mid (from_word line word.Elif old) number refl (λ sound. told)
     (λ why sound wrong other bad beyond next split i.
     let same = first_same (level_at block old depth) i.level outer i.outer i.here in
     head_found true line r why sound wrong other bad beyond split i.number i.condition (subst (λ (l : Level). IsWithin 32 l.scope.in_parameter i.condition) (sym same) i.within) i.spelled)
 head_tells {old} {mid} {x} false block outer depth line number r told =
-    tells_here kind.when (level_at block old depth ∷ outer) old mid (from_word line word.If old) line number refl (λ sound. told)
+    tells_here kind.when (level_at block old depth ∷ outer) old mid (from_word line word.If old) number refl (λ sound. told)
     (λ why sound wrong other bad beyond next split i.
     let same = first_same (level_at block old depth) i.level outer i.outer i.here in
     head_found false line r why sound wrong other bad beyond split i.number i.condition (subst (λ (l : Level). IsWithin 32 l.scope.in_parameter i.condition) (sym same) i.within) i.spelled)
@@ -226,13 +226,13 @@ head_tells {old} {mid} {x} false block outer depth line number r told =
 pub head_deep_tells : (old new : Parser) (chained : Bool) (block : Block) (outer : List Level) (depth line number : ℕ) → depth ≡ 0 → number ≡ line
     → Tells (level_at block old depth ∷ outer) old new (from_word line (branch_word chained) old) number
 head_deep_tells old new true block outer depth line number none told =
-    tells_here kind.chained (level_at block old depth ∷ outer) old new (from_word line word.Elif old) line number refl (λ sound. told)
+    tells_here kind.chained (level_at block old depth ∷ outer) old new (from_word line word.Elif old) number refl (λ sound. told)
     (λ why sound wrong other bad beyond next split i.
     let same : depth ≡ i.level.depth = ap (λ (l : Level). l.depth) (first_same (level_at block old depth) i.level outer i.outer i.here) in
     let low : 1 ≤ i.level.depth = i.deep in
     omega (arith, same, low, none))
 head_deep_tells old new false block outer depth line number none told =
-    tells_here kind.when (level_at block old depth ∷ outer) old new (from_word line word.If old) line number refl (λ sound. told)
+    tells_here kind.when (level_at block old depth ∷ outer) old new (from_word line word.If old) number refl (λ sound. told)
     (λ why sound wrong other bad beyond next split i.
     let same : depth ≡ i.level.depth = ap (λ (l : Level). l.depth) (first_same (level_at block old depth) i.level outer i.outer i.here) in
     let low : 1 ≤ i.level.depth = i.deep in
@@ -272,7 +272,7 @@ head_runs {old} {mid} {c} false block outer depth line is deep r sound =
 pub else_tells : {old mid : Parser} (outer : List Level) (depth line number : ℕ) → Reads (piece_part piece.LineEnd) old mid (tt {0}) → number ≡ line
     → Tells (level_at lines.branch old depth ∷ outer) old mid (from_word line word.Else old) number
 else_tells {old} {mid} outer depth line number r told =
-    tells_here kind.otherwise (level_at lines.branch old depth ∷ outer) old mid (from_word line word.Else old) line number refl (λ sound. told)
+    tells_here kind.otherwise (level_at lines.branch old depth ∷ outer) old mid (from_word line word.Else old) number refl (λ sound. told)
     (λ why sound wrong other bad beyond next split i.
     none_found r why sound wrong other (tt {0}) beyond
     (ap (λ (xs : List Token). after piece.LineEnd (after (piece.Word word.Else) (Some xs))) split ∙ else_line.more bad beyond i.spelled) tt refl)
@@ -450,6 +450,12 @@ made_ends makes ends sound =
     let m = made_sound makes sound in
     ap (λ (p : Parser). is_end (next p)) m.0 ∙ ends (sym (ap (λ (p : Parser). p.fault) m.0) ∙ sound)
 
+-- the same, where what stands behind them is kept
+pub kept_ends : {s new : Parser} {a b : Statement} → EndsBranch s a → Makes s new (b ≡ a) → new.fault ≡ None → EndsBranch new b
+kept_ends {s} {new} {a} {b} ends makes sound =
+    let m = made_sound makes sound in
+    subst (λ (p : Parser). EndsBranch p b) (sym m.0) (subst (EndsBranch s) (sym m.1) ends)
+
 -- from the first word on
 pub tells_begun : {old mid : Parser} (new : Parser) {line number : ℕ} (w : Word) (block : Block) (outer : List Level) (depth : ℕ) → Keeps old mid → (old.fault ≡ None → mid.fault ≡ None)
     → (old.fault ≡ None → put_back line w (Some mid.rest.now) ≡ Some old.rest.now)
@@ -518,11 +524,11 @@ kind_other piece.TextEnd e f = absurd (never_true (sym f))
 kind_other p e f = refl
 
 -- no statement begins so
-other_stuck : (levels : List Level) (here : List Token) (last number : ℕ) → has_text_end here ≡ true → number ≡ line_at last here → word_of (next_of None here) ≡ None → is_end (next_of None here) ≡ false
+other_stuck : (levels : List Level) (here : List Token) (number : ℕ) → has_text_end here ≡ true → number ≡ line_at here → word_of (next_of None here) ≡ None → is_end (next_of None here) ≡ false
     → IsStuckAt levels here number
-other_stuck levels [] last number ended told none other = absurd (never_true ended)
-other_stuck levels (t ∷ ts) last number ended told none other =
-    stuck_here kind.simple levels (t ∷ ts) last number ended (kind_other t.piece none other) told never
+other_stuck levels [] number ended told none other = absurd (never_true ended)
+other_stuck levels (t ∷ ts) number ended told none other =
+    stuck_here kind.simple levels (t ∷ ts) number ended (kind_other t.piece none other) told never
   where
     never : (bad beyond : List Token) (next : List Level) → t ∷ ts ≡ bad ++ beyond → IsSimpleLine levels bad next → ⊥
     never bad beyond next split i =
@@ -530,10 +536,10 @@ other_stuck levels (t ∷ ts) last number ended told none other =
         let is = piece_is (piece.Word (first_word i.statement)) t.piece (one_begins i.statement i.may.one (t ∷ ts) beyond e) in
         none_some (first_word i.statement) (sym none ∙ (ap word_of is ∙ plain_first i.statement i.may.one i.may.plain))
 
-other_tells : (levels : List Level) {s mid : Parser} (number : ℕ) → word_of (next s) ≡ None → (is_end (next s) ≡ true → mid ≡ s) → (s.fault ≡ None → number ≡ line_at s.last_line s.rest.now)
+other_tells : (levels : List Level) {s mid : Parser} (number : ℕ) → word_of (next s) ≡ None → (is_end (next s) ≡ true → mid ≡ s) → (s.fault ≡ None → number ≡ line_at s.rest.now)
     → Tells levels s mid s.rest.now number
 other_tells levels {s} {mid} number none fits told why sound wrong other ended =
-    other_stuck levels s.rest.now s.last_line number ended (told sound) (ap (λ (f : Option ParseReason). word_of (next_of f s.rest.now)) (sym sound) ∙ none)
+    other_stuck levels s.rest.now number ended (told sound) (ap (λ (f : Option ParseReason). word_of (next_of f s.rest.now)) (sym sound) ∙ none)
     (ap (λ (f : Option ParseReason). is_end (next_of f s.rest.now)) (sym sound) ∙ by_end (is_end (next s)) refl)
   where
     by_end : (b : Bool) → is_end (next s) ≡ b → is_end (next s) ≡ false
@@ -541,7 +547,7 @@ other_tells levels {s} {mid} number none fits told why sound wrong other ended =
     by_end true e = absurd (none_some why (sym sound ∙ (ap (λ (p : Parser). p.fault) (sym (fits e)) ∙ wrong)))
 
 pub lines_ended : {old s mid new : Parser} {depth before number last : ℕ} {Made : Type 0} → LinesSoFar old s depth before number → word_of (next s) ≡ None → Sticks s mid
-    → (is_end (next s) ≡ true → mid ≡ s) → (s.fault ≡ None → last ≡ line_at s.last_line s.rest.now) → ((why : ParseReason) → s.fault ≡ Some why → last ≡ number) → Makes mid new Made
+    → (is_end (next s) ≡ true → mid ≡ s) → (s.fault ≡ None → last ≡ line_at s.rest.now) → ((why : ParseReason) → s.fault ≡ Some why → last ≡ number) → Makes mid new Made
     → (block : Block) (outer : List Level) → is_settled block ≡ true → Tells (level_at block old depth ∷ outer) old new old.rest.now last
 lines_ended {old} {s} {mid} {new} {depth} {before} {number} {last} {Made} so_far none sticks fits told stays makes block outer is =
     tells_made old (tells_then old (so_far.tells block outer is) sticks stays on_other) makes

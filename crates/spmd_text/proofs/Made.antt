@@ -1,5 +1,5 @@
 -- What is put together, unless memory runs out.
-use Rattle.std.proofs.Common.{◌≡◌, true, List, Option, Some, None, ap, sym, ◌∙◌, inl, inr}
+use Rattle.std.proofs.Common.{◌≡◌, true, List, Option, Some, None, ap, sym, subst, ◌∙◌, inl, inr}
 use Rattle.spmd_text.specs.declared.fault.ParseReason.{ParseReason}
 use Rattle.spmd_text.specs.declared.fault.ParseReason.TheVariants.{Memory}
 use Rattle.spmd_text.specs.declared.parser.Parser.{Parser}
@@ -23,6 +23,29 @@ finds_made (inl (same, made)) found = still_found same found
 finds_made {old} {new} {rest} {A} {Made} (inr e) (inl memory) = inl ((goes_failed old new Memory e).sticks Memory memory)
 finds_made {old} {new} (inr e) (inr (there, a)) =
     inl (ap (λ (s : Parser). s.fault) e ∙ ap (λ (f : Option ParseReason). noted f Memory) there.sound)
+
+-- what is made is another thing, too
+pub made_as : {old new : Parser} {A B : Type 0} → (A → B) → Makes old new A → Makes old new B
+made_as to (inl (same, a)) = inl (same, to a)
+made_as to (inr e) = inr e
+
+-- what was found is found still, where it is kept
+pub kept_found : {X : Type 0} (Same : X → X → Type 0) {old new : Parser} {rest : List Token} {a b : X} (x : X) → Makes old new (b ≡ a) → Finds old rest (Same a x) → Finds new rest (Same b x)
+kept_found {X} Same x (inl (same, is)) found = still_found same (found_as (subst (λ (y : X). Same y x) (sym is)) found)
+kept_found Same x (inr e) (inl memory) = finds_made {Made = Unit {0}} (inr e) (inl memory)
+kept_found Same x (inr e) (inr (there, same)) = inl (ap (λ (s : Parser). s.fault) e ∙ ap (λ (f : Option ParseReason). noted f Memory) there.sound)
+
+-- what is read is kept
+pub reads_kept : {X : Type 0} {part : Part X} {old mid new : Parser} {a b : X} → Reads part old mid a → Makes mid new (b ≡ a) → Reads part old new b
+reads_kept {X} {part} {old} {mid} {new} {a} {b} r makes = record {
+  goes = keeps_on r.goes (made_goes makes);
+  finds = λ x rest sound e may ends. kept_found part.Same x makes (r.finds x rest sound e may ends);
+  stands = λ sound.
+      let m = made_sound makes sound in
+      ap (λ (y : X). part.behind y (Some old.rest.now)) m.1
+      ∙ (r.stands (sound_before (made_goes makes) sound) ∙ ap (λ (s : Parser). Some s.rest.now) (sym m.0));
+  may = λ sound. subst part.May (sym (made_sound makes sound).1) (r.may (sound_before (made_goes makes) sound));
+}
 
 -- what is read is what is put together of its parts
 pub reads_made : {X Z : Type 0} {one : Part X} {other : Part Z} {old mid new : Parser} {a : X} {z : Z} {Made : Type 0}

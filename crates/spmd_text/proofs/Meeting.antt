@@ -1,5 +1,5 @@
 -- Parts that are met one after another are met as one part, whatever else the reader keeps.
-use Rattle.std.proofs.Common.{◌≡◌, ℕ, true, arith, length, List, [], ◌∷◌, ◌++◌, Option, Some, None, refl, ap, sym, ◌∙◌, inl, inr}
+use Rattle.std.proofs.Common.{◌≡◌, ℕ, true, arith, length, List, [], ◌∷◌, ◌++◌, Option, Some, None, refl, ap, sym, subst, ◌∙◌, inl, inr}
 use Rattle.std.proofs.lemmas.List.{append-nil, append_assoc}
 use Rattle.spmd_text.specs.declared.fault.ParseReason.{ParseReason}
 use Rattle.spmd_text.specs.declared.fault.ParseReason.TheVariants.{Memory}
@@ -10,8 +10,10 @@ use Rattle.spmd_text.specs.Spelling.{Rest}
 use Rattle.spmd_text.specs.Parts.{Keeps, Part, Reads, then_part}
 use Rattle.spmd_text.specs.Programs.{Adds, Grows, Meets}
 use Rattle.spmd_text.proofs.Going.{found_then, noted_never, noted_sticks, sound_or}
+use Rattle.spmd_text.specs.Statements.{Makes}
+use Rattle.spmd_text.proofs.Made.{kept_found, made_goes, made_sound}
 use Rattle.spmd_text.proofs.NoStar.{left_before}
-use Rattle.spmd_text.proofs.Parts.{Follows, IsAs, IsStrict, found_as}
+use Rattle.spmd_text.proofs.Parts.{Follows, IsAs, IsStrict, found_as, sound_before}
 
 pub sound_by : (old new : Parser) → Sticks old new → new.fault ≡ None → old.fault ≡ None
 sound_by old new sticks sound = sound_or old.fault new.fault sticks sound
@@ -43,6 +45,17 @@ meets_as {X} {Z} {one} {other} {old} {new} {a} {z} same r = record {
       found_as x.4 (r.finds x.0 rest sound x.2 x.1 x.3);
   stands = λ sound. same.stands new.rest.now (r.stands sound) (r.may sound);
   may = λ sound. same.may (r.may sound);
+}
+
+-- what is met is kept
+pub meets_kept : {X : Type 0} {part : Part X} {old mid new : Parser} {a b : X} → Meets part old mid a → Makes mid new (b ≡ a) → Meets part old new b
+meets_kept {X} {part} {old} {mid} {new} {a} {b} r makes = record {
+  finds = λ x rest sound e may ends. kept_found part.Same x makes (r.finds x rest sound e may ends);
+  stands = λ sound.
+      let m = made_sound makes sound in
+      ap (λ (y : X). part.behind y (Some old.rest.now)) m.1
+      ∙ (r.stands (sound_before (made_goes makes) sound) ∙ ap (λ (s : Parser). Some s.rest.now) (sym m.0));
+  may = λ sound. subst part.May (sym (made_sound makes sound).1) (r.may (sound_before (made_goes makes) sound));
 }
 
 -- ---- names that are added
@@ -92,6 +105,16 @@ grows_same {old} = record {
   loops = refl;
   shorter = omega arith;
   sticks = λ why e. e;
+}
+
+pub renamed : {old new : Parser} {xs ys : List ℕ} → Grows old new xs → (new.fault ≡ None → xs ≡ ys) → Grows old new ys
+renamed {old} {new} {xs} {ys} g same = record {
+  names_same = g.names_same;
+  in_parameter = g.in_parameter;
+  parameters = λ sound. g.parameters sound ∙ ap (λ (l : List ℕ). old.parameters.items ++ l) (same sound);
+  loops = g.loops;
+  shorter = g.shorter;
+  sticks = g.sticks;
 }
 
 -- names are added, and then others

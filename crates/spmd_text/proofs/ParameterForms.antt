@@ -13,10 +13,11 @@ use Rattle.spmd_text.specs.Limits.{IsWithin}
 use Rattle.spmd_text.specs.Reading.{Finds}
 use Rattle.spmd_text.specs.Spelling.{Rest, after, after_optional, after_statement, after_value, begins, is_piece}
 use Rattle.spmd_text.specs.Parts.{IfThere, Part, Reads, lacks, name_part, piece_part, then_part, value_part}
-use Rattle.spmd_text.specs.Statements.{is_one_of, put_back}
+use Rattle.spmd_text.specs.Statements.{Makes, is_one_of, put_back}
 use Rattle.spmd_text.specs.Programs.{Adds, Meets, ObeyParameters, ReadsParameter, is_parameter, otherwise_part, parameter_part, parameters_of}
 use Rattle.spmd_text.proofs.Following.{and_left, and_right, before_piece, both_true, lacks_not, lacks_tests, line_end_stops}
-use Rattle.spmd_text.proofs.Meeting.{adds_grows, grown_then_kept, kept_then_grown, meets_added, meets_as, meets_of, meets_then}
+use Rattle.spmd_text.proofs.Made.{made_goes, made_sound}
+use Rattle.spmd_text.proofs.Meeting.{adds_grows, grown_then_kept, kept_then_grown, meets_added, meets_as, meets_kept, meets_of, meets_then, renamed}
 use Rattle.spmd_text.proofs.Parts.{IsAs, keeps_on}
 use Rattle.spmd_text.proofs.Scopes.{checked}
 use Rattle.spmd_text.proofs.Starts.{start_behind, start_same}
@@ -123,3 +124,10 @@ parameter_read {old} {named} {kept} {valued} {new} line name e first adds second
 
     whole : Meets (parameter_parts old.parameters.items) old new ((name, e), tt {0})
     whole = meets_then (λ y. refl) (λ y here rest may f ends. line_end_value here rest f) value third.goes.sticks (meets_of third)
+
+-- The same, where it is kept.
+pub parameter_kept : {old mid new : Parser} {line : ℕ} {a b : Statement} → ReadsParameter old mid line a → Makes mid new (b ≡ a) → ReadsParameter old new line b
+parameter_kept {old} {mid} {new} {line} {a} {b} r makes = record {
+  goes = renamed (grown_then_kept r.goes (made_goes makes)) (λ sound. ap parameters_of (sym (made_sound makes sound).1));
+  meets = meets_kept r.meets makes;
+}

@@ -21,7 +21,7 @@ use Rattle.spmd_text.proofs.Flat.{all_strict, behind_append, flat_append}
 use Rattle.spmd_text.proofs.Following.{both_true, lacks_not}
 use Rattle.spmd_text.proofs.LeftOut.{not_next}
 use Rattle.spmd_text.proofs.Made.{finds_made, made_goes, made_sound}
-use Rattle.spmd_text.proofs.Meeting.{grown_then_kept, grows_on, grows_same, kept_then_grown, sound_by}
+use Rattle.spmd_text.proofs.Meeting.{grown_then_kept, grows_on, grows_same, kept_then_grown, renamed, sound_by}
 use Rattle.spmd_text.proofs.NoStar.{left_before, only_left}
 use Rattle.spmd_text.proofs.ParameterForms.{behind_param, param_none}
 
@@ -172,16 +172,6 @@ parameters_begun old = record {
   finds = λ row rest sound e may ends. inr (record { sound = sound; others = row; spelled = e; may = may; names = refl });
   stands = λ sound. refl;
   may = λ sound. tt;
-}
-
-renamed : {old new : Parser} {xs ys : List ℕ} → Grows old new xs → (new.fault ≡ None → xs ≡ ys) → Grows old new ys
-renamed {old} {new} {xs} {ys} g same = record {
-  names_same = g.names_same;
-  in_parameter = g.in_parameter;
-  parameters = λ sound. g.parameters sound ∙ ap (λ (l : List ℕ). old.parameters.items ++ l) (same sound);
-  loops = g.loops;
-  shorter = g.shorter;
-  sticks = g.sticks;
 }
 
 -- where nothing is wrong, the word that is read next comes next

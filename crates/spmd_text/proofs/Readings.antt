@@ -97,9 +97,10 @@ read_first {old} {new} {x} {at} place pieces meets tells tokens names sound (Som
 
 -- ---- what is told of the bytes
 
-pub text_of : (bytes : List ℕ) (pieces : Pieces) (p : Policy) (s : Statement) (parameters : Vec ℕ) → ArePieces pieces (pieces_of bytes) → Says pieces p s
+pub text_of : (bytes : List ℕ) (pieces : Pieces) (p : Policy) (s : Statement) (parameters : Vec ℕ) → length bytes ≤ 65536 → ArePieces pieces (pieces_of bytes) → Says pieces p s
     → parameters.items ≡ parameters_of s → IsText (record { policy = p; program = s; names = pieces.names; parameters = parameters }) bytes
-text_of bytes pieces p s parameters cut says named = record {
+text_of bytes pieces p s parameters small cut says named = record {
+  small = small;
   state = cut.state;
   cut = cut.done;
   names = cut.names;

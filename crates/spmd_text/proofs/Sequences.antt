@@ -29,13 +29,13 @@ in_turn_flat a b made xs ys e f m =
     ∙ (ap (λ (l : List Statement). l ++ flat b) e
     ∙ (ap (λ (l : List Statement). flat_all xs ++ l) f ∙ sym (flat_append xs ys)))))
 
-pub empty_of : (xs : List Statement) → length xs ≡ 0 → xs ≡ []
+pub empty_of : {A : Type 0} (xs : List A) → length xs ≡ 0 → xs ≡ []
 empty_of [] e = refl
 empty_of (x ∷ xs) e = absurd (omega (arith, e))
 
-pub one_of : (xs : List Statement) → length xs ≡ 1 → (x : Statement) × (xs ≡ x ∷ [])
+pub one_of : {A : Type 0} (xs : List A) → length xs ≡ 1 → (x : A) × (xs ≡ x ∷ [])
 one_of [] e = absurd (omega (arith, e))
-one_of (x ∷ xs) e = let none : length xs ≡ 0 = omega (arith, e) in (x, ap (λ (l : List Statement). x ∷ l) (empty_of xs none))
+one_of {A} (x ∷ xs) e = let none : length xs ≡ 0 = omega (arith, e) in (x, ap (λ (l : List A). x ∷ l) (empty_of xs none))
 
 -- what was taken from the end is the last item
 pub taken_last : (mid new outer : List ℕ) (taken : Option ℕ) (name : ℕ) → mid ≡ new ++ option_to_list taken → (0 < length mid → IsSome taken) → mid ≡ outer ++ name ∷ [] → new ≡ outer

@@ -29,7 +29,7 @@ pub record FirstLine (here : List Token) : Type 0 where
   pub split : here ≡ line ++ beyond
   pub one : is_line line ≡ true
   pub kind : kind_at line ≡ kind_at here
-  pub number : (last : ℕ) → line_at last here ≡ line_at 1 line
+  pub number : line_at here ≡ line_at line
 
 longer_line : (t : Token) (line : List Token) → closes t.piece ≡ false → is_line line ≡ true → is_line (t ∷ line) ≡ true
 longer_line t [] open_so one = absurd (let never : false ≡ true = one in cc)
@@ -40,7 +40,7 @@ first_line [] ended = absurd (let never : false ≡ true = ended in cc)
 first_line (t ∷ ts) ended = by_first (closes t.piece) refl (λ e. first_line ts e)
   where
     by_first : (b : Bool) → closes t.piece ≡ b → (has_text_end ts ≡ true → FirstLine ts) → FirstLine (t ∷ ts)
-    by_first true is further = record { line = t ∷ []; beyond = ts; split = refl; one = is; kind = refl; number = λ last. refl }
+    by_first true is further = record { line = t ∷ []; beyond = ts; split = refl; one = is; kind = refl; number = refl }
     by_first false is further =
         let more = further (sym (ap (λ (b : Bool). b || has_text_end ts) (open_piece t.piece is)) ∙ ended) in
         record {
@@ -49,15 +49,15 @@ first_line (t ∷ ts) ended = by_first (closes t.piece) refl (λ e. first_line t
           split = ap (λ (xs : List Token). t ∷ xs) more.split;
           one = longer_line t more.line is more.one;
           kind = refl;
-          number = λ last. refl;
+          number = refl;
         }
 
 -- ---- stuck
 
 -- no line of the kind that its first piece tells may stand at these levels
-pub stuck_here : (kind : Kind) (levels : List Level) (here : List Token) (last number : ℕ) → has_text_end here ≡ true → kind_at here ≡ kind → number ≡ line_at last here
+pub stuck_here : (kind : Kind) (levels : List Level) (here : List Token) (number : ℕ) → has_text_end here ≡ true → kind_at here ≡ kind → number ≡ line_at here
     → ((line beyond : List Token) (next : List Level) → here ≡ line ++ beyond → ByKind kind levels line next → ⊥) → IsStuckAt levels here number
-stuck_here kind levels here last number ended is told never = record {
+stuck_here kind levels here number ended is told never = record {
   before = [];
   bad = f.line;
   beyond = f.beyond;
@@ -66,7 +66,7 @@ stuck_here kind levels here last number ended is told never = record {
   runs = lines.done refl refl;
   one = f.one;
   stuck = λ next steps. never f.line f.beyond next f.split (subst (λ (k : Kind). ByKind k levels f.line next) (f.kind ∙ is) (by_kind levels f.line next steps));
-  told = told ∙ f.number last;
+  told = told ∙ f.number;
 }
   where
     f : FirstLine here
@@ -114,11 +114,11 @@ none_found {X} {part} {old} {new} {a} r why sound wrong other x rest e may ends 
     by_found (inl memory) = other (some_why why Memory (sym wrong ∙ memory))
     by_found (inr (there, same)) = none_some why (sym there.sound ∙ wrong)
 
-pub tells_here : (kind : Kind) (levels : List Level) (old new : Parser) (here : List Token) (last number : ℕ) → kind_at here ≡ kind → (old.fault ≡ None → number ≡ line_at last here)
+pub tells_here : (kind : Kind) (levels : List Level) (old new : Parser) (here : List Token) (number : ℕ) → kind_at here ≡ kind → (old.fault ≡ None → number ≡ line_at here)
     → ((why : ParseReason) → old.fault ≡ None → new.fault ≡ Some why → (why ≡ Memory → ⊥) → (line beyond : List Token) (next : List Level) → here ≡ line ++ beyond → ByKind kind levels line next → ⊥)
     → Tells levels old new here number
-tells_here kind levels old new here last number is told never why sound wrong other ended =
-    stuck_here kind levels here last number ended is (told sound) (never why sound wrong other)
+tells_here kind levels old new here number is told never why sound wrong other ended =
+    stuck_here kind levels here number ended is (told sound) (never why sound wrong other)
 
 -- where nothing is wrong so far, lines were read, and what is wrong behind them is told
 pub record GoesOn (levels : List Level) (mid new : Parser) (here : List Token) (number : ℕ) : Type 0 where

@@ -47,9 +47,9 @@ never_true e = let never : false ≡ true = e in cc
 -- ---- stuck at the first line
 
 -- no line may stand at these levels
-stuck_first : (levels : List Level) (here : List Token) (last number : ℕ) → has_text_end here ≡ true → number ≡ line_at last here
+stuck_first : (levels : List Level) (here : List Token) (number : ℕ) → has_text_end here ≡ true → number ≡ line_at here
     → ((line beyond : List Token) (next : List Level) → here ≡ line ++ beyond → Steps levels line next → ⊥) → IsStuckAt levels here number
-stuck_first levels here last number ended told never = record {
+stuck_first levels here number ended told never = record {
   before = [];
   bad = f.line;
   beyond = f.beyond;
@@ -58,7 +58,7 @@ stuck_first levels here last number ended told never = record {
   runs = lines.done refl refl;
   one = f.one;
   stuck = λ next steps. never f.line f.beyond next f.split steps;
-  told = told ∙ f.number last;
+  told = told ∙ f.number;
 }
   where
     f : FirstLine here
@@ -93,10 +93,10 @@ only_heading l outer line next first (lines.text_end h) =
     absurd (never_true (sym (ap takes (sym (ap (λ (x : Level). x.block) (first_level l h.level outer [] h.here)) ∙ first)) ∙ h.begun))
 
 -- the line of the policy is wrong
-policy_tells : (old new : Parser) (p : Policy) (scope : Scope) (depth n : ℕ) → Reads policy_line_part old new p → (old.fault ≡ None → n ≡ line_at old.last_line old.rest.now)
+policy_tells : (old new : Parser) (p : Policy) (scope : Scope) (depth n : ℕ) → Reads policy_line_part old new p → (old.fault ≡ None → n ≡ line_at old.rest.now)
     → Tells (only_level lines.headed scope depth) old new old.rest.now n
 policy_tells old new p scope depth n r told why sound wrong other ended =
-    stuck_here kind.policy (only_level lines.headed scope depth) old.rest.now old.last_line n ended (kind_begins (piece.Word word.Policy) old.rest.now said) (told sound)
+    stuck_here kind.policy (only_level lines.headed scope depth) old.rest.now n ended (kind_begins (piece.Word word.Policy) old.rest.now said) (told sound)
     (λ line beyond next split h.
     none_found r why sound wrong other h.policy beyond (written h.policy beyond (ap (λ (xs : List Token). after piece.LineEnd (after (piece.Word (policy_word h.policy)) (after (piece.Word word.Policy) (Some xs)))) split ∙ (policy_line h.policy).more line beyond h.spelled)) tt refl)
   where
@@ -115,14 +115,14 @@ policy_tells old new p scope depth n r told why sound wrong other ended =
         chosen (begins (piece.Word word.Policy) (Some old.rest.now)) (after piece.LineEnd (after (piece.Word (policy_word q)) (after (piece.Word word.Policy) (Some old.rest.now)))) (only (is_any q) (Some old.rest.now)) said ∙ e
 
 pub heading_tells : {old mid new : Parser} {p : Policy} {n m : ℕ} (depth : ℕ) → Reads heading_line_part old mid (tt {0}) → Reads policy_line_part mid new p
-    → (old.fault ≡ None → n ≡ line_at old.last_line old.rest.now) → (mid.fault ≡ None → m ≡ line_at mid.last_line mid.rest.now) → ((why : ParseReason) → mid.fault ≡ Some why → m ≡ n)
+    → (old.fault ≡ None → n ≡ line_at old.rest.now) → (mid.fault ≡ None → m ≡ line_at mid.rest.now) → ((why : ParseReason) → mid.fault ≡ Some why → m ≡ n)
     → Tells (level_at lines.start old depth ∷ []) old new old.rest.now m
 heading_tells {old} {mid} {new} {p} {n} {m} depth one two told again stays =
     tells_then old heading two.goes.sticks stays on
   where
     heading : Tells (level_at lines.start old depth ∷ []) old mid old.rest.now n
     heading why sound wrong other ended =
-        stuck_first (level_at lines.start old depth ∷ []) old.rest.now old.last_line n ended (told sound)
+        stuck_first (level_at lines.start old depth ∷ []) old.rest.now n ended (told sound)
         (λ line beyond next split steps.
         none_found one why sound wrong other tt beyond
         (ap (λ (xs : List Token). after piece.LineEnd (after (piece.Word word.Spmd) (Some xs))) split ∙ heading_line.more line beyond (only_heading (level_at lines.start old depth) [] line next refl steps)) tt refl)
@@ -170,7 +170,7 @@ text_end_alone t ts e is = by e.front e.split e.once
         let first : t ≡ u = cc in
         absurd (never_true (sym (ap not (ap is_text_end (sym (ap (λ (v : Token). v.piece) first) ∙ is))) ∙ and_left (not (is_text_end u.piece)) (list_all (λ (v : Token). not (is_text_end v.piece)) front) once))
 
-pub end_text_tells : (old new : Parser) (level : Level) (n : ℕ) → is_inner level.block ≡ false → is_end (next old) ≡ true → IsEnded old.rest.now → (old.fault ≡ None → n ≡ line_at old.last_line old.rest.now)
+pub end_text_tells : (old new : Parser) (level : Level) (n : ℕ) → is_inner level.block ≡ false → is_end (next old) ≡ true → IsEnded old.rest.now → (old.fault ≡ None → n ≡ line_at old.rest.now)
     → is_all_read old.rest.now ≡ false → Tells (level ∷ []) old new old.rest.now n
 end_text_tells old new level n outermost ends once told others why sound wrong other ended =
     by_rest old.rest.now once (ap (λ (f : Option ParseReason). is_end (next_of f old.rest.now)) (sym sound) ∙ ends) (told sound) others ended
@@ -178,18 +178,18 @@ end_text_tells old new level n outermost ends once told others why sound wrong o
     not_inner : (m : Level) (outer : List Level) → level ∷ [] ≡ m ∷ outer → is_inner m.block ≡ true → ⊥
     not_inner m outer e f = never_true (sym outermost ∙ (ap (λ (x : Level). is_inner x.block) (first_level level m [] outer e) ∙ f))
 
-    by_rest : (here : List Token) → IsEnded here → is_end (next_of None here) ≡ true → n ≡ line_at old.last_line here → is_all_read here ≡ false → has_text_end here ≡ true
+    by_rest : (here : List Token) → IsEnded here → is_end (next_of None here) ≡ true → n ≡ line_at here → is_all_read here ≡ false → has_text_end here ≡ true
         → IsStuckAt (level ∷ []) here n
     by_rest [] e f g h i = absurd (never_true i)
     by_rest (t ∷ ts) e f g h i = by_piece t.piece refl f
       where
         by_piece : (p : Piece) → t.piece ≡ p → is_end p ≡ true → IsStuckAt (level ∷ []) (t ∷ ts) n
         by_piece (piece.Word word.End) is end =
-            stuck_here kind.end (level ∷ []) (t ∷ ts) old.last_line n i (ap kind_of is) g (λ line beyond next split m. not_inner m.level m.outer m.here m.inner)
+            stuck_here kind.end (level ∷ []) (t ∷ ts) n i (ap kind_of is) g (λ line beyond next split m. not_inner m.level m.outer m.here m.inner)
         by_piece (piece.Word word.Else) is end =
-            stuck_here kind.otherwise (level ∷ []) (t ∷ ts) old.last_line n i (ap kind_of is) g (λ line beyond next split m. not_inner m.level m.outer m.here (ap is_inner m.open_branch))
+            stuck_here kind.otherwise (level ∷ []) (t ∷ ts) n i (ap kind_of is) g (λ line beyond next split m. not_inner m.level m.outer m.here (ap is_inner m.open_branch))
         by_piece (piece.Word word.Elif) is end =
-            stuck_here kind.chained (level ∷ []) (t ∷ ts) old.last_line n i (ap kind_of is) g (λ line beyond next split m. not_inner m.level m.outer m.here (ap is_inner m.open_branch))
+            stuck_here kind.chained (level ∷ []) (t ∷ ts) n i (ap kind_of is) g (λ line beyond next split m. not_inner m.level m.outer m.here (ap is_inner m.open_branch))
         by_piece piece.TextEnd is end = absurd (never_true (sym h ∙ text_end_alone t ts e is))
         by_piece p is end = absurd (never_true end)
 
@@ -233,9 +233,9 @@ scope_grown {old} {new} {names} g sound =
     ∙ ap (λ (ls : List ℕ). record { in_parameter = old.in_parameter; names = old.names.now; parameters = old.parameters.items ++ names; loops = ls }) g.loops))
 
 parameter_tells : {s mid : Parser} {item : Statement} (block : Block) (depth n : ℕ) → ReadsOne s mid item → (s.fault ≡ None → begins (piece.Word word.Param) (Some s.rest.now) ≡ true)
-    → (s.fault ≡ None → n ≡ line_at s.last_line s.rest.now) → Tells (level_at block s depth ∷ []) s mid s.rest.now n
+    → (s.fault ≡ None → n ≡ line_at s.rest.now) → Tells (level_at block s depth ∷ []) s mid s.rest.now n
 parameter_tells {s} {mid} {item} block depth n r said told why sound wrong other ended =
-    stuck_here kind.parameter (level_at block s depth ∷ []) s.rest.now s.last_line n ended (kind_begins (piece.Word word.Param) s.rest.now (said sound)) (told sound)
+    stuck_here kind.parameter (level_at block s depth ∷ []) s.rest.now n ended (kind_begins (piece.Word word.Param) s.rest.now (said sound)) (told sound)
     (λ line beyond next split h.
     by_found beyond (r.meets.finds (statement.Parameter h.number h.name h.value) beyond sound
     (ap (λ (xs : List Token). after_parameter h.number h.name h.value (Some xs)) split ∙ (parameter_line h.number h.name h.value).more line beyond h.spelled)
@@ -254,7 +254,7 @@ pub parameter_lines_begun : (old : Parser) (n : ℕ) → ParameterLines old old 
 parameter_lines_begun old n = record { stays = λ why e. refl; tells = λ block depth early. tells_none (level_at block old depth ∷ []) old old old.rest.now n refl }
 
 pub parameter_lines_more : {old s mid new : Parser} {list : List Statement} {Made : Type 0} {before at n : ℕ} (item : Statement) → ParametersSoFar old s list → ParameterLines old s before at
-    → nat_eq (code (next_of s.fault s.rest.now)) (code (piece.Word word.Param)) ≡ true → ReadsOne s mid item → (s.fault ≡ None → n ≡ line_at s.last_line s.rest.now)
+    → nat_eq (code (next_of s.fault s.rest.now)) (code (piece.Word word.Param)) ≡ true → ReadsOne s mid item → (s.fault ≡ None → n ≡ line_at s.rest.now)
     → ((why : ParseReason) → s.fault ≡ Some why → n ≡ at) → Makes mid new Made → ParameterLines old new before n
 parameter_lines_more {old} {s} {mid} {new} {list} {Made} {before} {at} {n} item so_far lined is r told stays makes = record {
   stays = λ why e. stays why (so_far.goes.sticks why e) ∙ lined.stays why e;

@@ -41,6 +41,6 @@ pub record IsFirstFault (names : List (Vec ℕ)) (tokens : List Token) (number :
   pub split : tokens ≡ before ++ bad ++ beyond
   pub whole : are_lines before ≡ true
   pub one : is_line bad ≡ true
-  pub told : number ≡ line_at 1 bad
+  pub told : number ≡ line_at bad
   pub some : (other : List Token) × IsReadable names (before ++ other)
   pub none : (others : List (Vec ℕ)) (other : List Token) → AreAlike names others (before ++ bad) → IsReadable others (before ++ bad ++ other) → ⊥

@@ -280,7 +280,7 @@ pub record IsStuckAt (levels : List Level) (pieces : List Token) (number : ℕ) 
   pub runs : Runs reached levels before
   pub one : is_line bad ≡ true
   pub stuck : (next : List Level) → Steps reached bad next → ⊥
-  pub told : number ≡ line_at 1 bad
+  pub told : number ≡ line_at bad
 
 -- Where a fault of the grammar comes up, its line is told. The pieces `here` are those from the
 -- beginning of the line on.

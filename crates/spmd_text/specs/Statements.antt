@@ -1,5 +1,5 @@
 -- Parts of a text that are statements, and which statements may be read.
-use Rattle.std.specs.Prelude.{◌≡◌, ◌⊎◌, ℕ, ◌-◌, ◌≤◌, Bool, true, false, ◌&&◌, ◌||◌, not, pos, nat_eq, List, [], ◌∷◌, ◌++◌, Option, Some, None}
+use Rattle.std.specs.Prelude.{◌≡◌, ◌⊎◌, ℕ, ◌-◌, ◌≤◌, Bool, true, false, ◌&&◌, ◌||◌, not, pos, nat_eq, List, [], ◌∷◌, ◌++◌, Option, Some, None, map}
 use Rattle.std.specs.List.{list_any}
 use Rattle.std.specs.Global.{Vec}
 use Rattle.std.specs.declared.alloc.Global.{Global}
@@ -264,6 +264,18 @@ pub record IsInside (old new : Parser) (depth : ℕ) (s : Statement) : Type 0 wh
 abbrev pub Makes : Parser → Parser → Type 0 → Type 0
 Makes old new Made = ((new ≡ old) × Made) ⊎ (new ≡ record old { fault = noted old.fault Memory })
 
+-- a statement in memory of its own, or none
+abbrev pub Kept : Type 0
+Kept = Option (Box Statement Global)
+
+-- the statement that is kept; `Nothing`, which means nothing then, where there is none
+abbrev pub held : Kept → Statement
+held None = statement.Nothing
+held (Some made) = made.value
+
+abbrev pub held_all : List Kept → List Statement
+held_all list = map held list
+
 -- a request before the others of a list
 pub record IsMore (f : LabelForm) (others made : Labels) : Type 0 where
   pub box : Box Labels Global
@@ -336,7 +348,7 @@ pub record RowSoFar (old s : Parser) (depth : ℕ) (list : List Statement) : Typ
   pub stands : s.fault ≡ None → behind_all (flat_all list) (Some old.rest.now) ≡ Some s.rest.now
   pub may : s.fault ≡ None → MayAll (scope_of old) depth (flat_all list)
 
--- the line of the first piece; the last line, where none is left
-abbrev pub line_at : ℕ → List Token → ℕ
-line_at last [] = last
-line_at last (t ∷ ts) = t.line
+-- the line of the first piece; 1, where none is left
+abbrev pub line_at : List Token → ℕ
+line_at [] = 1
+line_at (t ∷ ts) = t.line

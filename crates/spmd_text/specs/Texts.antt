@@ -13,10 +13,11 @@ use Rattle.spmd_text.specs.Spelling.{after_text}
 use Rattle.spmd_text.specs.Labels.{all_fit}
 use Rattle.spmd_text.specs.Programs.{ObeysText, parameters_of}
 
--- The bytes are cut into pieces, and the text is written as these pieces and no others; its names
--- are those that stand in them, those of requests and handles are spelled as they have to be, it
--- keeps the rules and limits, and its parameters are those that are written.
+-- The bytes are at most 65,536. They are cut into pieces, and the text is written as these pieces
+-- and no others; its names are those that stand in them, those of requests and handles are spelled
+-- as they have to be, it keeps the rules and limits, and its parameters are those that are written.
 pub record IsText (text : Text) (bytes : List ℕ) : Type 0 where
+  pub small : length bytes ≤ 65536
   pub state : Cutting
   pub cut : pieces_of bytes ≡ Ok state
   pub names : map (λ n. n.items) text.names.items ≡ state.names

@@ -4,68 +4,49 @@
 //! used. `at` is the line that is read: that on which the last heading, parameter, statement, head
 //! of a branch or loop, `else` or `end` begins. It stays as it is once something is wrong.
 
-ghost use Rattle.std.specs.Prelude.{[], ◌∷◌, ◌≡◌, ◌++◌, ◌<◌, ℕ, IfOk, IsTrue, List, None, Some, false, length, true};
+ghost use Rattle.std.specs.Prelude.{[], ◌∷◌, ◌≡◌, ◌++◌, ◌<◌, ℕ, IsTrue, List, None, Some, false, length, true};
 ghost use Rattle.spmd_tree.specs.declared.tree.Statement.{Statement};
 ghost use Rattle.spmd_text.specs.Parts.{Reads};
 ghost use Rattle.spmd_text.specs.Programs.{Meets, ReadsParameters, is_all_read, text_part};
 ghost use Rattle.spmd_text.specs.Reading.{Goes, next};
 ghost use Rattle.spmd_text.specs.Spelling.{begins, branch_word};
 ghost use Rattle.spmd_text.specs.Lines.{Block, EndsBlock, EndsBranch, IsEnded, Level, Tells, begin, from_word, is_inner, is_settled, level_at, lists, may_hold};
-ghost use Rattle.spmd_text.specs.Statements.{IsInTurn, IsInside, IsOtherwise, IsRepeat, IsWhen, Makes, begun_part, end_part, flat, flat_all, heading_part, is_end, is_first, line_at, one_part, scope_of, statements_part, tail_part, within_loop, word_of};
+ghost use Rattle.spmd_text.specs.Statements.{IsInTurn, IsInside, IsOtherwise, IsRepeat, IsWhen, Kept, Makes, begun_part, end_part, flat, flat_all, heading_part, held, held_all, is_end, is_first, line_at, one_part, scope_of, statements_part, tail_part, within_loop, word_of};
 
 use crate::codes::code;
 use crate::expressions::condition_at;
 use crate::fault::ParseReason;
-use crate::lines::{
-    Span, heading_line, parameter, policy_line, refused, simple, span_at, variable,
-};
+use crate::keeping::{Made, keep, refused};
+use crate::lines::{Span, heading_line, parameter, policy_line, simple, span_at, variable};
 use crate::parser::Parser;
 use crate::piece::{Piece, Token, Word};
 use crate::reading::Policy;
 use spmd_tree::{Expression, Statement};
-use std::alloc::{AllocError, Global};
-
-/// A statement in memory of its own.
-fn boxed(alloc: Global, statement: Statement) -> Result<Box<Statement>, AllocError>
-    ensures { IfOk result (λ made. made.value ≡ statement) }
-{
-    Ok(Box::new(alloc, statement)?)
-}
-
-/// Two statements in memory of their own.
-fn two(
-    alloc: Global,
-    a: Statement,
-    b: Statement,
-) -> Result<(Box<Statement>, Box<Statement>), AllocError>
-    ensures { IfOk result (λ both. (both.0.value ≡ a) × (both.1.value ≡ b)) }
-{
-    let a = Box::new(alloc, a)?;
-    let b = Box::new(alloc, b)?;
-    Ok((a, b))
-}
 
 /// A statement, and then another one.
-fn in_turn(parser: &mut Parser<'_>, a: Statement, b: Statement) -> Statement
-    ensures { Makes parser.old parser.new (IsInTurn a b result) }
+fn in_turn(parser: &mut Parser<'_>, a: Made, b: Made) -> Made
+    ensures { Makes parser.old parser.new (IsInTurn (held a) (held b) (held result)) }
 {
-    match two(parser.alloc, a, b) {
-        Err(AllocError) => refused(parser, ParseReason::Memory),
-        Ok((a, b)) => Statement::Sequence(a, b),
-    }
+    let Some(a) = a else {
+        return refused(parser, ParseReason::Memory);
+    };
+    let Some(b) = b else {
+        return refused(parser, ParseReason::Memory);
+    };
+    keep(parser, Statement::Sequence(a, b))
 }
 
 /// The last statements of the list, so many of them, one after another: as a tree that is no
 /// deeper than it has to be.
-fn sequence(parser: &mut Parser<'_>, list: &mut Vec<Statement>, count: usize) -> Statement
-    ensures { (before popped : List Statement) → list.old.items ≡ before ++ popped → length popped ≡ count → (list.new.items ≡ before) × Makes parser.old parser.new (flat result ≡ flat_all popped) }
+fn sequence(parser: &mut Parser<'_>, list: &mut Vec<Made>, count: usize) -> Made
+    ensures { (before popped : List Kept) → list.old.items ≡ before ++ popped → length popped ≡ count → (list.new.items ≡ before) × Makes parser.old parser.new (flat (held result) ≡ flat_all (held_all popped)) }
 {
     if count == 0 {
-        return Statement::Nothing;
+        return keep(parser, Statement::Nothing);
     }
     if count == 1 {
         return match list.pop() {
-            None => Statement::Nothing,
+            None => None,
             Some(last) => last,
         };
     }
@@ -75,8 +56,8 @@ fn sequence(parser: &mut Parser<'_>, list: &mut Vec<Statement>, count: usize) ->
 }
 
 /// The statements of the list, one after another.
-fn whole(parser: &mut Parser<'_>, list: Vec<Statement>) -> Statement
-    ensures { Makes parser.old parser.new (flat result ≡ flat_all list.items) }
+fn whole(parser: &mut Parser<'_>, list: Vec<Made>) -> Made
+    ensures { Makes parser.old parser.new (flat (held result) ≡ flat_all (held_all list.items)) }
 {
     let mut list = list;
     let count = list.len();
@@ -84,8 +65,8 @@ fn whole(parser: &mut Parser<'_>, list: Vec<Statement>) -> Statement
 }
 
 /// Adds a statement to the list, where memory lasts.
-fn add(parser: &mut Parser<'_>, list: &mut Vec<Statement>, statement: Statement)
-    ensures { Makes parser.old parser.new (list.new.items ≡ list.old.items ++ statement ∷ []) }
+fn add(parser: &mut Parser<'_>, list: &mut Vec<Made>, statement: Made)
+    ensures { Makes parser.old parser.new (held_all list.new.items ≡ held_all list.old.items ++ held statement ∷ []) }
 {
     match list.push(statement) {
         Ok(()) => {}
@@ -99,49 +80,54 @@ fn when(
     line: u32,
     chained: bool,
     condition: Expression,
-    yes: Statement,
-    no: Statement,
-) -> Statement
-    ensures { Makes parser.old parser.new (IsWhen line chained condition yes no result) }
+    yes: Made,
+    no: Made,
+) -> Made
+    ensures { Makes parser.old parser.new (IsWhen line chained condition (held yes) (held no) (held result)) }
 {
-    match two(parser.alloc, yes, no) {
-        Err(AllocError) => refused(parser, ParseReason::Memory),
-        Ok((yes, no)) => Statement::When {
-            line,
-            chained,
-            condition,
-            yes,
-            no,
-        },
-    }
+    let Some(yes) = yes else {
+        return refused(parser, ParseReason::Memory);
+    };
+    let Some(no) = no else {
+        return refused(parser, ParseReason::Memory);
+    };
+    let statement = Statement::When {
+        line,
+        chained,
+        condition,
+        yes,
+        no,
+    };
+    keep(parser, statement)
 }
 
 /// What stands after an `else`.
-fn otherwise(parser: &mut Parser<'_>, statements: Statement) -> Statement
-    ensures { Makes parser.old parser.new (IsOtherwise statements result) }
+fn otherwise(parser: &mut Parser<'_>, statements: Made) -> Made
+    ensures { Makes parser.old parser.new (IsOtherwise (held statements) (held result)) }
 {
-    match boxed(parser.alloc, statements) {
-        Err(AllocError) => refused(parser, ParseReason::Memory),
-        Ok(statements) => Statement::Otherwise(statements),
-    }
+    let Some(statements) = statements else {
+        return refused(parser, ParseReason::Memory);
+    };
+    keep(parser, Statement::Otherwise(statements))
 }
 
 /// The statement that a loop is.
-fn repeat(parser: &mut Parser<'_>, line: u32, name: u32, span: Span, body: Statement) -> Statement
-    ensures { Makes parser.old parser.new (IsRepeat line name span body result) }
+fn repeat(parser: &mut Parser<'_>, line: u32, name: u32, span: Span, body: Made) -> Made
+    ensures { Makes parser.old parser.new (IsRepeat line name span (held body) (held result)) }
 {
+    let Some(body) = body else {
+        return refused(parser, ParseReason::Memory);
+    };
     let Span { first, last, step } = span;
-    match boxed(parser.alloc, body) {
-        Err(AllocError) => refused(parser, ParseReason::Memory),
-        Ok(body) => Statement::Repeat {
-            line,
-            name,
-            first,
-            last,
-            step,
-            body,
-        },
-    }
+    let statement = Statement::Repeat {
+        line,
+        name,
+        first,
+        last,
+        step,
+        body,
+    };
+    keep(parser, statement)
 }
 
 /// The word that a statement begins with. `end`, `else` and `elif` end those before them.
@@ -172,7 +158,7 @@ fn is_end(piece: Piece) -> bool
 
 /// Notes that a line begins, unless something is wrong.
 fn begin_line(parser: &Parser<'_>, at: &mut u32)
-    ensures sound { parser.now.fault ≡ None → at.new ≡ line_at parser.now.last_line parser.now.rest.now }
+    ensures sound { parser.now.fault ≡ None → at.new ≡ line_at parser.now.rest.now }
     ensures stays { (why : ParseReason) → parser.now.fault ≡ Some why → at.new ≡ at.old }
 {
     match parser.fault {
@@ -254,8 +240,8 @@ fn end_text(parser: &mut Parser<'_>, at: &mut u32)
 
 /// The statements of the loop that was opened last, which ends with them.
 #[cycle(statements)]
-fn inside(parser: &mut Parser<'_>, at: &mut u32, depth: u32) -> Statement
-    ensures reads { IsInside parser.old parser.new depth result }
+fn inside(parser: &mut Parser<'_>, at: &mut u32, depth: u32) -> Made
+    ensures reads { IsInside parser.old parser.new depth (held result) }
     ensures stays { (why : ParseReason) → parser.old.fault ≡ Some why → at.new ≡ at.old }
     ensures line { (block : Block) (outer : List Level) → is_settled block ≡ true → Tells (level_at block parser.old depth ∷ outer) parser.old parser.new parser.old.rest.now at.new }
     ensures ended { parser.new.fault ≡ None → is_end (next parser.new) ≡ true }
@@ -267,8 +253,8 @@ fn inside(parser: &mut Parser<'_>, at: &mut u32, depth: u32) -> Statement
 
 /// The statements of a loop of this variable.
 #[cycle(statements)]
-fn body_of(parser: &mut Parser<'_>, at: &mut u32, name: u32, depth: u32) -> Statement
-    ensures reads { Reads (statements_part (within_loop name (scope_of parser.old)) depth) parser.old parser.new result }
+fn body_of(parser: &mut Parser<'_>, at: &mut u32, name: u32, depth: u32) -> Made
+    ensures reads { Reads (statements_part (within_loop name (scope_of parser.old)) depth) parser.old parser.new (held result) }
     ensures stays { (why : ParseReason) → parser.old.fault ≡ Some why → at.new ≡ at.old }
     ensures line { (block : Block) (outer : List Level) → is_settled block ≡ true → Tells (record { block = block; scope = within_loop name (scope_of parser.old); depth = depth } ∷ outer) parser.old parser.new parser.old.rest.now at.new }
     ensures ended { parser.new.fault ≡ None → is_end (next parser.new) ≡ true }
@@ -281,8 +267,8 @@ fn body_of(parser: &mut Parser<'_>, at: &mut u32, name: u32, depth: u32) -> Stat
 
 /// A loop after its word. At most so many blocks stand within one another, itself among them.
 #[cycle(statements)]
-fn looped(parser: &mut Parser<'_>, at: &mut u32, line: u32, depth: u32) -> Statement
-    ensures reads { Reads (begun_part (scope_of parser.old) depth line Word.For) parser.old parser.new result }
+fn looped(parser: &mut Parser<'_>, at: &mut u32, line: u32, depth: u32) -> Made
+    ensures reads { Reads (begun_part (scope_of parser.old) depth line Word.For) parser.old parser.new (held result) }
     ensures stays { (why : ParseReason) → parser.old.fault ≡ Some why → at.new ≡ at.old }
     ensures line { (block : Block) (outer : List Level) → is_settled block ≡ true → at.old ≡ line → Tells (level_at block parser.old depth ∷ outer) parser.old parser.new (from_word line Word.For parser.old) at.new }
 {
@@ -300,11 +286,11 @@ fn looped(parser: &mut Parser<'_>, at: &mut u32, line: u32, depth: u32) -> State
 /// An `if` after its word, up to its end; or an `elif`, up to what ends its `if`. At most so many
 /// blocks stand within one another, itself among them.
 #[cycle(statements)]
-fn branch(parser: &mut Parser<'_>, at: &mut u32, line: u32, chained: bool, depth: u32) -> Statement
-    ensures reads { Reads (begun_part (scope_of parser.old) depth line (branch_word chained)) parser.old parser.new result }
+fn branch(parser: &mut Parser<'_>, at: &mut u32, line: u32, chained: bool, depth: u32) -> Made
+    ensures reads { Reads (begun_part (scope_of parser.old) depth line (branch_word chained)) parser.old parser.new (held result) }
     ensures stays { (why : ParseReason) → parser.old.fault ≡ Some why → at.new ≡ at.old }
     ensures line { (block : Block) (outer : List Level) → may_hold chained block ≡ true → at.old ≡ line → Tells (level_at block parser.old depth ∷ outer) parser.old parser.new (from_word line (branch_word chained) parser.old) at.new }
-    ensures ends { chained ≡ true → parser.new.fault ≡ None → EndsBranch parser.new result }
+    ensures ends { chained ≡ true → parser.new.fault ≡ None → EndsBranch parser.new (held result) }
 {
     let condition = condition_at(parser);
     if depth == 0 {
@@ -319,8 +305,8 @@ fn branch(parser: &mut Parser<'_>, at: &mut u32, line: u32, chained: bool, depth
 
 /// An `else` after its word.
 #[cycle(statements)]
-fn after_else(parser: &mut Parser<'_>, at: &mut u32, depth: u32) -> Statement
-    ensures reads { (line : ℕ) → Reads (begun_part (scope_of parser.old) depth line Word.Else) parser.old parser.new result }
+fn after_else(parser: &mut Parser<'_>, at: &mut u32, depth: u32) -> Made
+    ensures reads { (line : ℕ) → Reads (begun_part (scope_of parser.old) depth line Word.Else) parser.old parser.new (held result) }
     ensures stays { (why : ParseReason) → parser.old.fault ≡ Some why → at.new ≡ at.old }
     ensures line { (line : ℕ) (outer : List Level) → at.old ≡ line → Tells (level_at Block.branch parser.old depth ∷ outer) parser.old parser.new (from_word line Word.Else parser.old) at.new }
     ensures ended { parser.new.fault ≡ None → is_end (next parser.new) ≡ true }
@@ -332,11 +318,11 @@ fn after_else(parser: &mut Parser<'_>, at: &mut u32, depth: u32) -> Statement
 
 /// What stands behind the statements of a branch: an `elif`, an `else`, or nothing.
 #[cycle(statements)]
-fn tail(parser: &mut Parser<'_>, at: &mut u32, depth: u32) -> Statement
-    ensures reads { Reads (tail_part (scope_of parser.old) depth) parser.old parser.new result }
+fn tail(parser: &mut Parser<'_>, at: &mut u32, depth: u32) -> Made
+    ensures reads { Reads (tail_part (scope_of parser.old) depth) parser.old parser.new (held result) }
     ensures stays { (why : ParseReason) → parser.old.fault ≡ Some why → at.new ≡ at.old }
     ensures line { (outer : List Level) → Tells (level_at Block.branch parser.old depth ∷ outer) parser.old parser.new parser.old.rest.now at.new }
-    ensures ends { is_end (next parser.old) ≡ true → parser.new.fault ≡ None → EndsBranch parser.new result }
+    ensures ends { is_end (next parser.old) ≡ true → parser.new.fault ≡ None → EndsBranch parser.new (held result) }
 {
     begin_line(parser, at);
     let line = parser.line();
@@ -346,13 +332,13 @@ fn tail(parser: &mut Parser<'_>, at: &mut u32, depth: u32) -> Statement
     if parser.take(Piece::Word(Word::Else)) {
         return after_else(parser, at, depth);
     }
-    Statement::Nothing
+    keep(parser, Statement::Nothing)
 }
 
 /// A statement after its first word.
 #[cycle(statements)]
-fn begun(parser: &mut Parser<'_>, at: &mut u32, word: Word, line: u32, depth: u32) -> Statement
-    ensures reads { is_first word ≡ true → Reads (begun_part (scope_of parser.old) depth line word) parser.old parser.new result }
+fn begun(parser: &mut Parser<'_>, at: &mut u32, word: Word, line: u32, depth: u32) -> Made
+    ensures reads { is_first word ≡ true → Reads (begun_part (scope_of parser.old) depth line word) parser.old parser.new (held result) }
     ensures stays { (why : ParseReason) → parser.old.fault ≡ Some why → at.new ≡ at.old }
     ensures line { (block : Block) (outer : List Level) → is_settled block ≡ true → word_of (Piece.Word word) ≡ Some word → at.old ≡ line → Tells (level_at block parser.old depth ∷ outer) parser.old parser.new (from_word line word parser.old) at.new }
 {
@@ -365,8 +351,8 @@ fn begun(parser: &mut Parser<'_>, at: &mut u32, word: Word, line: u32, depth: u3
 
 /// A statement that begins with this word, which comes next.
 #[cycle(statements)]
-fn statement(parser: &mut Parser<'_>, at: &mut u32, word: Word, depth: u32) -> Statement
-    ensures reads { is_first word ≡ true → next parser.old ≡ Piece.Word word → Reads (one_part (scope_of parser.old) depth word) parser.old parser.new result }
+fn statement(parser: &mut Parser<'_>, at: &mut u32, word: Word, depth: u32) -> Made
+    ensures reads { is_first word ≡ true → next parser.old ≡ Piece.Word word → Reads (one_part (scope_of parser.old) depth word) parser.old parser.new (held result) }
     ensures shorter { is_first word ≡ true → next parser.old ≡ Piece.Word word → length parser.new.rest.now < length parser.old.rest.now }
     ensures stays { (why : ParseReason) → parser.old.fault ≡ Some why → at.new ≡ at.old }
     ensures line { (block : Block) (outer : List Level) → is_settled block ≡ true → word_of (Piece.Word word) ≡ Some word → next parser.old ≡ Piece.Word word → Tells (level_at block parser.old depth ∷ outer) parser.old parser.new parser.old.rest.now at.new }
@@ -379,8 +365,8 @@ fn statement(parser: &mut Parser<'_>, at: &mut u32, word: Word, depth: u32) -> S
 
 /// Statements, up to what ends them. At most so many blocks stand within one another.
 #[cycle(statements)]
-fn statements(parser: &mut Parser<'_>, at: &mut u32, depth: u32) -> Statement
-    ensures reads { Reads (statements_part (scope_of parser.old) depth) parser.old parser.new result }
+fn statements(parser: &mut Parser<'_>, at: &mut u32, depth: u32) -> Made
+    ensures reads { Reads (statements_part (scope_of parser.old) depth) parser.old parser.new (held result) }
     ensures stays { (why : ParseReason) → parser.old.fault ≡ Some why → at.new ≡ at.old }
     ensures line { (block : Block) (outer : List Level) → is_settled block ≡ true → Tells (level_at block parser.old depth ∷ outer) parser.old parser.new parser.old.rest.now at.new }
     ensures ended { parser.new.fault ≡ None → is_end (next parser.new) ≡ true }
@@ -408,8 +394,8 @@ fn heading(parser: &mut Parser<'_>, at: &mut u32) -> Policy
 }
 
 /// The lines of parameters.
-fn parameters(parser: &mut Parser<'_>, at: &mut u32) -> Statement
-    ensures reads { parser.old.in_parameter ≡ false → ReadsParameters parser.old parser.new result }
+fn parameters(parser: &mut Parser<'_>, at: &mut u32) -> Made
+    ensures reads { parser.old.in_parameter ≡ false → ReadsParameters parser.old parser.new (held result) }
     ensures stays { parser.old.in_parameter ≡ false → (why : ParseReason) → parser.old.fault ≡ Some why → at.new ≡ at.old }
     ensures line { (block : Block) (depth : ℕ) → lists block ≡ true → parser.old.in_parameter ≡ false
         → Tells (level_at block parser.old depth ∷ []) parser.old parser.new parser.old.rest.now at.new }
@@ -427,8 +413,8 @@ fn parameters(parser: &mut Parser<'_>, at: &mut u32) -> Statement
 }
 
 /// The whole text, up to its end. At most 32 blocks stand within one another in it.
-pub(crate) fn program(parser: &mut Parser<'_>, at: &mut u32) -> (Policy, Statement)
-    ensures reads { parser.old.in_parameter ≡ false → parser.old.parameters.items ≡ [] → parser.old.loops.items ≡ [] → Meets (text_part parser.old.names.now) parser.old parser.new result }
+pub(crate) fn program(parser: &mut Parser<'_>, at: &mut u32) -> (Policy, Made)
+    ensures reads { parser.old.in_parameter ≡ false → parser.old.parameters.items ≡ [] → parser.old.loops.items ≡ [] → Meets (text_part parser.old.names.now) parser.old parser.new (result.0, held result.1) }
     ensures ends { parser.new.fault ≡ None → is_all_read parser.new.rest.now ≡ true }
     ensures line { parser.old.in_parameter ≡ false → parser.old.parameters.items ≡ [] → parser.old.loops.items ≡ [] → IsEnded parser.old.rest.now
         → Tells (begin parser.old.names.now ∷ []) parser.old parser.new parser.old.rest.now at.new }

@@ -3,21 +3,21 @@
 //! What is wrong is noted, and no piece is read behind it: what is then made of the parts is never
 //! used.
 
-ghost use Rattle.std.specs.Prelude.{ℕ, ◌≡◌, ◌+◌, IfOk, IfSome, None, Some, false, slice_get, true};
+ghost use Rattle.std.specs.Prelude.{ℕ, ◌≡◌, ◌+◌, IfSome, None, Some, false, slice_get, true};
 ghost use Rattle.spmd_text.specs.Labels.{name_fits};
 ghost use Rattle.spmd_text.specs.Parts.{IsRight, Keeps, Reads, arguments_part, form_of, group_part, index_part, label_part, labels_part, optional_part, request_part, root_part, value_part, wild_part};
 ghost use Rattle.spmd_text.specs.Reading.{Goes};
 ghost use Rattle.spmd_text.specs.Spelling.{begins, is_rooted};
-ghost use Rattle.spmd_text.specs.Statements.{IsMore, Makes, begun_part, is_call, scope_of};
+ghost use Rattle.spmd_text.specs.Statements.{IsMore, Makes, begun_part, held, is_call, scope_of};
 
 use crate::expressions::expression_at;
 use crate::fault::ParseReason;
+use crate::keeping::{Made, boxed, keep, refused};
 use crate::labels::is_label;
-use crate::lines::refused;
 use crate::parser::Parser;
 use crate::piece::{Piece, Word};
 use spmd_tree::{Arguments, Expression, GroupForm, Kind, LabelForm, Labels, Mode, Statement};
-use std::alloc::{AllocError, Global};
+use std::alloc::AllocError;
 
 /// Whether the name can be that of a request or handle.
 fn can_be_label(names: &[Vec<u8>], name: u32, indexed: bool) -> bool
@@ -258,13 +258,6 @@ fn wait(parser: &mut Parser<'_>) -> Arguments
     Arguments::Wait { request }
 }
 
-/// The requests of a list in memory of their own.
-fn boxed(alloc: Global, labels: Labels) -> Result<Box<Labels>, AllocError>
-    ensures { IfOk result (λ made. made.value ≡ labels) }
-{
-    Ok(Box::new(alloc, labels)?)
-}
-
 /// A request, and the others of the list.
 fn more(parser: &mut Parser<'_>, form: LabelForm, others: Labels) -> Labels
     ensures { Makes parser.old parser.new (IsMore form others result) }
@@ -295,12 +288,12 @@ fn labels(parser: &mut Parser<'_>, most: u32) -> Labels
 }
 
 /// A `waitall` after its word, up to the end of its line.
-pub(crate) fn wait_all(parser: &mut Parser<'_>, line: u32) -> Statement
-    ensures { (depth : ℕ) → Reads (begun_part (scope_of parser.old) depth line Word.Waitall) parser.old parser.new result }
+pub(crate) fn wait_all(parser: &mut Parser<'_>, line: u32) -> Made
+    ensures { (depth : ℕ) → Reads (begun_part (scope_of parser.old) depth line Word.Waitall) parser.old parser.new (held result) }
 {
     let requests = labels(parser, 1023);
     parser.end_line();
-    Statement::WaitAll { line, requests }
+    keep(parser, Statement::WaitAll { line, requests })
 }
 
 /// What a word begins: a send, and whether it is started; a receive, or one on a handle, and whether
@@ -367,13 +360,13 @@ fn arguments(parser: &mut Parser<'_>, form: Form) -> Arguments
 }
 
 /// The call that the word begins, up to the end of its line.
-pub(crate) fn call(parser: &mut Parser<'_>, word: Word, line: u32) -> Statement
-    ensures { (depth : ℕ) → is_call word ≡ true → Reads (begun_part (scope_of parser.old) depth line word) parser.old parser.new result }
+pub(crate) fn call(parser: &mut Parser<'_>, word: Word, line: u32) -> Made
+    ensures { (depth : ℕ) → is_call word ≡ true → Reads (begun_part (scope_of parser.old) depth line word) parser.old parser.new (held result) }
 {
     let Some(form) = form_of(word) else {
         return refused(parser, ParseReason::NoStatement);
     };
     let arguments = arguments(parser, form);
     parser.end_line();
-    Statement::Call { line, arguments }
+    keep(parser, Statement::Call { line, arguments })
 }

@@ -9,6 +9,7 @@ mod expressions;
 mod fault;
 mod heading;
 mod joints;
+mod keeping;
 mod labels;
 mod laws;
 mod lexer;

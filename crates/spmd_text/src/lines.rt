@@ -3,24 +3,17 @@
 ghost use Rattle.std.specs.Prelude.{◌≡◌, ◌≤◌, IfSome, length, ℕ, pos, None, Some, true, false};
 ghost use Rattle.spmd_text.specs.Parts.{Keeps, Reads, value_part};
 ghost use Rattle.spmd_text.specs.Programs.{Adds, ReadsParameter, otherwise_part};
-ghost use Rattle.spmd_text.specs.Reading.{Goes, noted};
-ghost use Rattle.spmd_text.specs.Statements.{IsStep, begun_part, gap_part, heading_line_part, is_one_of, is_simple, may_give, policy_line_part, policy_of, policy_part, scope_of, span_part, step_part, variable_part};
+ghost use Rattle.spmd_text.specs.Reading.{Goes};
+ghost use Rattle.spmd_text.specs.Statements.{IsStep, begun_part, gap_part, held, heading_line_part, is_one_of, is_simple, may_give, policy_line_part, policy_of, policy_part, scope_of, span_part, step_part, variable_part};
 
 use crate::calls::{call, wait_all};
 use crate::expressions::expression_at;
 use crate::fault::ParseReason;
+use crate::keeping::{Made, keep, refused};
 use crate::parser::Parser;
 use crate::piece::{Piece, Word};
 use crate::reading::Policy;
 use spmd_tree::{Expression, Statement};
-
-/// What has no meaning here: what is given in place of a statement is never used.
-pub(crate) fn refused(parser: &mut Parser<'_>, reason: ParseReason) -> Statement
-    ensures { parser.new ≡ record parser.old { fault = noted parser.old.fault reason } }
-{
-    parser.fail(reason);
-    Statement::Nothing
-}
 
 /// Whether the name is one of these.
 fn contains(places: &[u32], name: u32) -> bool
@@ -55,26 +48,26 @@ pub(crate) fn variable(parser: &mut Parser<'_>) -> u32
 }
 
 /// A `let` after its word, up to the end of its line.
-fn assign(parser: &mut Parser<'_>, line: u32) -> Statement
-    ensures { (depth : ℕ) → Reads (begun_part (scope_of parser.old) depth line Word.Let) parser.old parser.new result }
+fn assign(parser: &mut Parser<'_>, line: u32) -> Made
+    ensures { (depth : ℕ) → Reads (begun_part (scope_of parser.old) depth line Word.Let) parser.old parser.new (held result) }
 {
     let name = variable(parser);
     let value = expression_at(parser);
     parser.end_line();
-    Statement::Assign { line, name, value }
+    keep(parser, Statement::Assign { line, name, value })
 }
 
 /// An `error` after its word, up to the end of its line.
-fn unreached(parser: &mut Parser<'_>, line: u32) -> Statement
-    ensures { (depth : ℕ) → Reads (begun_part (scope_of parser.old) depth line Word.Error) parser.old parser.new result }
+fn unreached(parser: &mut Parser<'_>, line: u32) -> Made
+    ensures { (depth : ℕ) → Reads (begun_part (scope_of parser.old) depth line Word.Error) parser.old parser.new (held result) }
 {
     parser.end_line();
-    Statement::Unreached { line }
+    keep(parser, Statement::Unreached { line })
 }
 
 /// A statement of one line, after its first word.
-pub(crate) fn simple(parser: &mut Parser<'_>, word: Word, line: u32) -> Statement
-    ensures { (depth : ℕ) → is_simple word ≡ true → Reads (begun_part (scope_of parser.old) depth line word) parser.old parser.new result }
+pub(crate) fn simple(parser: &mut Parser<'_>, word: Word, line: u32) -> Made
+    ensures { (depth : ℕ) → is_simple word ≡ true → Reads (begun_part (scope_of parser.old) depth line word) parser.old parser.new (held result) }
 {
     match word {
         Word::Let => assign(parser, line),
@@ -122,8 +115,8 @@ fn keep_parameter(parser: &mut Parser<'_>, name: u32)
 }
 
 /// A `param` after its word, up to the end of its line.
-pub(crate) fn parameter(parser: &mut Parser<'_>, line: u32) -> Statement
-    ensures reads { parser.old.in_parameter ≡ false → ReadsParameter parser.old parser.new line result }
+pub(crate) fn parameter(parser: &mut Parser<'_>, line: u32) -> Made
+    ensures reads { parser.old.in_parameter ≡ false → ReadsParameter parser.old parser.new line (held result) }
     ensures shorter { length parser.new.rest.now ≤ length parser.old.rest.now }
 {
     let name = parser.name();
@@ -131,11 +124,14 @@ pub(crate) fn parameter(parser: &mut Parser<'_>, line: u32) -> Statement
     keep_parameter(parser, name);
     let otherwise = otherwise(parser);
     parser.end_line();
-    Statement::Parameter {
-        line,
-        name,
-        otherwise,
-    }
+    keep(
+        parser,
+        Statement::Parameter {
+            line,
+            name,
+            otherwise,
+        },
+    )
 }
 
 /// A step, where the piece is the number of one.

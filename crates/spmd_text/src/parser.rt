@@ -20,8 +20,6 @@ pub(crate) struct Parser<'a> {
     pub(crate) alloc: Global,
     pub(crate) rest: &'a [Token],
     pub(crate) names: &'a [Vec<u8>],
-    /// The line of the last piece of the text.
-    pub(crate) last_line: u32,
     /// The places of parameters.
     pub(crate) parameters: Vec<u32>,
     /// The variables of the loops that are open.
@@ -65,13 +63,13 @@ impl Parser<'_> {
         }
     }
 
-    /// The line of the piece that is read next, or of the last one.
+    /// The line of the piece that is read next; 1, where none is left.
     pub(crate) fn line(&self) -> u32
-        ensures { result ≡ line_at self.now.last_line self.now.rest.now }
+        ensures { result ≡ line_at self.now.rest.now }
     {
         match self.rest.first() {
             Some(token) => token.line,
-            None => self.last_line,
+            None => 1,
         }
     }
 

@@ -6,13 +6,15 @@ ghost use Rattle.spmd_text.specs.declared.reading.Policy.{Policy};
 ghost use Rattle.spmd_text.specs.FirstFaults.{IsFirstFault};
 ghost use Rattle.spmd_text.specs.Lines.{IsEnded};
 ghost use Rattle.spmd_text.specs.Programs.{Says, parameters_of};
+ghost use Rattle.spmd_text.specs.Statements.{held};
 ghost use Rattle.spmd_text.specs.Texts.{HasFault, IsText, grammar_fault, is_memory};
 
 use crate::blocks::program;
 use crate::cutting::cut;
 use crate::fault::{ParseFault, ParseReason, TextFault};
+use crate::keeping::Made;
 use crate::parser::Parser;
-use crate::piece::{Pieces, Token};
+use crate::piece::Pieces;
 use spmd_tree::Statement;
 use std::alloc::{AllocError, Global};
 
@@ -28,7 +30,7 @@ pub enum Policy {
 #[derive(Drop)]
 struct Reading {
     policy: Policy,
-    statements: Statement,
+    statements: Made,
     /// What is wrong first: the statements mean nothing then.
     fault: Option<ParseFault>,
 }
@@ -42,14 +44,6 @@ pub struct Text {
     pub names: Vec<Vec<u8>>,
     /// The places of the parameters' names, in their order.
     pub parameters: Vec<u32>,
-}
-
-/// The line of the last piece; 1 where there is none.
-fn last_line(tokens: &[Token]) -> u32 {
-    match tokens.last() {
-        Some(token) => token.line,
-        None => 1,
-    }
 }
 
 /// What is wrong first, and on which line.
@@ -67,7 +61,7 @@ fn first_fault(parser: &Parser<'_>, line: u32) -> Option<ParseFault>
 /// Reads the pieces. Where a fault is told, other than want of memory, they say nothing that can be
 /// read.
 fn read(alloc: Global, found: &Pieces) -> Reading
-    ensures said { result.fault ≡ None → Says found.now result.policy result.statements }
+    ensures said { result.fault ≡ None → Says found.now result.policy (held result.statements) }
     ensures told { IfSome result.fault (λ fault. is_memory fault.reason ≡ false → (policy : Policy) (statements : Statement) → Says found.now policy statements → ⊥) }
     ensures first { IfSome result.fault (λ fault. is_memory fault.reason ≡ false → IsEnded found.now.tokens.items
         → IsFirstFault found.now.names.items found.now.tokens.items fault.line) }
@@ -76,7 +70,6 @@ fn read(alloc: Global, found: &Pieces) -> Reading
         alloc,
         rest: found.tokens.as_slice(),
         names: found.names.as_slice(),
-        last_line: last_line(&found.tokens),
         parameters: Vec::new(alloc),
         loops: Vec::new(alloc),
         in_parameter: false,
@@ -143,18 +136,25 @@ pub fn parse(alloc: Global, bytes: &[u8]) -> Result<Text, TextFault>
         Err(fault) => return Err(fault),
         Ok(found) => found,
     };
-    let program = read(alloc, &found);
-    if let Some(fault) = program.fault {
+    let Reading {
+        policy,
+        statements,
+        fault,
+    } = read(alloc, &found);
+    if let Some(fault) = fault {
         return Err(grammar_fault(fault));
     }
+    let Some(statements) = statements else {
+        return Err(TextFault::Memory);
+    };
     let mut parameters = Vec::new(alloc);
-    match put_parameters(&mut parameters, &program.statements) {
+    match put_parameters(&mut parameters, &statements) {
         Err(AllocError) => return Err(TextFault::Memory),
         Ok(()) => {}
     }
     Ok(Text {
-        policy: program.policy,
-        program: program.statements,
+        policy,
+        program: Box::into_inner(statements),
         names: found.names,
         parameters,
     })

@@ -7,16 +7,16 @@ use Rattle.spmd_text.specs.Parts.{Reads}
 use Rattle.spmd_text.specs.declared.piece.Piece.TheVariants as piece
 use Rattle.spmd_text.specs.Lines as lines
 use Rattle.spmd_text.specs.Lines.{Level, Tells, from_word, level_at}
-use Rattle.spmd_text.specs.Statements.{MayStatements, RowSoFar, begun_part, is_end, line_at, put_back, scope_of, span_part, statements_part, tail_part, within_loop, word_of}
+use Rattle.spmd_text.specs.Statements.{Kept, MayStatements, RowSoFar, begun_part, held, held_all, is_end, line_at, put_back, scope_of, span_part, statements_part, tail_part, within_loop, word_of}
 use Rattle.spmd_text.proofs.BlockForms.{body_read, elif_as, else_as, end_behind, first_simple, line_end_condition, loop_head_parts, name_read, next_begins, next_shorter, no_memory, otherwise_back, otherwise_so, put_back_is, reads_begun, reads_then_on, repeat_back, repeat_none, repeat_so, span_strict, tail_none, when_back, when_none, when_so}
-use Rattle.spmd_text.proofs.BlockLines.{branch_tells, else_shut, else_then_tells, head_deep_tells, lines_begun, lines_ended, lines_more, loop_deep_tells, loop_tells, made_ends, none_ends, simple_tells, tells_begun, when_ends}
+use Rattle.spmd_text.proofs.BlockLines.{branch_tells, else_shut, else_then_tells, head_deep_tells, kept_ends, lines_begun, lines_ended, lines_more, loop_deep_tells, loop_tells, made_ends, none_ends, simple_tells, tells_begun, when_ends}
 use Rattle.spmd_text.proofs.BlockWords.{end_ends, end_strict, statement_strict, tail_ends}
 use Rattle.spmd_text.proofs.Flat.{row_begun, row_ended, row_more, word_of_is}
 use Rattle.spmd_text.proofs.LeftOut.{not_next}
 use Rattle.spmd_text.specs.Reading.{next}
 use Rattle.spmd_text.proofs.Following.{line_end_begins}
 use Rattle.spmd_text.proofs.Going.{never_failed}
-use Rattle.spmd_text.proofs.Made.{made_goes, made_sound, reads_made}
+use Rattle.spmd_text.proofs.Made.{made_goes, made_sound, reads_kept, reads_made}
 use Rattle.spmd_text.proofs.Parts.{keeps_of, keeps_on, on_flag, reads_as, reads_then, sound_before}
 use Rattle.spmd_text.proofs.Stuck.{tells_made, tells_none}
 use Rattle.spmd_text.proofs.Sequences.{taken_last}
@@ -28,7 +28,7 @@ after_else-returns-clause-reads t c line =
     let one = c.end_line.ensures in
     let two = reads_then statement_strict (λ y here rest may e ends. refl) one
     (on_scope (λ scope. statements_part scope c.args.depth) one.goes c.statements-inner.ensures.reads) in
-    reads_made (otherwise_back c.args.parser.now c.args.depth line c.otherwise.result) (otherwise_so c.args.parser.now c.args.depth line c.statements-inner.result c.otherwise.result) two c.otherwise.ensures
+    reads_made (otherwise_back c.args.parser.now c.args.depth line (held c.otherwise.result)) (otherwise_so c.args.parser.now c.args.depth line (held c.statements-inner.result) (held c.otherwise.result)) two c.otherwise.ensures
 
 pub branch-returns-then-depth-eq0-clause-reads : goal.branch-returns-then-depth-eq0-clause-reads
 branch-returns-then-depth-eq0-clause-reads t c =
@@ -43,7 +43,7 @@ branch-returns-clause-reads t c =
     let four = reads_then statement_strict (λ y here rest may e ends. tail_ends y here rest may.tail e ends) three (on_scope (λ scope. tail_part scope (c.args.depth - 1)) three.goes c.tail-no.ensures.reads) in
     let five = reads_then (λ y. end_strict c.args.chained) (λ y here rest may e ends. end_behind c.args.chained here rest e ends) four c.end_branch.ensures.reads in
     reads_made (when_back old c.args.depth c.args.line c.args.chained)
-    (when_so old c.args.depth c.args.line c.args.chained c.condition_at-condition.result c.statements-yes.result c.tail-no.result c.when.result (omega (arith, c.if-depth-eq0.false))) five c.when.ensures
+    (when_so old c.args.depth c.args.line c.args.chained c.condition_at-condition.result (held c.statements-yes.result) (held c.tail-no.result) (held c.when.result) (omega (arith, c.if-depth-eq0.false))) five c.when.ensures
 
 pub looped-returns-clause-reads : goal.looped-returns-clause-reads
 looped-returns-clause-reads t c =
@@ -55,7 +55,7 @@ looped-returns-clause-reads t c =
     let four = reads_then_on {one = loop_head_parts (scope_of old)} (statements_part (scope_of old) (c.args.depth - 1)) (λ k. MayStatements (within_loop k (scope_of old)) (c.args.depth - 1)) name_read statement_strict (λ y here rest e ends. refl) (λ x same. sym same.0.0) three body in
     let five = reads_then (λ y. refl) (λ y here rest may e ends. end_ends here (end_behind false here rest e ends)) four c.end_block.ensures.reads in
     reads_made (repeat_back old c.args.depth c.args.line)
-    (repeat_so old c.args.depth c.args.line c.variable-name.result c.span_at-span.result c.body_of-body.result c.repeat.result (omega (arith, c.if-depth-eq0.false))) five c.repeat.ensures
+    (repeat_so old c.args.depth c.args.line c.variable-name.result c.span_at-span.result (held c.body_of-body.result) (held c.repeat.result) (omega (arith, c.if-depth-eq0.false))) five c.repeat.ensures
 
 pub looped-returns-then-depth-eq0-clause-reads : goal.looped-returns-then-depth-eq0-clause-reads
 looped-returns-then-depth-eq0-clause-reads t c =
@@ -63,11 +63,11 @@ looped-returns-then-depth-eq0-clause-reads t c =
 
 pub begun-returns-in-For-clause-reads : goal.begun-returns-in-For-clause-reads
 begun-returns-in-For-clause-reads t c first =
-    subst (λ (w : Word). Reads (begun_part (scope_of c.args.parser.now) c.args.depth c.args.line w) c.args.parser.now c.looped.new.parser c.looped.result) (sym c.in-For.is) c.looped.ensures.reads
+    subst (λ (w : Word). Reads (begun_part (scope_of c.args.parser.now) c.args.depth c.args.line w) c.args.parser.now c.looped.new.parser (held c.looped.result)) (sym c.in-For.is) c.looped.ensures.reads
 
 pub begun-returns-in-If-clause-reads : goal.begun-returns-in-If-clause-reads
 begun-returns-in-If-clause-reads t c first =
-    subst (λ (w : Word). Reads (begun_part (scope_of c.args.parser.now) c.args.depth c.args.line w) c.args.parser.now c.branch-parser.new.parser c.branch-parser.result) (sym c.in-If.is) c.branch-parser.ensures.reads
+    subst (λ (w : Word). Reads (begun_part (scope_of c.args.parser.now) c.args.depth c.args.line w) c.args.parser.now c.branch-parser.new.parser (held c.branch-parser.result)) (sym c.in-If.is) c.branch-parser.ensures.reads
 
 pub begun-returns-in_default-clause-reads : goal.begun-returns-in_default-clause-reads
 begun-returns-in_default-clause-reads t c first = c.simple.ensures c.args.depth (first_simple c.args.word first c.in_default.not-For c.in_default.not-If)
@@ -79,8 +79,8 @@ statement-returns-clause-reads t c first is =
     reads_begun goes (λ sound. c.step.ensures.fault ∙ sound)
     (λ sound.
     ap (λ (n : ℕ). put_back n c.args.word (Some c.step.new.self.rest.now)) c.line-line.ensures
-    ∙ (ap (λ (z : List Token). put_back (line_at old.last_line old.rest.now) c.args.word (Some z)) c.step.ensures.left
-    ∙ put_back_is c.args.word old.last_line old.rest.now (next_begins c.args.word old.fault old.rest.now sound is)))
+    ∙ (ap (λ (z : List Token). put_back (line_at old.rest.now) c.args.word (Some z)) c.step.ensures.left
+    ∙ put_back_is c.args.word old.rest.now (next_begins c.args.word old.fault old.rest.now sound is)))
     (on_scope (λ scope. begun_part scope c.args.depth c.line-line.result c.args.word) goes (c.begun.ensures.reads first))
 
 pub statement-returns-clause-shorter : goal.statement-returns-clause-shorter
@@ -107,12 +107,12 @@ tail-returns-then-take-clause-reads t c =
     let old : Parser = c.args.parser.now in
     let goes = keeps_of c.take.ensures.goes in
     let passed = c.if-take.ensures.passed refl in
-    reads_as (elif_as old c.args.depth c.branch-parser.result (λ sound. c.if-take.ensures.there refl sound refl))
+    reads_as (elif_as old c.args.depth (held c.branch-parser.result) (λ sound. c.if-take.ensures.there refl sound refl))
     (reads_begun goes (λ sound. passed.0 ∙ sound)
     (λ sound.
     ap (λ (n : ℕ). put_back n word.Elif (Some c.take.new.self.rest.now)) c.line-line.ensures
-    ∙ (ap (λ (z : List Token). put_back (line_at old.last_line old.rest.now) word.Elif (Some z)) passed.1
-    ∙ put_back_is word.Elif old.last_line old.rest.now (c.if-take.ensures.there refl sound refl)))
+    ∙ (ap (λ (z : List Token). put_back (line_at old.rest.now) word.Elif (Some z)) passed.1
+    ∙ put_back_is word.Elif old.rest.now (c.if-take.ensures.there refl sound refl)))
     (on_scope (λ scope. begun_part scope c.args.depth c.line-line.result word.Elif) goes c.branch-parser.ensures.reads))
 
 pub tail-returns-then-take-2-clause-reads : goal.tail-returns-then-take-2-clause-reads
@@ -120,24 +120,26 @@ tail-returns-then-take-2-clause-reads t c =
     let mid : Parser = c.take.new.self in
     let goes = keeps_of c.take-2.ensures.goes in
     let passed = c.if-take-2.ensures.passed refl in
-    let line : ℕ = line_at mid.last_line mid.rest.now in
-    let read = reads_as (else_as mid c.args.depth c.after_else.result (λ sound. c.if-take-2.ensures.there refl sound refl))
+    let line : ℕ = line_at mid.rest.now in
+    let read = reads_as (else_as mid c.args.depth (held c.after_else.result) (λ sound. c.if-take-2.ensures.there refl sound refl))
     (reads_begun goes (λ sound. passed.0 ∙ sound)
     (λ sound.
     ap (λ (z : List Token). put_back line word.Else (Some z)) passed.1
-    ∙ put_back_is word.Else mid.last_line mid.rest.now (c.if-take-2.ensures.there refl sound refl))
+    ∙ put_back_is word.Else mid.rest.now (c.if-take-2.ensures.there refl sound refl))
     (on_scope (λ scope. begun_part scope c.args.depth line word.Else) goes (c.after_else.ensures.reads line))) in
-    subst (λ (p : Parser). Reads (tail_part (scope_of p) c.args.depth) p c.after_else.new.parser c.after_else.result) (c.if-take.ensures.left refl) read
+    subst (λ (p : Parser). Reads (tail_part (scope_of p) c.args.depth) p c.after_else.new.parser (held c.after_else.result)) (c.if-take.ensures.left refl) read
 
 pub tail-returns-clause-reads : goal.tail-returns-clause-reads
 tail-returns-clause-reads t c =
-    tail_none (scope_of c.args.parser.now) c.args.depth (c.if-take.ensures.left refl) (c.if-take-2.ensures.left refl)
+    reads_kept
+    (tail_none (scope_of c.args.parser.now) c.args.depth (c.if-take.ensures.left refl) (c.if-take-2.ensures.left refl)
     (not_next word.Elif c.args.parser.now.fault c.args.parser.now.rest.now (sym c.if-take.ensures.found))
-    (not_next word.Else c.take.new.self.fault c.take.new.self.rest.now (sym c.if-take-2.ensures.found))
+    (not_next word.Else c.take.new.self.fault c.take.new.self.rest.now (sym c.if-take-2.ensures.found)))
+    c.keep.ensures
 
 pub statements-loop-word-init : goal.statements-loop-word-init
 statements-loop-word-init t c = record {
-  row = subst (RowSoFar c.args.parser.now c.args.parser.now c.args.depth) (sym c.new-list.ensures.items) (row_begun c.args.parser.now c.args.depth);
+  row = subst (λ (list : List Kept). RowSoFar c.args.parser.now c.args.parser.now c.args.depth (held_all list)) (sym c.new-list.ensures.items) (row_begun c.args.parser.now c.args.depth);
   lines = lines_begun c.args.parser.now c.args.depth c.args.at.now;
 }
 
@@ -148,7 +150,7 @@ statements-loop-word-preserved t c =
     let reads = c.statement-statement.ensures.reads known.1 known.0 in
     let so = ap word_of (sym known.0) ∙ is in
     record {
-      row = row_more c.in-Some.word c.statement-statement.result c.loop-word.invariant.row is reads c.add.ensures;
+      row = row_more c.in-Some.word (held c.statement-statement.result) c.loop-word.invariant.row is reads c.add.ensures;
       lines = lines_more c.in-Some.word c.loop-word.invariant.lines c.loop-word.invariant.row.goes known.1 reads
           (record { stays = c.statement-statement.ensures.stays; tells = λ block outer settled. c.statement-statement.ensures.line block outer settled so known.0 }) c.add.ensures;
     }
@@ -162,7 +164,7 @@ statements-loop-word-smaller t c =
 
 pub statements-returns-clause-reads : goal.statements-returns-clause-reads
 statements-returns-clause-reads t c =
-    row_ended c.whole.result c.loop-word.invariant.row (ap word_of (sym c.piece.ensures) ∙ (sym c.word_of.ensures ∙ c.in_default.is)) (keeps_of c.refuse_other.ensures.goes) c.refuse_other.ensures.sound c.refuse_other.ensures.fits c.whole.ensures
+    row_ended (held c.whole.result) c.loop-word.invariant.row (ap word_of (sym c.piece.ensures) ∙ (sym c.word_of.ensures ∙ c.in_default.is)) (keeps_of c.refuse_other.ensures.goes) c.refuse_other.ensures.sound c.refuse_other.ensures.fits c.whole.ensures
 
 pub statements-returns-clause-stays : goal.statements-returns-clause-stays
 statements-returns-clause-stays t c why e =
@@ -285,8 +287,8 @@ statement-returns-clause-line t c block outer settled w is =
     tells_begun c.begun.new.parser c.args.word block outer c.args.depth (keeps_of c.step.ensures.goes) (λ sound. c.step.ensures.fault ∙ sound)
     (λ sound.
     ap (λ (n : ℕ). put_back n c.args.word (Some c.step.new.self.rest.now)) c.line-line.ensures
-    ∙ (ap (λ (z : List Token). put_back (line_at old.last_line old.rest.now) c.args.word (Some z)) c.step.ensures.left
-    ∙ put_back_is c.args.word old.last_line old.rest.now (next_begins c.args.word old.fault old.rest.now sound is)))
+    ∙ (ap (λ (z : List Token). put_back (line_at old.rest.now) c.args.word (Some z)) c.step.ensures.left
+    ∙ put_back_is c.args.word old.rest.now (next_begins c.args.word old.fault old.rest.now sound is)))
     (λ sound. c.begun.ensures.line block outer settled w (c.begin_line.ensures.sound sound ∙ sym c.line-line.ensures))
 
 pub inside-returns-clause-stays : goal.inside-returns-clause-stays
@@ -334,8 +336,8 @@ tail-returns-then-take-clause-line t c outer =
     tells_begun c.branch-parser.new.parser word.Elif lines.branch outer c.args.depth (keeps_of c.take.ensures.goes) (λ sound. passed.0 ∙ sound)
     (λ sound.
     ap (λ (n : ℕ). put_back n word.Elif (Some c.take.new.self.rest.now)) c.line-line.ensures
-    ∙ (ap (λ (z : List Token). put_back (line_at old.last_line old.rest.now) word.Elif (Some z)) passed.1
-    ∙ put_back_is word.Elif old.last_line old.rest.now (c.if-take.ensures.there refl sound refl)))
+    ∙ (ap (λ (z : List Token). put_back (line_at old.rest.now) word.Elif (Some z)) passed.1
+    ∙ put_back_is word.Elif old.rest.now (c.if-take.ensures.there refl sound refl)))
     (λ sound. c.branch-parser.ensures.line lines.branch outer refl (c.begin_line.ensures.sound sound ∙ sym c.line-line.ensures))
 
 pub tail-returns-then-take-clause-ends : goal.tail-returns-then-take-clause-ends
@@ -351,18 +353,18 @@ tail-returns-then-take-2-clause-line t c outer =
     let mid : Parser = c.take.new.self in
     let kept : mid ≡ old = c.if-take.ensures.left refl in
     let passed = c.if-take-2.ensures.passed refl in
-    let line : ℕ = line_at mid.last_line mid.rest.now in
+    let line : ℕ = line_at mid.rest.now in
     let tells = tells_begun c.after_else.new.parser word.Else lines.branch outer c.args.depth (keeps_of c.take-2.ensures.goes) (λ sound. passed.0 ∙ sound)
     (λ sound.
     ap (λ (z : List Token). put_back line word.Else (Some z)) passed.1
-    ∙ put_back_is word.Else mid.last_line mid.rest.now (c.if-take-2.ensures.there refl sound refl))
-    (λ sound. c.after_else.ensures.line line outer (c.begin_line.ensures.sound (sym (ap (λ (p : Parser). p.fault) kept) ∙ sound) ∙ ap (λ (p : Parser). line_at p.last_line p.rest.now) (sym kept))) in
+    ∙ put_back_is word.Else mid.rest.now (c.if-take-2.ensures.there refl sound refl))
+    (λ sound. c.after_else.ensures.line line outer (c.begin_line.ensures.sound (sym (ap (λ (p : Parser). p.fault) kept) ∙ sound) ∙ ap (λ (p : Parser). line_at p.rest.now) (sym kept))) in
     subst (λ (p : Parser). Tells (level_at lines.branch p c.args.depth ∷ outer) p c.after_else.new.parser p.rest.now c.after_else.new.at) kept tells
 
 pub tail-returns-then-take-2-clause-ends : goal.tail-returns-then-take-2-clause-ends
 tail-returns-then-take-2-clause-ends t c before sound = record {
   ends = c.after_else.ensures.ended sound;
-  closed = λ e. absurd (else_shut c.after_else.result ((c.after_else.ensures.reads 0).may sound) e);
+  closed = λ e. absurd (else_shut (held c.after_else.result) ((c.after_else.ensures.reads 0).may sound) e);
 }
 
 pub tail-returns-clause-stays : goal.tail-returns-clause-stays
@@ -370,9 +372,10 @@ tail-returns-clause-stays t c = c.begin_line.ensures.stays
 
 pub tail-returns-clause-line : goal.tail-returns-clause-line
 tail-returns-clause-line t c outer =
-    tells_none (level_at lines.branch c.args.parser.now c.args.depth ∷ outer) c.args.parser.now c.take-2.new.self c.args.parser.now.rest.now c.begin_line.new.at
-    (ap (λ (p : Parser). p.fault) (c.if-take-2.ensures.left refl ∙ c.if-take.ensures.left refl))
+    tells_made c.args.parser.now
+    (tells_none (level_at lines.branch c.args.parser.now c.args.depth ∷ outer) c.args.parser.now c.take-2.new.self c.args.parser.now.rest.now c.begin_line.new.at
+    (ap (λ (p : Parser). p.fault) (c.if-take-2.ensures.left refl ∙ c.if-take.ensures.left refl))) c.keep.ensures
 
 pub tail-returns-clause-ends : goal.tail-returns-clause-ends
 tail-returns-clause-ends t c before sound =
-    none_ends (c.if-take.ensures.left refl) (c.if-take-2.ensures.left refl) (sym c.if-take.ensures.found) (sym c.if-take-2.ensures.found) before
+    kept_ends (none_ends (c.if-take.ensures.left refl) (c.if-take-2.ensures.left refl) (sym c.if-take.ensures.found) (sym c.if-take-2.ensures.found) before) c.keep.ensures sound

@@ -1,4 +1,5 @@
 use Rattle.std.proofs.Common.{◌+◌, ◌*◌, length}
+use Rattle.spmd_text.specs.Statements.{held_all}
 use Rattle.spmd_text.proofs.BlockLines.{SoFar}
 use Rattle.spmd_text.proofs.blocks.+statements.Given as goal
 
@@ -34,4 +35,4 @@ abbrev pub decreases-statements-loop-word : goal.decreases-statements-loop-word
 decreases-statements-loop-word l = length l.parser.rest.now
 
 abbrev pub invariant-statements-loop-word : goal.invariant-statements-loop-word
-invariant-statements-loop-word l = SoFar l.initial.parser l.parser l.depth l.list.items l.initial.at l.at
+invariant-statements-loop-word l = SoFar l.initial.parser l.parser l.depth (held_all l.list.items) l.initial.at l.at

@@ -4,7 +4,7 @@ use Rattle.spmd_text.specs.declared.piece.Token.{Token}
 use Rattle.spmd_text.specs.declared.piece.Word.TheVariants as word
 use Rattle.spmd_text.specs.declared.piece.Piece.TheVariants as piece
 use Rattle.spmd_text.specs.Spelling.{begins}
-use Rattle.spmd_text.specs.Statements.{line_at, put_back}
+use Rattle.spmd_text.specs.Statements.{Kept, held, held_all, line_at, put_back}
 use Rattle.spmd_text.proofs.BlockForms.{put_back_is}
 use Rattle.spmd_text.proofs.LeftOut.{next_word_shorter, not_next}
 use Rattle.spmd_text.proofs.Made.{made_goes, made_sound}
@@ -17,7 +17,7 @@ use Rattle.spmd_text.proofs.blocks.parameters.Goals as goal
 
 pub loop-parser-init : goal.loop-parser-init
 loop-parser-init c unset = (
-  subst (ParametersSoFar c.args.parser.now c.args.parser.now) (sym c.new-list.ensures.items) (parameters_begun c.args.parser.now),
+  subst (λ (list : List Kept). ParametersSoFar c.args.parser.now c.args.parser.now (held_all list)) (sym c.new-list.ensures.items) (parameters_begun c.args.parser.now),
   parameter_lines_begun c.args.parser.now c.args.at.now,
 )
 
@@ -30,11 +30,11 @@ loop-parser-preserved c unset =
     let item = reads_one goes (λ sound. c.step.ensures.fault ∙ sound)
     (λ sound.
     ap (λ (n : ℕ). put_back n word.Param (Some c.step.new.self.rest.now)) c.line-line.ensures
-    ∙ (ap (λ (z : List Token). put_back (line_at s.last_line s.rest.now) word.Param (Some z)) c.step.ensures.left
-    ∙ put_back_is word.Param s.last_line s.rest.now (next_here s.fault s.rest.now is sound)))
+    ∙ (ap (λ (z : List Token). put_back (line_at s.rest.now) word.Param (Some z)) c.step.ensures.left
+    ∙ put_back_is word.Param s.rest.now (next_here s.fault s.rest.now is sound)))
     (c.parameter-statement.ensures.reads (goes.in_parameter ∙ (so_far.goes.in_parameter ∙ unset))) in (
-      parameters_more c.parameter-statement.result so_far is item c.add.ensures,
-      parameter_lines_more c.parameter-statement.result so_far (c.loop-parser.invariant unset).1 is item c.begin_line.ensures.sound c.begin_line.ensures.stays c.add.ensures,
+      parameters_more (held c.parameter-statement.result) so_far is item c.add.ensures,
+      parameter_lines_more (held c.parameter-statement.result) so_far (c.loop-parser.invariant unset).1 is item c.begin_line.ensures.sound c.begin_line.ensures.stays c.add.ensures,
     )
 
 pub loop-parser-smaller : goal.loop-parser-smaller
@@ -44,7 +44,7 @@ loop-parser-smaller c =
 
 pub returns-clause-reads : goal.returns-clause-reads
 returns-clause-reads c unset =
-    parameters_ended c.whole.result (c.loop-parser.invariant unset).0 (sym c.is.ensures ∙ c.loop-parser-test.false) c.whole.ensures
+    parameters_ended (held c.whole.result) (c.loop-parser.invariant unset).0 (sym c.is.ensures ∙ c.loop-parser-test.false) c.whole.ensures
 
 pub returns-clause-stays : goal.returns-clause-stays
 returns-clause-stays c unset = (c.loop-parser.invariant unset).1.stays
