@@ -1,5 +1,4 @@
 title='SUNDIALS examples: cvAdvDiff_non_p'
 packages='libsundials-dev'
 options='--calls 2000'
-shows=yes
 prepare() { sundials cvode/parallel/cvAdvDiff_non_p.c cvode; }
