@@ -1,0 +1,14 @@
+-- Where messages may race, the page tells what the phases in the folder show.
+use Rattle.std.proofs.Common.{◌∙◌, option_map, subst, sym}
+use Rattle.files.specs.Contents.{AreAll}
+use Rattle.session.proofs.JoinedPages.{race_joined}
+use Rattle.session.proofs.by_phases.join_page.Goals as goal
+
+pub returns-then-is_race-clause-page : goal.returns-then-is_race-clause-page
+returns-then-is_race-clause-page g c =
+    let held = g.F.FileSet.held c.args.files.now in
+    race_joined g.F.FileSet.tells_written held (g.F.FileSet.held c.read_whole.new.files) (g.F.FileSet.held c.folder_page.new.files) c.args.asked.program.now
+    (option_map (λ path. path.now) c.args.asked.out) c.args.asked.json c.deref.result.now c.deref-then-is_race.result.now c.decide-decision.result c.folder_page.result
+    c.in_ok-text.ensures.same (c.deref-then-is_race.ensures.value ∙ sym c.deref.ensures.value)
+    (subst (AreAll (held c.args.asked.program.now)) (sym c.deref.ensures.value) c.in_ok-text.ensures.bytes) c.decide-decision.ensures
+    (sym c.is_race.ensures ∙ c.if-is_race.true) c.folder_page.ensures.page
