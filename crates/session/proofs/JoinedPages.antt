@@ -1,19 +1,15 @@
 -- The pages of `join`, `phases` and `decide --phases`, by what one run decides.
-use Rattle.std.proofs.Common.{◌≡◌, ◌∙◌, ◌++◌, ◌∷◌, [], ap, inl, inr, subst, sym, Bool, true, false, List, ℕ, Result, Ok, Err, IfErr, IfOk, OnOk, Some, zero, suc}
-use Rattle.std.specs.Prelude.{Option, codes, slice_get, string_bytes}
+use Rattle.std.proofs.Common.{◌≡◌, ◌∙◌, ◌++◌, ◌∷◌, [], ap, inl, inr, subst, sym, Bool, true, List, ℕ, Result, Ok, Err, IfOk, Some, zero, suc}
+use Rattle.std.specs.Prelude.{Option, slice_get, string_bytes}
 use Rattle.std.proofs.lemmas.Option.{same_Some}
-use Rattle.calltext.specs.Limits.{long}
 use Rattle.callorder.proofs.Lookups.{slice_get_of_append}
-use Rattle.semantics.specs.Headline.{IsStuckRunWithin}
 use Rattle.files.specs.Contents.{AreAll}
 use Rattle.deciding.specs.Decisions.{IsDecided}
 use Rattle.deciding.specs.declared.decision.Decision.{Decision}
 use Rattle.deciding.specs.declared.decision.Decision.TheVariants as decisions
 use Rattle.deciding.specs.declared.texts.Undecided.{Undecided}
-use Rattle.session.specs.Pages.{HasStuckRun, IsDecideFile, IsDecisionPage, IsScheduled, IsUnread, StopsBy}
-use Rattle.session.specs.Phasing.{AreIn, IsCutDecision, IsCutLine, IsCutPage, IsFolderFile, IsJoinDecision, IsJoinFile, IsJoinedPage, IsPhasesPage, IsShownFile, is_race, path_in}
+use Rattle.session.specs.Phasing.{AreIn, IsCutDecision, IsCutLine, IsCutPage, IsJoinDecision, IsJoinedPage, IsPhasesPage, is_race, path_in}
 use Rattle.session.specs.declared.commands.Stop.{Stop}
-use Rattle.session.specs.declared.commands.Stop.TheVariants as stop
 use Rattle.session.specs.declared.cut_files.Output.{Output}
 use Rattle.session.specs.declared.page.Page.{Page}
 
@@ -28,13 +24,6 @@ race_decision tells old new out json program (Ok decisions.NoDeadlock) text stat
 race_decision tells old new out json program (Ok (decisions.Deadlock steps)) text status race page = cc
 race_decision tells old new out json program (Ok (decisions.Race found)) text status race page = page
 race_decision tells old new out json program (Err why) text status race page = cc
-
-other_decision : (tells : Bool) (old new : Files) (out : Option (List ℕ)) (json : Bool) (program : List ℕ) (d : Result Decision Undecided) (text : List ℕ) (status : ℕ)
-    → is_race d ≡ false → IsScheduled tells old new out d → IsDecisionPage json program d text status → IsJoinDecision tells old new out json program d text status
-other_decision tells old new out json program (Ok decisions.NoDeadlock) text status race scheduled page = (scheduled, page)
-other_decision tells old new out json program (Ok (decisions.Deadlock steps)) text status race scheduled page = (scheduled, page)
-other_decision tells old new out json program (Ok (decisions.Race found)) text status race scheduled page = cc
-other_decision tells old new out json program (Err why) text status race scheduled page = (scheduled, page)
 
 -- ---- the page of the phases of a file's program
 
@@ -51,53 +40,6 @@ race_joined tells old between new path out json program given d (Ok page) same o
       (subst (λ (held : Files). IsPhasesPage tells held new out json given page.text.items page.status) same shown)),
 )
 race_joined tells old between new path out json program given d (Err e) same one all is race shown = tt
-
-pub other_joined : (tells : Bool) (old between new : Files) (path : List ℕ) (out : Option (List ℕ)) (json : Bool) (program given : List ℕ) (d : Result Decision Undecided)
-    (page : Result Page Stop) → between ≡ old → given ≡ program → AreAll (old path) program → IsDecided program d → is_race d ≡ false
-    → IfOk page (λ p. IsDecisionPage json given d p.text.items p.status) → OnOk page (IsScheduled tells between new out d)
-    → IfOk page (λ p. IsJoinedPage tells old new path out json p.text.items p.status)
-other_joined tells old between new path out json program given d (Ok page) same one all is race told scheduled = (
-  program,
-  d,
-  all,
-  is,
-  other_decision tells old new out json program d page.text.items page.status race
-      (subst (λ (held : Files). IsScheduled tells held new out d) same scheduled)
-      (subst (λ (bytes : List ℕ). IsDecisionPage json bytes d page.text.items page.status) one told),
-)
-other_joined tells old between new path out json program given d (Err e) same one all is race told scheduled = tt
-
--- ---- files that fail
-
--- where a schedule can't be written, the program has a run that gets stuck
-shown_hangs : (out : Option (List ℕ)) (file : Option (List ℕ)) (program given path : List ℕ) → given ≡ program → AreAll file program
-    → IsShownFile out given path → (out ≡ Some path) × HasStuckRun file
-shown_hangs out file program given path one all shown =
-    (shown.0, (program, shown.1, all, subst (λ (bytes : List ℕ). IsStuckRunWithin long bytes shown.1) one shown.2))
-
-pub stops_shown : (reads : List ℕ → Bool) (old between new : Files) (path : List ℕ) (out : Option (List ℕ)) (program given : List ℕ) (page : Result Page Stop)
-    → between ≡ old → given ≡ program → AreAll (old path) program → IfErr page (StopsBy (IsShownFile out given) between new)
-    → IfErr page (StopsBy (IsDecideFile reads path out old new) old new)
-stops_shown reads old between new path out program given (Ok page) same one all stops = tt
-stops_shown reads old between new path out program given (Err stop.Memory) same one all stops = stops ∙ same
-stops_shown reads old between new path out program given (Err (stop.File file)) same one all stops = inr (shown_hangs out (old path) program given file.now one all stops)
-
-pub stops_in_folder : (reads between_reads : List ℕ → Bool) (old between new : Files) (path folder : List ℕ) (out : Option (List ℕ)) (program given : List ℕ) (page : Result Page Stop)
-    → between ≡ old → between_reads ≡ reads → given ≡ program → AreAll (old path) program → IfErr page (StopsBy (IsFolderFile between_reads folder out given between new) between new)
-    → IfErr page (StopsBy (IsJoinFile reads path folder out old new) old new)
-stops_in_folder reads between_reads old between new path folder out program given (Ok page) same same_reads one all stops = tt
-stops_in_folder reads between_reads old between new path folder out program given (Err stop.Memory) same same_reads one all stops = stops ∙ same
-stops_in_folder reads between_reads old between new path folder out program given (Err (stop.File file)) same same_reads one all (inl named) =
-    inr (named.0, subst (λ (told : List ℕ → Bool). IsUnread told (path_in folder (codes "phases"))) same_reads named.1, named.2 ∙ same)
-stops_in_folder reads between_reads old between new path folder out program given (Err (stop.File file)) same same_reads one all (inr shown) =
-    inl (inr (shown_hangs out (old path) program given file.now one all shown))
-
--- where memory alone can run out, that is why there is no page
-pub memory_stops : (IsFile : List ℕ → Type 0) (old new : Files) (page : Result Page Stop)
-    → new ≡ old → IfErr page (λ why. why ≡ stop.Memory) → IfErr page (StopsBy IsFile old new)
-memory_stops IsFile old new (Ok page) same stops = tt
-memory_stops IsFile old new (Err stop.Memory) same stops = same
-memory_stops IsFile old new (Err (stop.File file)) same stops = cc
 
 -- ---- cutting
 
