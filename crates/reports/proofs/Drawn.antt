@@ -1,5 +1,5 @@
 -- What is drawn of what was read is drawn of what the text says.
-use Rattle.std.proofs.Common.{◌≡◌, IfOk, List, ℕ, Result, Ok, Err}
+use Rattle.std.proofs.Common.{IfOk, List, ℕ, Result, Ok, Err}
 use Rattle.std.specs.Prelude.{IfSome}
 use Rattle.std.specs.Global.{Vec}
 use Rattle.std.specs.declared.alloc.AllocError.{AllocError}

@@ -8,7 +8,7 @@ use Rattle.reports.proofs.Drawn.{run_drawn}
 use Rattle.reports.proofs.decided.explain_run.Goals as goal
 
 pub run_text-requires-clause-stuck : goal.run_text-requires-clause-stuck
-run_text-requires-clause-stuck g c =
+run_text-requires-clause-stuck g c κs within =
     subst (λ (q : MpiProgram). IsStuckRun q c.args.steps.now)
     (one_program_of_bytes_within long c.args.text.now c.requires.p c.in_ok-program.program c.requires.text c.in_ok-program.ensures) c.requires.stuck
 

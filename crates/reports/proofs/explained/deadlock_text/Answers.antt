@@ -10,7 +10,7 @@ use Rattle.reports.proofs.Programs.{long_text}
 use Rattle.reports.proofs.explained.deadlock_text.Goals as goal
 
 pub run_text-requires-clause-text : goal.run_text-requires-clause-text
-run_text-requires-clause-text g c =
+run_text-requires-clause-text g c κs within =
     subst (IsTextOfWithin long c.args.text.now) (sym c.deref-program.ensures) (long_text c.args.text.now c.args.run.now.program c.requires.program)
 
 pub returns : goal.returns

@@ -6,10 +6,10 @@ use Rattle.frequency.specs.declared.judging.Frequency.TheVariants.{Unknown}
 use Rattle.reports.proofs.Programs.{one_program}
 use Rattle.reports.proofs.telling.often_by_formula.Goals as goal
 
-pub frequency_of_program-requires : goal.frequency_of_program-requires
-frequency_of_program-requires g c =
-    subst (λ (p : MpiProgram). IsFrequency p Unknown) (one_program c.args.text.now c.in-Ok.short c.args.program.now c.in-Ok.ensures c.requires.text) c.requires.unknown
+pub frequency_of_program-requires-after_bounds : goal.frequency_of_program-requires-after_bounds
+frequency_of_program-requires-after_bounds g c κs within =
+    subst (λ (p : MpiProgram). IsFrequency p Unknown) (one_program c.args.text.now c.in-Ok.short c.args.program.now c.in-Ok.ensures.program c.requires.text) c.requires.unknown
 
 pub returns-in-Ok : goal.returns-in-Ok
 returns-in-Ok g c =
-    subst (λ (p : MpiProgram). IfOk c.frequency_of_program.result (IsFrequency p)) (sym (one_program c.args.text.now c.in-Ok.short c.args.program.now c.in-Ok.ensures c.requires.text)) c.frequency_of_program.ensures
+    subst (λ (p : MpiProgram). IfOk c.frequency_of_program.result (IsFrequency p)) (sym (one_program c.args.text.now c.in-Ok.short c.args.program.now c.in-Ok.ensures.program c.requires.text)) c.frequency_of_program.ensures
