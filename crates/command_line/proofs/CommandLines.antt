@@ -1,5 +1,5 @@
 -- Commands built up by rules, and what their matches give.
-use Rattle.std.specs.Prelude.{unwrap_or, IfOk}
+use Rattle.std.specs.Prelude.{unwrap_or, is_some, IfOk}
 use Rattle.std.specs.Str.{bytes_eq}
 use Rattle.std.specs.Str.Parse.{ExplainsUnsignedError, HasUnsignedDigitsIfOk, ParsesBool, ParsesUnsigned}
 use Rattle.std.proofs.lemmas.Slice.Eq.{bytes_eq-Decides}
@@ -47,6 +47,15 @@ shaped_subcommand old sub new app below shaped under adds = record {
 pub given_by_rows : (m : ArgMatches) (id : Text) (given : Option (Bor Text)) → path_of given ≡ first_value (found_of m) id
     → first_of id (rows_of (found_of m)) ≡ path_of given
 given_by_rows m id given e = sym (e ∙ first_value-rows (found_of m) id)
+
+some_path : (given : Option (Bor Text)) → is_some given ≡ is_some (path_of given)
+some_path None = refl
+some_path (Some given) = refl
+
+-- whether it is there
+pub is_given_by_rows : (m : ArgMatches) (id : Text) (given : Option (Bor Text)) → path_of given ≡ first_value (found_of m) id
+    → is_some given ≡ is_some (first_of id (rows_of (found_of m)))
+is_given_by_rows m id given e = some_path given ∙ ap (λ (o : Option Text). is_some o) (sym (given_by_rows m id given e))
 
 -- and is there
 pub path_by_rows : (m : ArgMatches) (id : Text) (given : Option (Bor Text)) (path : Bor Text) → path_of given ≡ first_value (found_of m) id
@@ -120,12 +129,17 @@ pub is_free_line : is_simple_and_free command_line ≡ true
 unfolding clap_on_literals
 is_free_line = refl
 
+-- what is so of a parse's matches is so of the words
+pub by_parse : (P : Option (Text × List Row) → Type 0) (app : App) (words : List Text) (m : ArgMatches) → app ≡ command_line
+    → HasMatchesOf app words m → P (subcommand_rows_of m) → P (subcommand_of command_line words)
+by_parse P app words m is has holds =
+    let matched = (has (ap is_simple is ∙ is_simple_line)).1 in
+    subst P (matched ∙ ap (λ (a : App). subcommand_of a words) is) holds
+
 -- the task that a parse's matches make is the one that the words name
 pub names_by_parse : (app : App) (words : List Text) (m : ArgMatches) (task : Task) → app ≡ command_line → HasMatchesOf app words m
     → MakesSome (subcommand_rows_of m) task → NamesTask words task
-names_by_parse app words m task is has makes =
-    let matched = (has (ap is_simple is ∙ is_simple_line)).1 in
-    subst (λ (found : Option (Text × List Row)). MakesSome found task) (matched ∙ ap (λ (a : App). subcommand_of a words) is) makes
+names_by_parse app words m task is has makes = by_parse (λ found. MakesSome found task) app words m is has makes
 
 -- what a request that was made asks for
 pub asked_so : (found : Option (Text × List Row)) (words : List Text) (r : Result Request Error) → ((task : Task) → MakesSome found task → AskFor words task)

@@ -1,11 +1,11 @@
 -- The task that a command's name and its matches make is one.
-use Rattle.std.proofs.Common.{◌≡◌, ◌∙◌, ap, ap₂, sym, ℕ, Bool, true, false, List, [], Some, None, Option, codes}
+use Rattle.std.proofs.Common.{◌≡◌, ◌∙◌, ap, ap₂, sym, ℕ, Bool, true, false, List, [], ◌∷◌, Some, None, Option, codes}
 use Rattle.std.specs.Prelude.{if◌then◌else◌, unwrap_or}
 use Rattle.std.specs.Str.{bytes_eq}
 use Rattle.clap.specs.Words.{Row, Text, first_of, one_of, subcommand_of}
 use Rattle.clap.proofs.OnLiterals.{clap_on_literals}
 use Rattle.command_line.specs.CommandLine.{command_line}
-use Rattle.command_line.specs.Requests.{Makes, MakesSome, OneTaskIsAsked, Reads, Task, form_in, is_beside_ranks, is_beside_several, is_several, is_spmd_asked, is_true, number_of, programs_in, settings_in, to_check, to_decide, to_decide_each, to_decide_phases, to_decide_unrolled, to_encode, to_explain, to_explain_unrolled, to_export, to_join, to_phases, to_prove, to_replay, to_shrink, to_trim, to_unroll}
+use Rattle.command_line.specs.Requests.{Makes, MakesSome, OneTaskIsAsked, Reads, Task, form_in, further_in, is_beside_ranks, is_beside_each, is_beside_several, is_each, is_several, is_spmd_asked, is_true, number_of, programs_in, settings_in, to_check, to_decide, to_decide_each, to_decide_phases, to_decide_unrolled, to_encode, to_explain, to_explain_each, to_explain_unrolled, to_export, to_join, to_phases, to_prove, to_replay, to_shrink, to_trim, to_unroll}
 
 abbrev text_in : Option Text → Text
 text_in o = unwrap_or o []
@@ -25,19 +25,23 @@ decided_one false rows =
 -- the task of the matches of `decide`, where several programs are named, an SPMD text is asked for, or
 -- neither
 abbrev decided : Bool → Bool → List Row → Task
-decided true spmd rows = to_decide_each (programs_in rows) (is_beside_several rows) (is_true (one_of (codes "json") rows))
+decided true spmd rows = to_decide_each (programs_in rows) (first_of (codes "junit") rows) (is_beside_several rows) (is_true (one_of (codes "json") rows))
 decided false true rows =
     to_decide_unrolled (text_in (first_of (codes "PROGRAM") rows)) (first_of (codes "ranks") rows) (settings_in rows) (first_of (codes "collectives") rows)
     (is_beside_ranks rows) (is_true (one_of (codes "json") rows))
 decided false false rows = decided_one (is_true (one_of (codes "phases") rows)) rows
 
 -- and of those of `explain`
-abbrev explained : Bool → List Row → Task
-explained true rows =
+abbrev explained : Bool → Bool → List Row → Task
+explained true spmd rows =
+    to_explain_each (text_in (first_of (codes "PROGRAM") rows) ∷ further_in rows) (first_of (codes "junit") rows)
+    (number_in (one_of (codes "workers") rows)) (number_in (one_of (codes "depth") rows)) (number_in (one_of (codes "budget") rows)) (form_in rows)
+    (is_beside_each rows)
+explained false true rows =
     to_explain_unrolled (text_in (first_of (codes "PROGRAM") rows)) (first_of (codes "ranks") rows) (settings_in rows)
     (first_of (codes "collectives") rows) (first_of (codes "EVIDENCE") rows) (number_in (one_of (codes "workers") rows)) (number_in (one_of (codes "depth") rows))
     (number_in (one_of (codes "budget") rows)) (form_in rows) (first_of (codes "map") rows)
-explained false rows =
+explained false false rows =
     to_explain (text_in (first_of (codes "PROGRAM") rows)) (first_of (codes "EVIDENCE") rows) (number_in (one_of (codes "workers") rows))
     (number_in (one_of (codes "depth") rows)) (number_in (one_of (codes "budget") rows)) (form_in rows) (first_of (codes "map") rows)
 
@@ -56,7 +60,7 @@ read name rows =
     else (if bytes_eq name (codes "encode")
     then to_encode (text_in (first_of (codes "PROGRAM") rows)) (is_true (one_of (codes "dimacs") rows))
     else (if bytes_eq name (codes "explain")
-    then explained (is_spmd_asked rows) rows
+    then explained (is_each rows) (is_spmd_asked rows) rows
     else (if bytes_eq name (codes "export")
     then to_export (text_in (first_of (codes "PROGRAM") rows)) (text_in (first_of (codes "EVIDENCE") rows)) (text_in (first_of (codes "out") rows))
     else (if bytes_eq name (codes "trim")
@@ -79,6 +83,10 @@ given o text e = sym (ap text_in e)
 spelled : (rows : List Row) (id : Text) (n : ℕ) → Reads rows id n → n ≡ number_in (one_of id rows)
 spelled rows id n reads = reads.3 ∙ sym (ap number_in reads.1)
 
+listed : (programs : List Text) (rows : List Row) → ((program : Text) × (first_of (codes "PROGRAM") rows ≡ Some program) × (programs ≡ program ∷ further_in rows))
+    → programs ≡ text_in (first_of (codes "PROGRAM") rows) ∷ further_in rows
+listed programs rows (program, given_is, is) = is ∙ ap (λ (t : Text). t ∷ further_in rows) (given _ program given_is)
+
 pub is_read : (name : Text) (rows : List Row) (task : Task) → Makes name rows task → task ≡ read name rows
 unfolding clap_on_literals
 is_read name rows (to_prove p out w d b progress json) makes =
@@ -99,7 +107,7 @@ is_read name rows (to_encode p dimacs) makes =
 is_read name rows (to_explain p e w d b form map) makes =
     let v = makes.values in
     (λ i. to_explain (given _ p v.0 i) (sym v.1 i) (spelled rows (codes "workers") w v.2 i) (spelled rows (codes "depth") d v.3 i)
-    (spelled rows (codes "budget") b v.4 i) (v.5 i) (sym v.6 i)) ∙ ap (λ (asked : Bool). explained asked rows) (sym v.7)
+    (spelled rows (codes "budget") b v.4 i) (v.5 i) (sym v.6 i)) ∙ ap₂ (λ (each asked : Bool). explained each asked rows) (sym v.8) (sym v.7)
     ∙ ap (λ (n : Text). read n rows) (sym makes.command)
 is_read name rows (to_export p e out) makes =
     let v = makes.values in
@@ -134,15 +142,21 @@ is_read name rows (to_decide_unrolled p ranks settings way beside json) makes =
     let v = makes.values in
     (λ i. to_decide_unrolled (given _ p v.0 i) (sym v.1 i) (sym v.2 i) (sym v.3 i) (v.4 i) (v.5 i)) ∙ ap₂ (λ (several asked : Bool). decided several asked rows) (sym v.7) (sym v.6)
     ∙ ap (λ (n : Text). read n rows) (sym makes.command)
-is_read name rows (to_decide_each programs beside json) makes =
+is_read name rows (to_decide_each programs junit beside json) makes =
     let v = makes.values in
-    (λ i. to_decide_each (sym v.0 i) (v.1 i) (v.2 i)) ∙ ap (λ (several : Bool). decided several (is_spmd_asked rows) rows) (sym v.3)
+    (λ i. to_decide_each (sym v.0 i) (sym v.1 i) (v.2 i) (v.3 i)) ∙ ap (λ (several : Bool). decided several (is_spmd_asked rows) rows) (sym v.4)
+    ∙ ap (λ (n : Text). read n rows) (sym makes.command)
+is_read name rows (to_explain_each programs junit w d b form beside) makes =
+    let v = makes.values in
+    (λ i. to_explain_each (listed programs rows v.0 i) (sym v.1 i) (spelled rows (codes "workers") w v.2 i) (spelled rows (codes "depth") d v.3 i)
+    (spelled rows (codes "budget") b v.4 i) (v.5 i) (v.6 i))
+    ∙ ap (λ (each : Bool). explained each (is_spmd_asked rows) rows) (sym v.7)
     ∙ ap (λ (n : Text). read n rows) (sym makes.command)
 is_read name rows (to_explain_unrolled p ranks settings way e w d b form map) makes =
     let v = makes.values in
     (λ i. to_explain_unrolled (given _ p v.0 i) (sym v.1 i) (sym v.2 i) (sym v.3 i) (sym v.4 i) (spelled rows (codes "workers") w v.5 i)
     (spelled rows (codes "depth") d v.6 i) (spelled rows (codes "budget") b v.7 i) (v.8 i) (sym v.9 i))
-    ∙ ap (λ (asked : Bool). explained asked rows) (sym v.10)
+    ∙ ap₂ (λ (each asked : Bool). explained each asked rows) (sym v.11) (sym v.10)
     ∙ ap (λ (n : Text). read n rows) (sym makes.command)
 
 same : (found : Option (Text × List Row)) (one other : Task) → MakesSome found one → MakesSome found other → one ≡ other

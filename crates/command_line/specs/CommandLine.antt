@@ -65,19 +65,22 @@ with_search a =
 abbrev pub replay_app : App
 replay_app = with_rule (with_rule (with_rule (new_app (codes "replay")) program_rule) evidence_rule) (flag_rule (codes "lines"))
 
--- the command `check`
-abbrev pub check_app : App
-check_app =
-    with_rule (with_rule (with_rule (with_rule (new_app (codes "check")) program_rule) evidence_rule) (number_with (codes "pieces") 1 64 (codes "4")))
-    json_rule
-
--- the same, which need not be named
+-- the same, which need not be named; behind several words each is a program
 abbrev pub optional_evidence_rule : Rule
-optional_evidence_rule = record evidence_rule { required = false }
+optional_evidence_rule =
+    record evidence_rule { required = false; action = Some Append; range = Some (record { start_inclusive = 1; end_inclusive = 18446744073709551615 }) }
 
 -- `--map FILE`
 abbrev pub map_rule : Rule
 map_rule = file_option_rule (codes "map")
+
+-- `--junit FILE`
+abbrev pub junit_rule : Rule
+junit_rule = file_option_rule (codes "junit")
+
+-- `--color WHEN`
+abbrev pub color_rule : Rule
+color_rule = record (option_rule (codes "color")) { value_names = 1 }
 
 -- `--ranks` with a text that tells a number of ranks, or the first and the last of several
 abbrev pub several_ranks_rule : Rule
@@ -107,6 +110,9 @@ explain_app =
     (with_rule
     (with_rule
     (with_rule
+    (with_rule
+    (with_rule
+    (with_rule
     (with_search
     (with_rule
     (with_rule (new_app (codes "explain")) program_rule)
@@ -119,6 +125,18 @@ explain_app =
     (flag_rule (codes "html")))
     json_rule)
     map_rule)
+    (flag_rule (codes "each")))
+    junit_rule)
+    color_rule)
+
+-- the command `check`
+abbrev pub check_app : App
+check_app =
+    with_rule
+    (with_rule
+    (with_rule (with_rule (with_rule (new_app (codes "check")) program_rule) evidence_rule) (number_with (codes "pieces") 1 64 (codes "4")))
+    json_rule)
+    color_rule
 
 -- the command `encode`
 abbrev pub encode_app : App
@@ -148,11 +166,15 @@ decide_app =
     (with_rule
     (with_rule
     (with_rule
+    (with_rule
+    (with_rule
     (with_rule (new_app (codes "decide")) programs_rule)
     out_rule)
     (flag_rule (codes "progress")))
     (flag_rule (codes "phases")))
     json_rule)
+    junit_rule)
+    color_rule)
 
 -- `--ranks N`, which has to be given
 abbrev pub ranks_rule : Rule
@@ -183,19 +205,21 @@ folder_rule = file_rule (codes "FOLDER")
 
 -- the command `join`
 abbrev pub join_app : App
-join_app = with_rule (with_rule (with_rule (with_rule (new_app (codes "join")) program_rule) folder_rule) out_rule) json_rule
+join_app = with_rule (with_rule (with_rule (with_rule (with_rule (new_app (codes "join")) program_rule) folder_rule) out_rule) json_rule) color_rule
 
 -- the command `prove`
 abbrev pub prove_app : App
 prove_app =
     with_rule
     (with_rule
+    (with_rule
     (with_search
     (with_rule
     (with_rule (new_app (codes "prove")) program_rule)
     out_rule))
     (flag_rule (codes "progress")))
-    json_rule
+    json_rule)
+    color_rule
 
 -- the command asks for one of its subcommands
 abbrev pub wants_subcommand : App → App

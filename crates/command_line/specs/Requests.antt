@@ -1,5 +1,5 @@
 -- What the words of a command line ask for.
-use Rattle.std.specs.Prelude.{◌≡◌, ◌||◌, ◌∷◌, ℕ, [], Bool, if◌then◌else◌, false, true, is_some, Some, None, Option, map, option_map, codes, List, slice_get}
+use Rattle.std.specs.Prelude.{◌≡◌, ◌||◌, ◌∷◌, ℕ, [], Bool, if◌then◌else◌, false, true, is_some, not, Some, None, Option, map, option_map, codes, List, slice_get}
 use Rattle.std.specs.Borrow.{Bor}
 use Rattle.std.specs.Str.{bytes_eq}
 use Rattle.std.specs.Str.Parse.{IsNumeral, digits_value, without_leading_plus}
@@ -27,8 +27,9 @@ use Rattle.command_line.specs.declared.request.Request.TheVariants as ask
 -- many ranks with these settings, and what is said of how collective calls wait, with the files for
 -- the program and for its map, where they are named; to decide, or to explain, what an SPMD text is
 -- unrolled to for the numbers of ranks that a text tells, where one is given, with these settings and
--- all else that goes with the command, and whether words stand there that don't; and to decide several programs, with or without words that
--- don't go with that, and with the answers as JSON objects or not.
+-- all else that goes with the command, and whether words stand there that don't; and to decide, or to
+-- explain, each of several programs, with the file for a report in JUnit's form, where one is named,
+-- and whether words stand there that don't go with that.
 pub data Task : Type 0 where
   to_prove : Text → Option Text → ℕ → ℕ → ℕ → Bool → Bool → Task
   to_check : Text → Text → ℕ → Bool → Task
@@ -44,7 +45,8 @@ pub data Task : Type 0 where
   to_phases : Text → Text → Task
   to_join : Text → Text → Option Text → Bool → Task
   to_decide_unrolled : Text → Option Text → List Text → Option Text → Bool → Bool → Task
-  to_decide_each : List Text → Bool → Bool → Task
+  to_decide_each : List Text → Option Text → Bool → Bool → Task
+  to_explain_each : List Text → Option Text → ℕ → ℕ → ℕ → Form → Bool → Task
   to_explain_unrolled : Text → Option Text → List Text → Option Text → Option Text → ℕ → ℕ → ℕ → Form → Option Text → Task
 
 -- the path of a file that may be named
@@ -70,7 +72,9 @@ task_of (ask.Unroll r) =
     to_unroll r.program.now r.ranks (map (λ s. s.now) r.settings.items) (path_of r.collectives) (path_of r.out) (path_of r.map)
 task_of (ask.DecideUnrolled r) =
     to_decide_unrolled r.program.now (path_of r.ranks) (map (λ s. s.now) r.settings.items) (path_of r.collectives) r.beside r.json
-task_of (ask.DecideEach r) = to_decide_each (map (λ p. p.now) r.programs.items) r.beside r.json
+task_of (ask.DecideEach r) = to_decide_each (map (λ p. p.now) r.programs.items) (path_of r.junit) r.beside r.json
+task_of (ask.ExplainEach r) =
+    to_explain_each (map (λ p. p.now) r.programs.items) (path_of r.junit) r.options.workers r.options.depth r.options.budget r.form r.beside
 task_of (ask.ExplainUnrolled r) =
     to_explain_unrolled r.program.now (path_of r.ranks) (map (λ s. s.now) r.settings.items) (path_of r.collectives) (path_of r.evidence)
     r.options.workers r.options.depth r.options.budget r.form (path_of r.map)
@@ -91,7 +95,8 @@ command_of (to_phases program folder) = codes "phases"
 command_of (to_join program folder out json) = codes "join"
 command_of (to_unroll program ranks settings collectives out map) = codes "unroll"
 command_of (to_decide_unrolled program ranks settings collectives beside json) = codes "decide"
-command_of (to_decide_each programs beside json) = codes "decide"
+command_of (to_decide_each programs junit beside json) = codes "decide"
+command_of (to_explain_each programs junit workers depth budget form beside) = codes "explain"
 command_of (to_explain_unrolled program ranks settings collectives evidence workers depth budget form map) = codes "explain"
 
 -- ---- what the words after a command give
@@ -157,9 +162,29 @@ abbrev pub has_two : List Text → Bool
 has_two (one ∷ (other ∷ others)) = true
 has_two _ = false
 
--- several programs are named
+-- each of several programs is to be decided: several are named, or a file for a report
 abbrev pub is_several : List Row → Bool
-is_several rows = has_two (programs_in rows)
+is_several rows = has_two (programs_in rows) || is_some (first_of (codes "junit") rows)
+
+-- the words behind the program of `explain`
+abbrev pub further_in : List Row → List Text
+further_in rows = texts_in (all_of (codes "EVIDENCE") rows)
+
+-- each of several programs is to be explained: it is said so, two or more words stand behind the
+-- first program, or a file for a report is named
+abbrev pub is_each : List Row → Bool
+is_each rows = is_true (one_of (codes "each") rows) || (has_two (further_in rows) || is_some (first_of (codes "junit") rows))
+
+-- a form that a page of several programs may have
+abbrev pub is_of_several : Form → Bool
+is_of_several Brief = true
+is_of_several Whole = true
+is_of_several Object = true
+is_of_several Messages = true
+is_of_several Graph = false
+is_of_several Chart = false
+is_of_several Picture = false
+is_of_several Page = false
 
 -- words stand there that go with one program text alone
 abbrev pub is_beside_ranks : List Row → Bool
@@ -168,6 +193,19 @@ is_beside_ranks rows = is_some (first_of (codes "out") rows) || (is_true (one_of
 -- words stand there that don't go with several programs
 abbrev pub is_beside_several : List Row → Bool
 is_beside_several rows = is_spmd_asked rows || is_beside_ranks rows
+
+-- a map is named, or a form is asked for, as goes with one program alone
+abbrev pub is_for_one : List Row → Bool
+is_for_one rows = is_some (first_of (codes "map") rows) || not (is_of_several (form_in rows))
+
+-- words stand there that don't go with explaining several programs
+abbrev pub is_beside_each : List Row → Bool
+is_beside_each rows = is_spmd_asked rows || is_for_one rows
+
+-- this stands behind `--color`, in what stands behind a command that was met
+abbrev pub IsColor : Option (Text × List Row) → Text → Type 0
+IsColor None when = ⊥
+IsColor (Some found) when = Gives found.1 (codes "color") when
 
 -- the values of a task are those of its command's arguments
 abbrev pub HasValues : List Row → Task → Type 0
@@ -182,7 +220,7 @@ HasValues rows (to_encode program dimacs) = Gives rows (codes "PROGRAM") program
 HasValues rows (to_explain program evidence workers depth budget form map) =
     Gives rows (codes "PROGRAM") program × (first_of (codes "EVIDENCE") rows ≡ evidence) × Reads rows (codes "workers") workers
     × Reads rows (codes "depth") depth × Reads rows (codes "budget") budget × (form ≡ form_in rows) × (first_of (codes "map") rows ≡ map)
-    × (is_spmd_asked rows ≡ false)
+    × (is_spmd_asked rows ≡ false) × (is_each rows ≡ false)
 HasValues rows (to_export program evidence out) =
     Gives rows (codes "PROGRAM") program × Gives rows (codes "EVIDENCE") evidence × Gives rows (codes "out") out
 HasValues rows (to_trim evidence out json) =
@@ -206,12 +244,18 @@ HasValues rows (to_decide_unrolled program ranks settings collectives beside jso
     Gives rows (codes "PROGRAM") program × (first_of (codes "ranks") rows ≡ ranks) × (settings_in rows ≡ settings) × (first_of (codes "collectives") rows ≡ collectives)
     × (beside ≡ is_beside_ranks rows) × Flags rows (codes "json") json
     × (is_spmd_asked rows ≡ true) × (is_several rows ≡ false)
-HasValues rows (to_decide_each programs beside json) =
-    (programs_in rows ≡ programs) × (beside ≡ is_beside_several rows) × Flags rows (codes "json") json × (is_several rows ≡ true)
+HasValues rows (to_decide_each programs junit beside json) =
+    (programs_in rows ≡ programs) × (first_of (codes "junit") rows ≡ junit) × (beside ≡ is_beside_several rows) × Flags rows (codes "json") json
+    × (is_several rows ≡ true)
+HasValues rows (to_explain_each programs junit workers depth budget form beside) =
+    ((program : Text) × Gives rows (codes "PROGRAM") program × (programs ≡ program ∷ further_in rows)) × (first_of (codes "junit") rows ≡ junit)
+    × Reads rows (codes "workers") workers × Reads rows (codes "depth") depth × Reads rows (codes "budget") budget × (form ≡ form_in rows)
+    × (beside ≡ is_beside_each rows) × (is_each rows ≡ true)
 HasValues rows (to_explain_unrolled program ranks settings collectives evidence workers depth budget form map) =
     Gives rows (codes "PROGRAM") program × (first_of (codes "ranks") rows ≡ ranks) × (settings_in rows ≡ settings) × (first_of (codes "collectives") rows ≡ collectives)
     × (first_of (codes "EVIDENCE") rows ≡ evidence) × Reads rows (codes "workers") workers × Reads rows (codes "depth") depth
     × Reads rows (codes "budget") budget × (form ≡ form_in rows) × (first_of (codes "map") rows ≡ map) × (is_spmd_asked rows ≡ true)
+    × (is_each rows ≡ false)
 
 -- a command's name and its matches make this task
 pub record Makes (name : Text) (rows : List Row) (task : Task) : Type 0 where

@@ -5,7 +5,7 @@ use Rattle.clap.specs.Words.{Text}
 use Rattle.settings.specs.Ranges.{IsPieces}
 use Rattle.settings.specs.declared.form.Form.{Form}
 use Rattle.settings.specs.declared.form.Form.TheVariants.{Brief, Whole, Graph, Chart, Picture, Page, Object, Messages}
-use Rattle.command_line.specs.Requests.{AskFor, Task, number_of, to_check, to_decide, to_decide_each, to_decide_phases, to_decide_unrolled, to_encode, to_explain, to_explain_unrolled, to_export, to_join, to_phases, to_prove, to_replay, to_shrink, to_trim, to_unroll}
+use Rattle.command_line.specs.Requests.{AskFor, Task, number_of, to_check, to_decide, to_decide_each, to_decide_phases, to_decide_unrolled, to_encode, to_explain, to_explain_each, to_explain_unrolled, to_export, to_join, to_phases, to_prove, to_replay, to_shrink, to_trim, to_unroll}
 
 -- the text's first byte is a hyphen
 abbrev pub begins_with_hyphen : Text → Bool
@@ -82,7 +82,13 @@ pub data PlainForm : List Text → Task → Type 0 where
   join_out_form : (name p folder file : Text) → IsFree p → IsFree folder → IsFree file
       → PlainForm (name ∷ codes "join" ∷ p ∷ folder ∷ codes "--out" ∷ file ∷ []) (to_join p folder (Some file) false)
   decide_both_form : (name p q : Text) → IsFree p → IsFree q
-      → PlainForm (name ∷ codes "decide" ∷ p ∷ q ∷ []) (to_decide_each (p ∷ q ∷ []) false false)
+      → PlainForm (name ∷ codes "decide" ∷ p ∷ q ∷ []) (to_decide_each (p ∷ q ∷ []) None false false)
+  decide_junit_form : (name p file : Text) → IsFree p → IsFree file
+      → PlainForm (name ∷ codes "decide" ∷ p ∷ codes "--junit" ∷ file ∷ []) (to_decide_each (p ∷ []) (Some file) false false)
+  explain_each_form : (name p q : Text) → IsFree p → IsFree q
+      → PlainForm (name ∷ codes "explain" ∷ p ∷ q ∷ codes "--each" ∷ []) (to_explain_each (p ∷ q ∷ []) None 4 4 1000000 Brief false)
+  explain_three_form : (name p q r : Text) → IsFree p → IsFree q → IsFree r
+      → PlainForm (name ∷ codes "explain" ∷ p ∷ q ∷ r ∷ []) (to_explain_each (p ∷ q ∷ r ∷ []) None 4 4 1000000 Brief false)
   decide_ranks_form : (name p ranks : Text) → IsFree p → IsFree ranks
       → PlainForm (name ∷ codes "decide" ∷ p ∷ codes "--ranks" ∷ ranks ∷ []) (to_decide_unrolled p (Some ranks) [] None false false)
   decide_ranks_set_form : (name p ranks setting : Text) → IsFree p → IsFree ranks → IsFree setting

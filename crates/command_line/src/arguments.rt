@@ -1,7 +1,7 @@
 //! The arguments of the commands.
 
 ghost use Rattle.std.specs.Prelude.{codes};
-ghost use Rattle.command_line.specs.CommandLine.{IsRuled, collectives_rule, evidence_rule, file_option_rule, file_rule, flag_rule, folder_rule, map_rule, number_rule, number_with, option_rule, optional_evidence_rule, out_rule, program_rule, programs_rule, proof_rule, ranks_rule, set_rule, several_ranks_rule};
+ghost use Rattle.command_line.specs.CommandLine.{IsRuled, collectives_rule, color_rule, evidence_rule, file_option_rule, file_rule, flag_rule, folder_rule, junit_rule, map_rule, number_rule, number_with, option_rule, optional_evidence_rule, out_rule, program_rule, programs_rule, proof_rule, ranks_rule, set_rule, several_ranks_rule};
 
 use clap::builder::ValueParser;
 use clap::{Arg, ArgAction, value_parser};
@@ -53,6 +53,12 @@ pub const PHASES: &str = "phases";
 
 pub const FOLDER: &str = "FOLDER";
 
+pub const EACH: &str = "each";
+
+pub const JUNIT: &str = "junit";
+
+pub const COLOR: &str = "color";
+
 pub fn program<'a>(alloc: Global) -> Arg<'a>
     ensures { IsRuled result program_rule }
 {
@@ -96,8 +102,39 @@ fn file<'a>(alloc: Global, name: &'a str, about: &'a str) -> Arg<'a>
 pub fn optional_evidence<'a>(alloc: Global) -> Arg<'a>
     ensures { IsRuled result optional_evidence_rule }
 {
-    Arg::new(alloc, EVIDENCE).action(ArgAction::Set).help(
-        "The file with the evidence text; without it one run decides, or where messages may race a search, and with it --workers, --depth and --budget have no effect",
+    Arg::new(alloc, EVIDENCE)
+        .num_args(1..)
+        .action(ArgAction::Append)
+        .help(
+            "The file with the evidence text; without it one run decides, or where messages may race a search, and with it --workers, --depth and --budget have no effect",
+        )
+}
+
+pub fn each<'a>(alloc: Global) -> Arg<'a>
+    ensures { IsRuled result (flag_rule (codes "each")) }
+{
+    flag(
+        alloc,
+        EACH,
+        "Each file is a program text, and is explained; so it is also with three files or more",
+    )
+}
+
+pub fn junit<'a>(alloc: Global) -> Arg<'a>
+    ensures { IsRuled result junit_rule }
+{
+    file_option(
+        alloc,
+        JUNIT,
+        "Write the answers to this file too, as a report of tests in JUnit's form; each file is a program text",
+    )
+}
+
+pub fn color<'a>(alloc: Global) -> Arg<'a>
+    ensures { IsRuled result color_rule }
+{
+    option(alloc, COLOR).value_name("WHEN").help(
+        "Color the answer: auto, on a terminal unless NO_COLOR is set, which is usual, always, or never",
     )
 }
 

@@ -5,10 +5,10 @@ ghost use Rattle.clap.specs.Words.{App, Rule, new_app, with_rule, with_subcomman
 ghost use Rattle.command_line.specs.CommandLine.{IsRuled, IsShaped, check_app, command_line, decide_app, encode_app, explain_app, export_app, join_app, phases_app, prove_app, replay_app, shrink_app, trim_app, unroll_app, version_line, with_search, with_unrolling};
 
 use crate::arguments::{
-    all, budget, chart, collectives, depth, dimacs, dot, evidence, folder, html, json, lines, map,
-    messages, object, optional_evidence, out, phases, phases_folder, pieces, program, programs,
-    progress, proof, ranks, schedule, set, several_ranks, smaller, spmd, stages, svg, trimmed,
-    unrolled, workers, written_map,
+    all, budget, chart, collectives, color, depth, dimacs, dot, each, evidence, folder, html, json,
+    junit, lines, map, messages, object, optional_evidence, out, phases, phases_folder, pieces,
+    program, programs, progress, proof, ranks, schedule, set, several_ranks, smaller, spmd, stages,
+    svg, trimmed, unrolled, workers, written_map,
 };
 use crate::help_ends::{
     CHECK_END, DECIDE_END, ENCODE_END, EXPLAIN_END, EXPORT_END, HELP_END, JOIN_END, PHASES_END,
@@ -110,7 +110,8 @@ fn prove_command<'a>(alloc: Global) -> Result<Command<'a>, AllocError>
     let command = with(command, out(alloc));
     let command = with_search(alloc, command);
     let command = with(command, progress(alloc));
-    with(command, json(alloc))
+    let command = with(command, json(alloc));
+    with(command, color(alloc))
 }
 
 fn check_command<'a>(alloc: Global) -> Result<Command<'a>, AllocError>
@@ -120,7 +121,8 @@ fn check_command<'a>(alloc: Global) -> Result<Command<'a>, AllocError>
     let command = with(Ok(command), program(alloc));
     let command = with(command, evidence(alloc));
     let command = with(command, pieces(alloc));
-    with(command, json(alloc))
+    let command = with(command, json(alloc));
+    with(command, color(alloc))
 }
 
 fn replay_command<'a>(alloc: Global) -> Result<Command<'a>, AllocError>
@@ -170,6 +172,9 @@ fn explain_command<'a>(alloc: Global) -> Result<Command<'a>, AllocError>
     let command = with(command, html(alloc));
     let command = with(command, object(alloc));
     let command = with(command, map(alloc));
+    let command = with(command, each(alloc));
+    let command = with(command, junit(alloc));
+    let command = with(command, color(alloc));
     with_unrolling(alloc, command)
 }
 
@@ -228,6 +233,8 @@ fn decide_command<'a>(alloc: Global) -> Result<Command<'a>, AllocError>
     let command = with(command, stages(alloc));
     let command = with(command, phases(alloc));
     let command = with(command, json(alloc));
+    let command = with(command, junit(alloc));
+    let command = with(command, color(alloc));
     with_unrolling(alloc, command)
 }
 
@@ -256,7 +263,8 @@ fn join_command<'a>(alloc: Global) -> Result<Command<'a>, AllocError>
     let command = with(Ok(command), program(alloc));
     let command = with(command, folder(alloc));
     let command = with(command, schedule(alloc));
-    with(command, json(alloc))
+    let command = with(command, json(alloc));
+    with(command, color(alloc))
 }
 
 fn unroll_command<'a>(alloc: Global) -> Result<Command<'a>, AllocError>

@@ -66,6 +66,8 @@ pub const EXPLAIN_END: &str = ending!(
     "explain program.mpi
   mpiprove explain program.mpi --map program.map
   mpiprove explain program.mpi program.evidence
+  mpiprove explain program.mpi --map program.map --messages
+  mpiprove explain one.mpi other.mpi --each --junit report.xml
   mpiprove explain halo.spmd --ranks 4",
     "
   0  no deadlock: the size of the program, and of a refutation, is printed
@@ -104,6 +106,7 @@ pub const SHRINK_END: &str = ending!(
 pub const DECIDE_END: &str = ending!(
     "decide program.mpi --out program.evidence
   mpiprove decide program.mpi --phases
+  mpiprove decide one.mpi other.mpi --junit report.xml
   mpiprove decide halo.spmd --ranks 2..16",
     "
   0  no deadlock: no run of the program gets stuck

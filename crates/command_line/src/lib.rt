@@ -11,6 +11,6 @@ pub use commands::version_line;
 pub use laws::{command_is_second, one_task_is_asked, option_words_are_read, plain_words_are_read};
 pub use request::{
     Request, ToCheck, ToCut, ToDecide, ToDecideEach, ToDecidePhases, ToDecideUnrolled, ToEncode,
-    ToExplain, ToExplainUnrolled, ToExport, ToJoin, ToProve, ToReplay, ToShrink, ToTrim, ToUnroll,
-    request_of,
+    ToExplain, ToExplainEach, ToExplainUnrolled, ToExport, ToJoin, ToProve, ToReplay, ToShrink,
+    ToTrim, ToUnroll, color_of, request_of,
 };

@@ -1,13 +1,13 @@
 //! What the words of a command line ask for.
 
-ghost use Rattle.std.specs.Prelude.{◌≡◌, ◌⊎◌, ◌||◌, IfErr, IfOk, IfSome, List, codes, false, is_some, map, string_bytes, true, Some};
-ghost use Rattle.clap.specs.Words.{IsAmong, Row, all_of, fault_of, first_of, found_of, kind_of, one_of, rows_of, subcommand_rows_of};
+ghost use Rattle.std.specs.Prelude.{◌≡◌, ◌⊎◌, ◌||◌, ◌∷◌, IfErr, IfOk, IfSome, List, codes, false, is_some, map, string_bytes, true, Some};
+ghost use Rattle.clap.specs.Words.{IsAmong, Row, all_of, fault_of, first_of, found_of, kind_of, one_of, rows_of, subcommand_of, subcommand_rows_of};
 ghost use Rattle.command_line.specs.CommandLine.{command_line};
-ghost use Rattle.command_line.specs.Requests.{AskFor, Flags, Makes, MakesSome, Reads, form_in, is_beside_ranks, is_beside_several, is_several, is_spmd_asked, is_true, path_of, settings_in, task_of, texts_in};
+ghost use Rattle.command_line.specs.Requests.{AskFor, Flags, Makes, MakesSome, Gives, IsColor, Reads, form_in, has_two, is_beside_each, is_beside_ranks, is_beside_several, is_each, is_for_one, is_of_several, is_several, is_spmd_asked, is_true, path_of, settings_in, task_of, texts_in};
 
 use crate::arguments::{
-    ALL, BUDGET, CHART, COLLECTIVES, DEPTH, DIMACS, DOT, EVIDENCE, FOLDER, HTML, JSON, LINES, MAP,
-    MESSAGES, OUT, PHASES, PIECES, PROGRAM, PROGRESS, RANKS, SET, SVG, WORKERS,
+    ALL, BUDGET, CHART, COLLECTIVES, COLOR, DEPTH, DIMACS, DOT, EACH, EVIDENCE, FOLDER, HTML, JSON,
+    JUNIT, LINES, MAP, MESSAGES, OUT, PHASES, PIECES, PROGRAM, PROGRESS, RANKS, SET, SVG, WORKERS,
 };
 use crate::commands::command;
 use clap::error::ErrorKind;
@@ -149,12 +149,25 @@ pub struct ToDecideUnrolled<'a> {
     pub json: bool,
 }
 
-/// To decide several programs. `beside` tells whether words stand there that don't go with that.
+/// To decide each of several programs, and write the answers to the file `junit` as a report in
+/// JUnit's form. `beside` tells whether words stand there that don't go with that.
 #[derive(Drop)]
 pub struct ToDecideEach<'a> {
     pub programs: Vec<&'a str>,
+    pub junit: Option<&'a str>,
     pub beside: bool,
     pub json: bool,
+}
+
+/// To explain each of several programs, in this form, and write the explanations to the file `junit`
+/// as a report in JUnit's form. `beside` tells whether words stand there that don't go with that.
+#[derive(Drop)]
+pub struct ToExplainEach<'a> {
+    pub programs: Vec<&'a str>,
+    pub junit: Option<&'a str>,
+    pub options: Options,
+    pub form: Form,
+    pub beside: bool,
 }
 
 /// To explain what an SPMD text is unrolled to, for the number of ranks that the text `ranks` tells,
@@ -190,6 +203,7 @@ pub enum Request<'a> {
     Unroll(ToUnroll<'a>),
     DecideUnrolled(ToDecideUnrolled<'a>),
     DecideEach(ToDecideEach<'a>),
+    ExplainEach(ToExplainEach<'a>),
     ExplainUnrolled(ToExplainUnrolled<'a>),
 }
 
@@ -205,6 +219,37 @@ pub fn request_of(alloc: Global, words: &[String]) -> Result<Request<'_>, Error>
         Err(fault) => Err(fault),
         Ok(matches) => asked_by(alloc, &matches),
     }
+}
+
+/// What stands behind `--color` in words that have no fault, if it does and memory lasts.
+pub fn color_of(alloc: Global, words: &[String]) -> Option<&str>
+    ensures { IfSome result (λ when. IsColor (subcommand_of command_line (map (λ w. string_bytes w) words.now)) when.now) }
+{
+    let Ok(mut command) = command(alloc) else {
+        return None;
+    };
+    match command.try_get_matches_from_mut(words) {
+        Err(_fault) => None,
+        Ok(matches) => color_asked(&matches),
+    }
+}
+
+/// What stands behind `--color` in the matches of a whole command line.
+fn color_asked<'a>(matches: &ArgMatches<'a>) -> Option<&'a str>
+    ensures { IfSome result (λ when. IsColor (subcommand_rows_of matches.now) when.now) }
+{
+    let Some(subcommand) = matches.subcommand() else {
+        return None;
+    };
+    color_below(subcommand)
+}
+
+/// What stands behind `--color` in a subcommand's matches.
+fn color_below<'a>(subcommand: (&'a str, &ArgMatches<'a>)) -> Option<&'a str>
+    ensures { IfSome result (λ when. Gives (rows_of (found_of subcommand.entry.1.now)) (codes "color") when.now) }
+{
+    let (_name, matches) = subcommand;
+    matches.get_str(COLOR)
 }
 
 /// The request of the matches of a whole command line. A parse that succeeds gives each value, so
@@ -305,6 +350,111 @@ fn encode_request<'a>(matches: &ArgMatches<'a>) -> Option<Request<'a>>
 fn explain_request<'a>(alloc: Global, matches: &ArgMatches<'a>) -> Option<Request<'a>>
     ensures { IfSome result (λ request. Makes (codes "explain") (rows_of (found_of matches.now)) (task_of request)) }
 {
+    if is_each(matches) {
+        return explain_each_request(alloc, matches);
+    }
+    explain_one_request(alloc, matches)
+}
+
+/// Whether each of several programs is to be explained.
+fn is_each(matches: &ArgMatches<'_>) -> bool
+    ensures { result ≡ is_each (rows_of (found_of matches.now)) }
+{
+    is_set(matches, EACH) || are_several(matches, EVIDENCE)
+}
+
+/// Whether an argument has two values or more, or a file for a report is named.
+fn are_several(matches: &ArgMatches<'_>, id: &str) -> bool
+    ensures { result ≡ has_two (texts_in (all_of id.now (rows_of (found_of matches.now)))) || is_some (first_of (codes "junit") (rows_of (found_of matches.now))) }
+{
+    has_two(matches, id) || matches.get_str(JUNIT).is_some()
+}
+
+/// Whether an argument has two values or more.
+fn has_two(matches: &ArgMatches<'_>, id: &str) -> bool
+    ensures { result ≡ has_two (texts_in (all_of id.now (rows_of (found_of matches.now)))) }
+{
+    match matches.get_strs(id) {
+        None => false,
+        Some(texts) => texts.len() > 1,
+    }
+}
+
+/// A program and further ones.
+fn listed<'a>(
+    alloc: Global,
+    program: &'a str,
+    further: &[&'a str],
+) -> Result<Vec<&'a str>, AllocError>
+    ensures { IfOk result (λ programs. map (λ p. p.now) programs.items ≡ program.entry.now ∷ map (λ p. p.now) further.now) }
+{
+    let mut programs = Vec::new(alloc);
+    programs.push(program)?;
+    programs.extend_from_slice(further)?;
+    Ok(programs)
+}
+
+/// Whether a page of several programs may have this form.
+fn is_of_several(form: Form) -> bool
+    ensures { result ≡ is_of_several form }
+{
+    match form {
+        Form::Brief | Form::Whole | Form::Object | Form::Messages => true,
+        Form::Graph | Form::Chart | Form::Picture | Form::Page => false,
+    }
+}
+
+/// Whether words stand there that don't go with explaining several programs.
+fn is_beside_each(matches: &ArgMatches<'_>, settings: &[&str]) -> bool
+    requires { map (λ s. s.now) settings.now ≡ settings_in (rows_of (found_of matches.now)) }
+    ensures { result ≡ is_beside_each (rows_of (found_of matches.now)) }
+{
+    if is_spmd_asked(
+        matches.get_str(RANKS),
+        settings,
+        matches.get_str(COLLECTIVES),
+    ) {
+        return true;
+    }
+    is_for_one(matches)
+}
+
+/// Whether a map is named, or a form is asked for, as goes with one program alone.
+fn is_for_one(matches: &ArgMatches<'_>) -> bool
+    ensures { result ≡ is_for_one (rows_of (found_of matches.now)) }
+{
+    matches.get_str(MAP).is_some() || !is_of_several(form_of(matches))
+}
+
+/// The request of the matches of `explain` with several programs.
+fn explain_each_request<'a>(alloc: Global, matches: &ArgMatches<'a>) -> Option<Request<'a>>
+    requires { is_each (rows_of (found_of matches.now)) ≡ true }
+    ensures { IfSome result (λ request. Makes (codes "explain") (rows_of (found_of matches.now)) (task_of request)) }
+{
+    let program = matches.get_str(PROGRAM)?;
+    let options = options_of(matches)?;
+    let further = texts_of(alloc, matches, EVIDENCE)?;
+    let settings = texts_of(alloc, matches, SET)?;
+    let beside = is_beside_each(matches, &settings);
+    mem::drop(settings);
+    let Ok(programs) = listed(alloc, program, &further) else {
+        return None;
+    };
+    mem::drop(further);
+    Some(Request::ExplainEach(ToExplainEach {
+        programs,
+        junit: matches.get_str(JUNIT),
+        options,
+        form: form_of(matches),
+        beside,
+    }))
+}
+
+/// The request of the matches of `explain` with one program.
+fn explain_one_request<'a>(alloc: Global, matches: &ArgMatches<'a>) -> Option<Request<'a>>
+    requires { is_each (rows_of (found_of matches.now)) ≡ false }
+    ensures { IfSome result (λ request. Makes (codes "explain") (rows_of (found_of matches.now)) (task_of request)) }
+{
     let program = matches.get_str(PROGRAM)?;
     let options = options_of(matches)?;
     let ranks = matches.get_str(RANKS);
@@ -377,20 +527,10 @@ fn decide_request<'a>(alloc: Global, matches: &ArgMatches<'a>) -> Option<Request
     ensures { IfSome result (λ request.
         Makes (codes "decide") (rows_of (found_of matches.now)) (task_of request)) }
 {
-    if is_several(matches) {
+    if are_several(matches, PROGRAM) {
         return decide_each_request(alloc, matches);
     }
     decide_one_request(alloc, matches)
-}
-
-/// Whether several programs are named.
-fn is_several(matches: &ArgMatches<'_>) -> bool
-    ensures { result ≡ is_several (rows_of (found_of matches.now)) }
-{
-    match matches.get_strs(PROGRAM) {
-        None => false,
-        Some(programs) => programs.len() > 1,
-    }
 }
 
 /// The request of the matches of `decide` with several programs.
@@ -405,6 +545,7 @@ fn decide_each_request<'a>(alloc: Global, matches: &ArgMatches<'a>) -> Option<Re
     mem::drop(settings);
     Some(Request::DecideEach(ToDecideEach {
         programs,
+        junit: matches.get_str(JUNIT),
         beside,
         json: is_set(matches, JSON),
     }))

@@ -7,4 +7,6 @@ returns c =
     let three = c.with-command-3.ensures _ _ two c.stages.ensures in
     let four = c.with-command-4.ensures _ _ three c.phases.ensures in
     let five = c.with-command-5.ensures _ _ four c.json.ensures in
-    c.with_unrolling.ensures _ five
+    let six = c.with-command-6.ensures _ _ five c.junit.ensures in
+    let seven = c.with-command-7.ensures _ _ six c.color.ensures in
+    c.with_unrolling.ensures _ seven

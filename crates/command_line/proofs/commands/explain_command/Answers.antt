@@ -13,4 +13,7 @@ returns c =
     let nine = c.with-command-8.ensures _ _ eight c.html.ensures in
     let ten = c.with-command-9.ensures _ _ nine c.object.ensures in
     let eleven = c.with-command-10.ensures _ _ ten c.map.ensures in
-    c.with_unrolling.ensures _ eleven
+    let twelve = c.with-command-11.ensures _ _ eleven c.each.ensures in
+    let thirteen = c.with-command-12.ensures _ _ twelve c.junit.ensures in
+    let fourteen = c.with-command-13.ensures _ _ thirteen c.color.ensures in
+    c.with_unrolling.ensures _ fourteen

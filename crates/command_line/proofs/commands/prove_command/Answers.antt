@@ -6,4 +6,5 @@ returns c =
     let two = c.with-command-2.ensures _ _ one c.out.ensures in
     let three = c.with_search-command.ensures _ two in
     let four = c.with-command-3.ensures _ _ three c.progress.ensures in
-    c.with.ensures _ _ four c.json.ensures
+    let five = c.with-command-4.ensures _ _ four c.json.ensures in
+    c.with.ensures _ _ five c.color.ensures

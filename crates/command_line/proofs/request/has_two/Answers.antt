@@ -4,7 +4,7 @@ use Rattle.std.specs.Borrow.{Bor}
 use Rattle.std.proofs.lemmas.Bool.{lt-ltb}
 use Rattle.command_line.specs.Requests.{has_two}
 use Rattle.command_line.proofs.CommandLines.{no_texts_by_rows, texts_by_rows}
-use Rattle.command_line.proofs.request.is_several.Goals as goal
+use Rattle.command_line.proofs.request.has_two.Goals as goal
 
 two_of : (texts : List (Bor (List ℕ))) → nat_lt 1 (length texts) ≡ has_two (map (λ t. t.now) texts)
 two_of [] = refl
@@ -16,4 +16,4 @@ returns-in-None c = ap has_two (no_texts_by_rows c.args.matches.now _ c.get_strs
 
 pub returns-in-Some : goal.returns-in-Some
 returns-in-Some c =
-    two_of c.in-Some.programs.now ∙ ap has_two (texts_by_rows c.args.matches.now _ c.get_strs.result c.in-Some.programs c.get_strs.ensures c.in-Some.is)
+    two_of c.in-Some.texts.now ∙ ap has_two (texts_by_rows c.args.matches.now _ c.get_strs.result c.in-Some.texts c.get_strs.ensures c.in-Some.is)

@@ -1,0 +1,78 @@
+-- A report of tests in JUnit's form.
+use Rattle.std.specs.Prelude.{◌≡◌, ◌==◌, ◌||◌, ◌+◌, ℕ, Bool, true, false, not, nat_lt, if◌then◌else◌, List, [], ◌∷◌, ◌++◌, codes, length, filter, take_while}
+use Rattle.std.specs.List.{flat_map}
+use Rattle.plaintext.specs.Plain.{numeral}
+use Rattle.junit.specs.declared.report.Outcome.{Outcome}
+use Rattle.junit.specs.declared.report.Outcome.TheVariants.{Passed, Failed, Broken}
+use Rattle.junit.specs.declared.report.Report.{Report}
+
+-- what stands for a byte: an entity where it has a meaning of its own in XML, and a question mark
+-- where it is neither LF nor printable ASCII
+abbrev pub escape : ℕ → List ℕ
+escape byte =
+    if byte == 38 then codes "&amp;"
+    else if byte == 60 then codes "&lt;"
+    else if byte == 62 then codes "&gt;"
+    else if byte == 34 then codes "&quot;"
+    else if not (byte == 10) && (nat_lt byte 32 || nat_lt 126 byte) then 63 ∷ []
+    else byte ∷ []
+
+abbrev pub escaped : List ℕ → List ℕ
+escaped = flat_map escape
+
+-- a test: its name, what came of it, and the text that tells it
+pub record Case : Type 0 where
+  pub name : List ℕ
+  pub outcome : Outcome
+  pub text : List ℕ
+
+abbrev pub first_line : List ℕ → List ℕ
+first_line = take_while (λ byte. not (byte == 10))
+
+-- an element with a text, and the first line of that as its message
+abbrev pub element : List ℕ → List ℕ → List ℕ
+element tag text =
+    codes "<" ++ (tag ++ (codes " message=\"" ++ (escaped (first_line text) ++ (codes "\">" ++ (escaped text ++ (codes "</" ++ (tag ++ codes ">")))))))
+
+-- what is told of a test that didn't pass
+abbrev pub told : Outcome → List ℕ → List ℕ
+told Passed text = []
+told Failed text = element (codes "failure") text
+told Broken text = element (codes "error") text
+
+abbrev pub case_text : Case → List ℕ
+case_text c =
+    codes "<testcase classname=\"mpiprove\" name=\"" ++ (escaped c.name ++ (codes "\">" ++ (told c.outcome c.text ++ codes "</testcase>\n")))
+
+abbrev pub is_failed : Outcome → Bool
+is_failed Passed = false
+is_failed Failed = true
+is_failed Broken = false
+
+abbrev pub is_broken : Outcome → Bool
+is_broken Passed = false
+is_broken Failed = false
+is_broken Broken = true
+
+-- how many tests there are, how many failed, and how many told of an error
+abbrev pub failures : List Case → ℕ
+failures cases = length (filter (λ c. is_failed c.outcome) cases)
+
+abbrev pub errors : List Case → ℕ
+errors cases = length (filter (λ c. is_broken c.outcome) cases)
+
+abbrev pub heading : ℕ → ℕ → ℕ → List ℕ
+heading tests failed broken =
+    codes "<?xml version=\"1.0\" encoding=\"UTF-8\"?>\n<testsuite name=\"mpiprove\" tests=\"" ++ (numeral tests ++ (codes "\" failures=\"" ++ (numeral failed
+    ++ (codes "\" errors=\"" ++ (numeral broken ++ codes "\">\n")))))
+
+-- the report of these tests
+abbrev pub report_text : List Case → List ℕ
+report_text cases = heading (length cases) (failures cases) (errors cases) ++ (flat_map case_text cases ++ codes "</testsuite>\n")
+
+-- the report is of these tests so far
+pub record IsOf (cases : List Case) (report : Report) : Type 0 where
+  pub text : report.cases.items ≡ flat_map case_text cases
+  pub tests : report.tests ≡ length cases
+  pub failed : report.failures ≡ failures cases
+  pub broken : report.errors ≡ errors cases
