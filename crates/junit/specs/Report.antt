@@ -1,21 +1,20 @@
 -- A report of tests in JUnit's form.
-use Rattle.std.specs.Prelude.{◌≡◌, ◌==◌, ◌||◌, ◌+◌, ℕ, Bool, true, false, not, nat_lt, if◌then◌else◌, List, [], ◌∷◌, ◌++◌, codes, length, filter, take_while}
+use Rattle.std.specs.Prelude.{◌≡◌, ◌==◌, ◌||◌, ◌-◌, ℕ, Bool, true, false, nat_lt, if◌then◌else◌, List, [], ◌∷◌, ◌++◌, codes, length, filter, take}
 use Rattle.std.specs.List.{flat_map}
-use Rattle.plaintext.specs.Plain.{numeral}
+use Rattle.plaintext.specs.Plain.{numeral, text_lines}
 use Rattle.junit.specs.declared.report.Outcome.{Outcome}
 use Rattle.junit.specs.declared.report.Outcome.TheVariants.{Passed, Failed, Broken}
 use Rattle.junit.specs.declared.report.Report.{Report}
 
--- what stands for a byte: an entity where it has a meaning of its own in XML, and a question mark
--- where it is neither LF nor printable ASCII
+-- a question mark stands for a byte that is no printable ASCII
+abbrev pub plain_byte : ℕ → List ℕ
+plain_byte byte = if nat_lt byte 32 || nat_lt 126 byte then 63 ∷ [] else byte ∷ []
+
+-- what stands for a byte: an entity where it has a meaning of its own in XML; LF stays
 abbrev pub escape : ℕ → List ℕ
 escape byte =
-    if byte == 38 then codes "&amp;"
-    else if byte == 60 then codes "&lt;"
-    else if byte == 62 then codes "&gt;"
-    else if byte == 34 then codes "&quot;"
-    else if not (byte == 10) && (nat_lt byte 32 || nat_lt 126 byte) then 63 ∷ []
-    else byte ∷ []
+    if byte == 38 then codes "&amp;" else if byte == 60 then codes "&lt;" else if byte == 62 then codes "&gt;"
+    else if byte == 34 then codes "&quot;" else if byte == 10 then 10 ∷ [] else plain_byte byte
 
 abbrev pub escaped : List ℕ → List ℕ
 escaped = flat_map escape
@@ -26,8 +25,14 @@ pub record Case : Type 0 where
   pub outcome : Outcome
   pub text : List ℕ
 
+-- the first of these lines, without the LF that parts it from the next one
+abbrev pub first_of : List (List ℕ) → List ℕ
+first_of [] = []
+first_of (line ∷ []) = line
+first_of (line ∷ (next ∷ others)) = take (length line - 1) line
+
 abbrev pub first_line : List ℕ → List ℕ
-first_line = take_while (λ byte. not (byte == 10))
+first_line text = first_of (text_lines text)
 
 -- an element with a text, and the first line of that as its message
 abbrev pub element : List ℕ → List ℕ → List ℕ
@@ -61,14 +66,12 @@ failures cases = length (filter (λ c. is_failed c.outcome) cases)
 abbrev pub errors : List Case → ℕ
 errors cases = length (filter (λ c. is_broken c.outcome) cases)
 
-abbrev pub heading : ℕ → ℕ → ℕ → List ℕ
-heading tests failed broken =
-    codes "<?xml version=\"1.0\" encoding=\"UTF-8\"?>\n<testsuite name=\"mpiprove\" tests=\"" ++ (numeral tests ++ (codes "\" failures=\"" ++ (numeral failed
-    ++ (codes "\" errors=\"" ++ (numeral broken ++ codes "\">\n")))))
-
 -- the report of these tests
 abbrev pub report_text : List Case → List ℕ
-report_text cases = heading (length cases) (failures cases) (errors cases) ++ (flat_map case_text cases ++ codes "</testsuite>\n")
+report_text cases =
+    codes "<?xml version=\"1.0\" encoding=\"UTF-8\"?>\n<testsuite name=\"mpiprove\" tests=\"" ++ (numeral (length cases)
+    ++ (codes "\" failures=\"" ++ (numeral (failures cases) ++ (codes "\" errors=\"" ++ (numeral (errors cases)
+    ++ (codes "\">\n" ++ (flat_map case_text cases ++ codes "</testsuite>\n")))))))
 
 -- the report is of these tests so far
 pub record IsOf (cases : List Case) (report : Report) : Type 0 where

@@ -1,27 +1,39 @@
 //! Texts in XML.
 
 ghost use Rattle.std.specs.Prelude.{◌≡◌, ◌++◌, OnOk};
-ghost use Rattle.junit.specs.Report.{escape, escaped};
+ghost use Rattle.junit.specs.Report.{escape, escaped, plain_byte};
 
 use std::alloc::AllocError;
 
-/// Writes what stands for a byte.
-fn put_escape(out: &mut Vec<u8>, byte: u8) -> Result<(), AllocError>
-    ensures { OnOk result (out.new.items ≡ out.old.items ++ escape byte) }
+/// Writes a byte, or a question mark where it is no printable ASCII.
+fn put_plain(out: &mut Vec<u8>, byte: u8) -> Result<(), AllocError>
+    ensures { OnOk result (out.new.items ≡ out.old.items ++ plain_byte byte) }
 {
-    match byte {
-        b'&' => return out.extend_from_slice(b"&amp;"),
-        b'<' => return out.extend_from_slice(b"&lt;"),
-        b'>' => return out.extend_from_slice(b"&gt;"),
-        b'"' => return out.extend_from_slice(b"&quot;"),
-        _ => {}
-    }
-    if byte != b'\n' && (byte < 32 || byte > 126) {
+    if byte < 32 || byte > 126 {
         out.push(b'?')?;
     } else {
         out.push(byte)?;
     }
     Ok(())
+}
+
+/// Writes what stands for a byte.
+fn put_escape(out: &mut Vec<u8>, byte: u8) -> Result<(), AllocError>
+    ensures { OnOk result (out.new.items ≡ out.old.items ++ escape byte) }
+{
+    if byte == b'&' {
+        out.extend_from_slice(b"&amp;")
+    } else if byte == b'<' {
+        out.extend_from_slice(b"&lt;")
+    } else if byte == b'>' {
+        out.extend_from_slice(b"&gt;")
+    } else if byte == b'"' {
+        out.extend_from_slice(b"&quot;")
+    } else if byte == b'\n' {
+        out.extend_from_slice(b"\n")
+    } else {
+        put_plain(out, byte)
+    }
 }
 
 /// Writes a text.

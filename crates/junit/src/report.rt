@@ -1,9 +1,10 @@
 //! The report.
 
-ghost use Rattle.std.specs.Prelude.{◌≡◌, ◌∷◌, ◌++◌, [], IfOk, List, OnOk};
-ghost use Rattle.junit.specs.Report.{Case, IsOf, case_text, element, first_line, heading, report_text, told};
+ghost use Rattle.std.specs.Prelude.{◌≡◌, ◌+◌, ◌∷◌, ◌++◌, [], IfOk, List, OnOk};
+ghost use Rattle.junit.specs.Report.{Case, IsOf, case_text, element, first_line, report_text, told};
 
 use crate::escaping::put_escaped;
+use plaintext::next_line;
 use std::alloc::{AllocError, Global};
 use writing::{Part, put_parts, put_text};
 
@@ -41,9 +42,9 @@ fn next(number: usize) -> Result<usize, AllocError>
 fn first_line(text: &[u8]) -> &[u8]
     ensures { result.now ≡ first_line text.now }
 {
-    match text.iter().position(|byte| *byte == b'\n') {
-        Some(end) => &text[..end],
+    match next_line(text) {
         None => text,
+        Some((line, _behind)) => line,
     }
 }
 
@@ -51,15 +52,14 @@ fn first_line(text: &[u8]) -> &[u8]
 fn put_element(out: &mut Vec<u8>, tag: &str, text: &[u8]) -> Result<(), AllocError>
     ensures { OnOk result (out.new.items ≡ out.old.items ++ element tag.now text.now) }
 {
-    put_text(out, "<")?;
-    put_text(out, tag)?;
-    put_text(out, " message=\"")?;
+    put_parts(
+        out,
+        &[Part::Text("<"), Part::Text(tag), Part::Text(" message=\"")],
+    )?;
     put_escaped(out, first_line(text))?;
     put_text(out, "\">")?;
     put_escaped(out, text)?;
-    put_text(out, "</")?;
-    put_text(out, tag)?;
-    put_text(out, ">")
+    put_parts(out, &[Part::Text("</"), Part::Text(tag), Part::Text(">")])
 }
 
 /// Writes what is told of a test that didn't pass.
