@@ -1,0 +1,10 @@
+use Rattle.std.proofs.Common.{◌≡◌, map, take}
+use Rattle.session.specs.Several.{AreAnswered, IsDecidedIn}
+use Rattle.session.specs.Sweeping.{form_of_answer}
+use Rattle.session.proofs.several.decide_each_page.Given as goal
+
+-- the programs so far are answered, and files are as they were
+abbrev pub invariant-loop-path : goal.invariant-loop-path
+invariant-loop-path g l =
+    (g.F.FileSet.held l.files ≡ g.F.FileSet.held l.fn.files) × (g.F.FileSet.reads l.files ≡ g.F.FileSet.reads l.fn.files)
+    × AreAnswered (IsDecidedIn (g.F.FileSet.held l.fn.files) l.asked.now.json) (form_of_answer l.asked.now.json) (map (λ p. p.now) (take l.path-index l.asked.now.programs.items)) l.answers
