@@ -4,7 +4,7 @@ use Rattle.clap.specs.Words.{Text}
 use Rattle.clap.specs.declared.error.kind.ErrorKind.{ErrorKind}
 use Rattle.formulas.specs.Numbering.{formula_of}
 use Rattle.command_line.specs.CommandLine.{version_line}
-use Rattle.command_line.specs.Requests.{AskFor, Task, to_check, to_decide, to_decide_each, to_decide_phases, to_decide_unrolled, to_encode, to_explain, to_explain_unrolled, to_export, to_join, to_phases, to_prove, to_replay, to_shrink, to_trim, to_unroll}
+use Rattle.command_line.specs.Requests.{AskFor, Task, to_check, to_decide, to_decide_each, to_decide_phases, to_decide_unrolled, to_encode, to_explain, to_explain_each, to_explain_unrolled, to_export, to_join, to_phases, to_prove, to_replay, to_shrink, to_trim, to_unroll}
 use Rattle.session.specs.AnyLaws.{IsRightlyTold, ToldDeadlockIsShown}
 use Rattle.session.specs.Asking.{TellsDeadlock}
 use Rattle.session.specs.Endings.{EndsUnasked, Explains, TaskEnds}
@@ -12,7 +12,7 @@ use Rattle.session.specs.Explaining.{IsDecidedFirst, IsExplained}
 use Rattle.session.specs.Lines.{early_line}
 use Rattle.session.specs.Pages.{IsEncoded}
 use Rattle.session.specs.Runs.{SessionRun}
-use Rattle.session.specs.Sweeping.{beside_several}
+use Rattle.session.specs.Several.{beside_each, beside_several}
 use Rattle.session.specs.Unrolling.{no_way}
 use Rattle.session.specs.declared.told.Told.TheVariants as told
 use Rattle.session.proofs.DeadlockLines.{PageTells, deadlock_page, deadlock_printed, dimacs_untold, formula_untold, help_untold, line_tells, version_untold}
@@ -24,7 +24,8 @@ use Rattle.session.proofs.PhaseLaws.{cut_hangs, joined_hangs}
 use Rattle.session.proofs.RunLaws.{complaint_untold}
 use Rattle.session.proofs.FileLaws.{shrunk_hangs, trimmed_untold}
 use Rattle.session.proofs.SweepLaws.{rises}
-use Rattle.session.proofs.SweptPages.{each_hangs, explained_hangs, swept_hangs}
+use Rattle.session.proofs.SeveralPages.{decided_true, each_hangs, explained_true}
+use Rattle.session.proofs.SweptPages.{explained_hangs, swept_hangs}
 use Rattle.session.proofs.UnrolledPages.{unrolled_untold}
 
 -- the page of `encode` tells no deadlock
@@ -192,12 +193,18 @@ asked_told run (to_explain_unrolled p ranks settings way evidence workers depth 
         explained_hangs (run.before p) p source settings barriers budget form first page.0 page.1 page.2 page.3 held,
       ),
     )))))
-asked_told run (to_decide_each programs beside as_json) asks (same, inl (stands, complains)) says =
+asked_told run (to_decide_each programs junit beside as_json) asks (inl (stands, same, complains)) says =
     absurd (complaint_untold run beside_several 6 (λ one. omega (arith, one)) complains says)
-asked_told run (to_decide_each programs beside as_json) asks (same, inr (alone, ends)) says =
+asked_told run (to_decide_each programs junit beside as_json) asks (inr (alone, others, ends)) says =
     let page = deadlock_page ends says in
-    let hangs = each_hangs run.before programs as_json page.0 page.1 page.2 page.3 in
-    inr (inr (inr (inr (inl (programs, beside, as_json, asks, (hangs.path, hangs.named, hangs.hangs))))))
+    let hangs = each_hangs run.tells.writes run.before run.after _ junit programs page.0 (decided_true run.before as_json) page.1 page.2 page.3 in
+    inr (inr (inr (inr (inl (programs, junit, inl (beside, as_json, asks), (hangs.path, hangs.named, hangs.hangs))))))
+asked_told run (to_explain_each programs junit workers depth budget form beside) asks (inl (stands, same, complains)) says =
+    absurd (complaint_untold run beside_each 6 (λ one. omega (arith, one)) complains says)
+asked_told run (to_explain_each programs junit workers depth budget form beside) asks (inr (alone, others, ends)) says =
+    let page = deadlock_page ends says in
+    let hangs = each_hangs run.tells.writes run.before run.after _ junit programs page.0 (explained_true run.before budget form) page.1 page.2 page.3 in
+    inr (inr (inr (inr (inl (programs, junit, inr (workers, depth, budget, form, beside, asks), (hangs.path, hangs.named, hangs.hangs))))))
 
 explained_untold : (run : SessionRun) (kind : ErrorKind) → Explains run kind → TellsDeadlock run → ⊥
 explained_untold run kind (inl usage) says = complaint_untold run usage.1.0 6 (λ one. omega (arith, one)) usage.1.1 says

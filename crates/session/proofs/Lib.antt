@@ -15,8 +15,10 @@ pub mod UnrolledPages
 pub mod UnrollLaws
 pub mod SweptPages
 pub mod SweepLaws
+pub mod SeveralPages
 pub mod JoinedPages
 pub mod PhaseLaws
+pub mod SeveralLaws
 pub mod AnyLaws
 pub mod StandIns
 pub mod StrayEvidences

@@ -98,12 +98,12 @@ cut_hangs before after p text status program (given, Err why, all, is, page) say
 -- ---- runs
 
 -- a run whose words ask for a task ends as the task does, or changes no file
-task_or_same : (run : SessionRun) {task : Task} → SessionEnds run → AskFor run.words task → TaskEnds run task ⊎ (run.after ≡ run.before)
+pub task_or_same : (run : SessionRun) {task : Task} → SessionEnds run → AskFor run.words task → TaskEnds run task ⊎ (run.after ≡ run.before)
 task_or_same run {task = task} (inl asked) asks = inl (subst (TaskEnds run) (one_task_is_asked run.words asked.0 task asked.1 asks) asked.2)
 task_or_same run (inr unasked) asks = inr unasked.0
 
 -- a file that may not change holds what it held
-file_kept : (out : Option (List ℕ)) (old new : List ℕ → Option (List ℕ)) (path : List ℕ) → ChangesAtMost out old new → out ≢ Some path → new path ≡ old path
+pub file_kept : (out : Option (List ℕ)) (old new : List ℕ → Option (List ℕ)) (path : List ℕ) → ChangesAtMost out old new → out ≢ Some path → new path ≡ old path
 file_kept None old new path same other = ap (λ (held : List ℕ → Option (List ℕ)). held path) same
 file_kept (Some file) old new path keeps other = keeps path (λ e. other (ap Some (sym e)))
 

@@ -4,12 +4,12 @@ use Rattle.std.specs.Prelude.{◌||◌, is_some}
 use Rattle.std.proofs.lemmas.Option.{same_Some}
 use Rattle.spmd_program.specs.Ranges.{IsRange}
 use Rattle.clap.specs.Words.{Text}
-use Rattle.session.specs.Endings.{EndsRanked, FailsEarly}
-use Rattle.session.specs.Sweeping.{IsRanked, beside_several}
-use Rattle.session.specs.SweepLaws.{EachRunIsRight, IsSafeFor, UnrolledRunsAreRight}
+use Rattle.session.specs.Endings.{EndsRanked}
+use Rattle.session.specs.Sweeping.{IsRanked}
+use Rattle.session.specs.SweepLaws.{IsSafeFor, UnrolledRunsAreRight}
 use Rattle.session.specs.Runs.{Complains, SessionRun}
 use Rattle.session.proofs.RunLaws.{page_printed}
-use Rattle.session.proofs.SweptPages.{each_hangs, each_safe, explained_hangs, explained_safe, swept_hangs, swept_safe}
+use Rattle.session.proofs.SweptPages.{explained_hangs, explained_safe, swept_hangs, swept_safe}
 use Rattle.session.proofs.TaskEnds.{task_ends}
 use Rattle.session.proofs.UnrollLaws.{way_end}
 
@@ -80,24 +80,4 @@ unrolled_runs = record {
           explained_hangs (run.before p) p source settings by.0 explain.3 explain.4 end.0 page.0 1 page.1 (inl refl) held,
         )
   ];
-}
-
--- a run with a status below 4 ended by its page
-each_end : (run : SessionRun) (beside : Bool) {Ends : Type 0} {X : Type 0}
-    → (X × (((beside ≡ true) × Complains run beside_several 6) ⊎ ((beside ≡ false) × Ends))) ⊎ FailsEarly run → (own : ℕ) → run.status ≡ own → (own ≡ 4 → ⊥) → (own ≡ 6 → ⊥) → Ends
-each_end run beside (inl (x, inl (stands, complains))) own is four six = absurd (six (sym is ∙ complains.0))
-each_end run beside (inl (x, inr (alone, ends))) own is four six = ends
-each_end run beside (inr fails) own is four six = absurd (four (sym is ∙ fails.0))
-
-pub each_run : EachRunIsRight
-each_run = record {
-  safe = λ run programs beside as_json path program ends asks zero named held.
-      let end = each_end run beside (task_ends run ends asks) 0 zero (λ e. omega (arith, e)) (λ e. omega (arith, e)) in
-      let page = page_printed 0 (omega arith) (inl end) zero in
-      each_safe run.before programs as_json page.0 page.1 path program named held;
-  stuck = λ run programs beside as_json ends asks one.
-      let end = each_end run beside (task_ends run ends asks) 1 one (λ e. omega (arith, e)) (λ e. omega (arith, e)) in
-      let page = page_printed 1 (omega arith) (inl end) one in
-      let hangs = each_hangs run.before programs as_json page.0 1 page.1 (inl refl) in
-      (hangs.path, hangs.named, hangs.hangs);
 }

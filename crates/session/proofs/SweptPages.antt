@@ -1,10 +1,9 @@
 -- What the pages of an SPMD text for numbers of ranks tell.
 use Rattle.std.proofs.Common.{◌≡◌, ◌∙◌, ◌⊎◌, ◌<◌, ◌≤◌, ◌+◌, ◌==◌, arith, ap, inl, inr, sym, subst, refl, ℕ, suc, zero, List, [], ◌∷◌, ◌++◌, length, length-append, Bool, true, false, Some, None, Option, Result, Ok, Err, get_or, codes, append_assoc, map, take}
 use Rattle.std.specs.Prelude.{if◌then◌else◌, nat_lt}
-use Rattle.std.specs.List.{Contains, fold}
+use Rattle.std.specs.List.{fold}
 use Rattle.std.specs.Str.Lossy.{utf8_lossy}
-use Rattle.std.proofs.lemmas.List.{append-nil, map-append, take_more}
-use Rattle.std.specs.Borrow.{Bor}
+use Rattle.std.proofs.lemmas.List.{append-nil}
 use Rattle.std.proofs.lemmas.List.Sums.{fold-append}
 use Rattle.std.proofs.lemmas.Bool.{eqb-false, eqb-true, lt-ltb, ltb-true}
 use Rattle.calltext.specs.Limits.{long}
@@ -17,7 +16,7 @@ use Rattle.settings.specs.declared.form.Form.{Form}
 use Rattle.session.specs.Explaining.{is_object}
 use Rattle.session.specs.Lines.{deadlock_line}
 use Rattle.session.specs.Pages.{IsScheduled}
-use Rattle.session.specs.Sweeping.{AreRows, AreRowsOf, IsDecidedEach, IsDecidedFor, IsDecidedIn, IsDecidedUnrolled, IsExplainedUnrolled, IsPageFor, IsTable, Row, file_row, file_rows, graver, gravest, gravity, refused_line, row_text, rows_text}
+use Rattle.session.specs.Sweeping.{AreRows, IsDecidedFor, IsDecidedUnrolled, IsExplainedUnrolled, IsPageFor, IsTable, Row, graver, gravest, gravity, refused_line, row_text, rows_text}
 use Rattle.std.specs.Global.{Vec}
 use Rattle.std.specs.Prelude.{IfOk}
 use Rattle.std.specs.declared.alloc.AllocError.{AllocError}
@@ -52,7 +51,7 @@ gravity_zero status e = go (status == 0) refl
         absurd (above_zero (status == 1) (status == 2) (status == 3)
         (sym (ap (λ (b : Bool). if b then 0 else others (status == 1) (status == 2) (status == 3)) is) ∙ e))
 
-graver_zero : (one other : ℕ) → graver one other ≡ 0 → (one ≡ 0) × (other ≡ 0)
+pub graver_zero : (one other : ℕ) → graver one other ≡ 0 → (one ≡ 0) × (other ≡ 0)
 graver_zero one other e = go (nat_lt (gravity one) (gravity other)) refl
   where
     go : (b : Bool) → nat_lt (gravity one) (gravity other) ≡ b → (one ≡ 0) × (other ≡ 0)
@@ -68,14 +67,14 @@ graver_zero one other e = go (nat_lt (gravity one) (gravity other)) refl
         not_less zero e = refl
         not_less (suc n) e = let never : true ≡ false = sym (lt-ltb 0 (suc n) (omega arith)) ∙ e in absurd cc
 
-graver_one : (one other own : ℕ) → graver one other ≡ own → (one ≡ own) ⊎ (other ≡ own)
+pub graver_one : (one other own : ℕ) → graver one other ≡ own → (one ≡ own) ⊎ (other ≡ own)
 graver_one one other own e = go (nat_lt (gravity one) (gravity other)) refl
   where
     go : (b : Bool) → nat_lt (gravity one) (gravity other) ≡ b → (one ≡ own) ⊎ (other ≡ own)
     go true is = inr (sym (ap (λ (b : Bool). if b then other else one) is) ∙ e)
     go false is = inl (sym (ap (λ (b : Bool). if b then other else one) is) ∙ e)
 
-abbrev worst_from : ℕ → List Row → ℕ
+abbrev pub worst_from : ℕ → List Row → ℕ
 worst_from status rows = fold (λ status row. graver status row.status) status rows
 
 -- a row for a number of ranks
@@ -176,7 +175,7 @@ whole_table IsPage json first last ranks text status at far =
 
 -- ---- one number of ranks
 
-unscheduled : (tells : Bool) (held : List ℕ → Option (List ℕ)) (d : Result Decision Undecided) → IsScheduled tells held held None d
+pub unscheduled : (tells : Bool) (held : List ℕ → Option (List ℕ)) (d : Result Decision Undecided) → IsScheduled tells held held None d
 unscheduled tells held (Ok decisions.NoDeadlock) = refl
 unscheduled tells held (Ok (decisions.Deadlock steps)) = refl
 unscheduled tells held (Ok (decisions.Race race)) = refl
@@ -235,7 +234,7 @@ third_of_rows json ranks [] e = omega (arith, e)
 third_of_rows false ranks (row ∷ rows) e = omega (arith, e)
 third_of_rows true ranks (row ∷ rows) e = omega (arith, e)
 
-third_of_deadlock : (as_json : Bool) (rest : List ℕ) → get_or (deadlock_line as_json ++ rest) 2 0 ≡ 97
+pub third_of_deadlock : (as_json : Bool) (rest : List ℕ) → get_or (deadlock_line as_json ++ rest) 2 0 ≡ 97
 third_of_deadlock false rest = refl
 third_of_deadlock true rest = refl
 
@@ -296,143 +295,3 @@ explained_safe file path source settings barriers budget form ranks text (given,
     subst (λ (s : List ℕ). IsSafeFor path s settings barriers ranks) (all_are file given source all held)
     (record { program = program; map = map; unrolled = unrolled; never = decision_never form budget program d plain is page })
 explained_safe file path source settings barriers budget form ranks text (given, all, inr (told, refusal, is, three)) held = absurd (omega (arith, three))
-
--- ---- several programs
-
-here_in : (path : List ℕ) (paths : List (List ℕ)) → Contains (path ∷ paths) path
-here_in path paths = (0, omega arith, refl)
-
-behind_in : (first : List ℕ) (paths : List (List ℕ)) (path : List ℕ) → Contains paths path → Contains (first ∷ paths) path
-behind_in first paths path (k, low, is) = (suc k, omega (arith, low), is)
-
-first_or_behind : (first : List ℕ) (paths : List (List ℕ)) (path : List ℕ) → Contains (first ∷ paths) path → (first ≡ path) ⊎ Contains paths path
-first_or_behind first paths path (zero, low, is) = inl is
-first_or_behind first paths path (suc k, low, is) = inr (k, omega (arith, low), is)
-
-record HasRowOf (IsPage : List ℕ → List ℕ → ℕ → Type 0) (paths : List (List ℕ)) (status : ℕ) : Type 0 where
-  path : List ℕ
-  named : Contains paths path
-  page : List ℕ
-  is_page : IsPage path page status
-
-one_grave_of : (IsPage : List ℕ → List ℕ → ℕ → Type 0) (own status : ℕ) (paths : List (List ℕ)) (rows : List Row) → AreRowsOf IsPage paths rows
-    → worst_from status rows ≡ own → (status ≡ own) ⊎ HasRowOf IsPage paths own
-one_grave_of IsPage own status [] [] are e = inl e
-one_grave_of IsPage own status (path ∷ paths) (row ∷ rows) are e =
-    elim (one_grave_of IsPage own (graver status row.status) paths rows are.1 e) [
-      | inl here ↦ elim (graver_one status row.status own here) [
-        | inl before ↦ inl before
-        | inr is ↦ inr (record { path = path; named = here_in path paths; page = row.page; is_page = subst (IsPage path row.page) is are.0 })
-      ]
-      | inr behind ↦ inr (record { path = behind.path; named = behind_in path paths behind.path behind.named; page = behind.page; is_page = behind.is_page })
-    ]
-one_grave_of IsPage own status [] (row ∷ rows) are e = absurd are
-one_grave_of IsPage own status (path ∷ paths) [] are e = absurd are
-
-none_grave_of : (IsPage : List ℕ → List ℕ → ℕ → Type 0) (status : ℕ) (paths : List (List ℕ)) (rows : List Row) → AreRowsOf IsPage paths rows
-    → worst_from status rows ≡ 0 → (status ≡ 0) × ((path : List ℕ) → Contains paths path → (page : List ℕ) × IsPage path page 0)
-none_grave_of IsPage status [] [] are e = (e, λ path named. absurd (omega (arith, named.1)))
-none_grave_of IsPage status (path ∷ paths) (row ∷ rows) are e =
-    let behind = none_grave_of IsPage (graver status row.status) paths rows are.1 e in
-    let here = graver_zero status row.status behind.0 in (
-      here.0,
-      λ other named. elim (first_or_behind path paths other named) [
-        | inl same ↦ (row.page, subst (λ (p : List ℕ). IsPage p row.page 0) same (subst (IsPage path row.page) here.1 are.0))
-        | inr later ↦ behind.1 other later
-      ],
-    )
-none_grave_of IsPage status [] (row ∷ rows) are e = absurd are
-none_grave_of IsPage status (path ∷ paths) [] are e = absurd are
-
-decided_in_hangs : (held : List ℕ → Option (List ℕ)) (json : Bool) (path page program : List ℕ) → IsDecidedIn held json path page 1 → held path ≡ Some program
-    → (steps : List Step) × IsStuckRunWithin long program steps
-decided_in_hangs held json path page program (given, d, all, is, decision) holds =
-    subst (λ (p : List ℕ). (steps : List Step) × IsStuckRunWithin long p steps) (all_are (held path) given program all holds)
-    (decided_hangs false (λ p. Some given) (λ p. Some given) [] None json page 1 given
-    (given, d, refl, is, unscheduled false (λ p. Some given) d, decision) (inl refl) refl)
-
-decided_in_safe : (held : List ℕ → Option (List ℕ)) (json : Bool) (path page program : List ℕ) → IsDecidedIn held json path page 0 → held path ≡ Some program
-    → IsNeverStuckWithin long program
-decided_in_safe held json path page program (given, d, all, is, decision) holds =
-    subst (λ (p : List ℕ). IsNeverStuckWithin long p) (all_are (held path) given program all holds)
-    (decided_safe false (λ p. Some given) (λ p. Some given) [] None json page 0 given
-    (given, d, refl, is, unscheduled false (λ p. Some given) d, decision) (inl refl) refl)
-
-third_of_files : (json : Bool) (paths : List (List ℕ)) (rows : List Row) → get_or (file_rows json paths rows) 2 0 ≡ 97 → ⊥
-third_of_files json [] rows e = omega (arith, e)
-third_of_files json (path ∷ paths) [] e = omega (arith, e)
-third_of_files false (path ∷ paths) (row ∷ rows) e = omega (arith, e)
-third_of_files true (path ∷ paths) (row ∷ rows) e = omega (arith, e)
-
--- what the page of several programs tells of one of them
-pub record HangsOneOf (held : List ℕ → Option (List ℕ)) (paths : List (List ℕ)) : Type 0 where
-  pub path : List ℕ
-  pub named : Contains paths path
-  pub hangs : (program : List ℕ) → held path ≡ Some program → (steps : List Step) × IsStuckRunWithin long program steps
-
-pub each_hangs : (held : List ℕ → Option (List ℕ)) (paths : List (List ℕ)) (json : Bool) (text : List ℕ) (status : ℕ) → IsDecidedEach held paths json text status
-    → PageTells text status → HangsOneOf held paths
-each_hangs held paths json text status each (inl one) =
-    elim (one_grave_of (IsDecidedIn held json) 1 0 paths each.rows each.are (sym each.is_status ∙ one)) [
-      | inl never ↦ absurd (omega (arith, never))
-      | inr row ↦ record { path = row.path; named = row.named; hangs = λ program holds. decided_in_hangs held json row.path row.page program row.is_page holds }
-    ]
-each_hangs held paths json text status each (inr begins) =
-    absurd (third_of_files json paths each.rows (ap (λ (t : List ℕ). get_or t 2 0) (sym each.is_text ∙ begins.2) ∙ third_of_deadlock begins.0 begins.1))
-
-pub each_safe : (held : List ℕ → Option (List ℕ)) (paths : List (List ℕ)) (json : Bool) (text : List ℕ) → IsDecidedEach held paths json text 0
-    → (path program : List ℕ) → Contains paths path → held path ≡ Some program → IsNeverStuckWithin long program
-each_safe held paths json text each path program named holds =
-    let row = (none_grave_of (IsDecidedIn held json) 0 paths each.rows each.are (sym each.is_status)).1 path named in
-    decided_in_safe held json path row.0 program row.1 holds
-
--- ---- rows of programs, one by one
-
-are_more_of : (IsPage : List ℕ → List ℕ → ℕ → Type 0) (paths : List (List ℕ)) (rows : List Row) (path : List ℕ) (row : Row) → AreRowsOf IsPage paths rows
-    → IsPage path row.page row.status → AreRowsOf IsPage (paths ++ path ∷ []) (rows ++ row ∷ [])
-are_more_of IsPage [] [] path row are page = (page, tt)
-are_more_of IsPage (first ∷ paths) (one ∷ rows) path row are page = (are.0, are_more_of IsPage paths rows path row are.1 page)
-are_more_of IsPage [] (one ∷ rows) path row are page = absurd are
-are_more_of IsPage (first ∷ paths) [] path row are page = absurd are
-
-rows_more : (IsPage : List ℕ → List ℕ → ℕ → Type 0) (json : Bool) (paths : List (List ℕ)) (rows : List Row) (path : List ℕ) (row : Row) → AreRowsOf IsPage paths rows
-    → file_rows json (paths ++ path ∷ []) (rows ++ row ∷ []) ≡ file_rows json paths rows ++ file_row json path row.page
-rows_more IsPage json [] [] path row are = append-nil (file_row json path row.page)
-rows_more IsPage json (first ∷ paths) (one ∷ rows) path row are =
-    ap (λ (l : List ℕ). file_row json first one.page ++ l) (rows_more IsPage json paths rows path row are.1)
-    ∙ sym (append_assoc (file_row json first one.page) (file_rows json paths rows) (file_row json path row.page))
-rows_more IsPage json [] (one ∷ rows) path row are = absurd are
-rows_more IsPage json (first ∷ paths) [] path row are = absurd are
-
--- the rows of the first paths, their text and their gravest status
-pub record AreRead (IsPage : List ℕ → List ℕ → ℕ → Type 0) (json : Bool) (paths : List (List ℕ)) (text : List ℕ) (status : ℕ) : Type 0 where
-  pub rows : List Row
-  pub are : AreRowsOf IsPage paths rows
-  pub is_text : text ≡ file_rows json paths rows
-  pub is_status : status ≡ gravest rows
-
-pub none_read : (IsPage : List ℕ → List ℕ → ℕ → Type 0) (json : Bool) → AreRead IsPage json [] [] 0
-none_read IsPage json = record { rows = []; are = tt; is_text = refl; is_status = refl }
-
-pub one_read : (IsPage : List ℕ → List ℕ → ℕ → Type 0) (json : Bool) (paths : List (Bor (List ℕ))) (index : ℕ) (d : Bor (List ℕ)) (text : List ℕ) (status : ℕ) (page : List ℕ) (own : ℕ) (more : List ℕ) (worse : ℕ)
-    → index < length paths → AreRead IsPage json (map (λ p. p.now) (take index paths)) text status → IsPage (get_or paths index d).now page own
-    → more ≡ text ++ file_row json (get_or paths index d).now page → worse ≡ graver status own
-    → AreRead IsPage json (map (λ p. p.now) (take (index + 1) paths)) more worse
-one_read IsPage json paths index d text status page own more worse low read is added graved =
-    let path = get_or paths index d in
-    let row : Row = record { page = page; status = own } in
-    let before = map (λ (p : Bor (List ℕ)). p.now) (take index paths) in
-    let longer : map (λ (p : Bor (List ℕ)). p.now) (take (index + 1) paths) ≡ before ++ path.now ∷ [] =
-    ap (map (λ (p : Bor (List ℕ)). p.now)) (take_more paths index d low)
-    ∙ map-append (λ (p : Bor (List ℕ)). p.now) (take index paths) (path ∷ []) in
-    subst (λ (ps : List (List ℕ)). AreRead IsPage json ps more worse) (sym longer)
-    (record {
-      rows = read.rows ++ row ∷ [];
-      are = are_more_of IsPage before read.rows path.now row read.are is;
-      is_text = added ∙ ap (λ (l : List ℕ). l ++ file_row json path.now page) read.is_text ∙ sym (rows_more IsPage json before read.rows path.now row read.are);
-      is_status = graved ∙ ap (λ (s : ℕ). graver s own) read.is_status ∙ sym (fold-append (λ status row. graver status row.status) 0 read.rows (row ∷ []));
-    })
-
-pub all_read : (held : List ℕ → Option (List ℕ)) (json : Bool) (paths : List (List ℕ)) (text : List ℕ) (status : ℕ) → AreRead (IsDecidedIn held json) json paths text status
-    → IsDecidedEach held paths json text status
-all_read held json paths text status read = record { rows = read.rows; are = read.are; is_text = read.is_text; is_status = read.is_status }

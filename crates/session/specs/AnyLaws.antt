@@ -7,14 +7,14 @@ use Rattle.semantics.specs.Headline.{IsStuckRunWithin}
 use Rattle.semantics.specs.declared.state.Step.{Step}
 use Rattle.settings.specs.declared.form.Form.{Form}
 use Rattle.checker.specs.Verdicts.{Shows}
-use Rattle.command_line.specs.Requests.{AskFor, Task, to_decide, to_decide_each, to_export, to_phases, to_shrink}
+use Rattle.command_line.specs.Requests.{AskFor, Task, to_decide, to_export, to_phases, to_shrink}
 use Rattle.command_line.specs.UsualWords.{PlainForm}
 use Rattle.session.specs.Asking.{AskToCheck, AskToExplain, AskToExplainBy, AskToProve, AskToReplay, TellsDeadlock}
 use Rattle.session.specs.Endings.{FailsEarly, SessionEnds, TaskEnds}
 use Rattle.session.specs.PhaseLaws.{AskByPhases}
 use Rattle.session.specs.Runs.{SessionRun}
 use Rattle.session.specs.Shrinking.{Hangs}
-use Rattle.session.specs.SweepLaws.{AskUnrolled, HangsFor, IsAmongRanks}
+use Rattle.session.specs.SweepLaws.{AskEach, AskUnrolled, HangsFor, IsAmongRanks}
 use Rattle.session.specs.Unrolling.{barriers_in}
 
 -- ---- words in their usual order
@@ -54,7 +54,7 @@ IsRightlyTold words before =
     ⊎ (((p : Text) × (out : Option Text) × AskFor words (to_shrink p out) × ((program : List ℕ) → before p ≡ Some program → Hangs program))
     ⊎ (((p : Text) × AskToRun words p
     × ((program : List ℕ) → before p ≡ Some program → (steps : List Step) × IsStuckRunWithin long program steps))
-    ⊎ (((programs : List Text) × (beside : Bool) × (as_json : Bool) × AskFor words (to_decide_each programs beside as_json)
+    ⊎ (((programs : List Text) × (junit : Option Text) × AskEach words programs junit
     × ((p : Text) × Contains programs p × ((program : List ℕ) → before p ≡ Some program → (steps : List Step) × IsStuckRunWithin long program steps)))
     ⊎ ((p : Text) × (ranks : Text) × (settings : List Text) × (way : Option Text) × AskUnrolled words p ranks settings way
     × ((source : List ℕ) → before p ≡ Some source

@@ -1,5 +1,5 @@
 -- What follows from how a run of `decide` or `explain` for an SPMD text ended.
-use Rattle.std.specs.Prelude.{◌≡◌, ◌≤◌, ◌⊎◌, ℕ, Bool, true, List, Option, Some}
+use Rattle.std.specs.Prelude.{◌≡◌, ◌≢◌, ◌≤◌, ◌<◌, ◌⊎◌, ℕ, Bool, IsTrue, true, List, map, Option, Some}
 use Rattle.std.specs.List.{Contains}
 use Rattle.clap.specs.Words.{Text}
 use Rattle.calltext.specs.Limits.{long}
@@ -8,7 +8,8 @@ use Rattle.semantics.specs.declared.state.Step.{Step}
 use Rattle.settings.specs.declared.form.Form.{Form}
 use Rattle.spmd_program.specs.Ranges.{IsRange}
 use Rattle.spmd_program.specs.Unrolling.{IsUnrolling}
-use Rattle.command_line.specs.Requests.{AskFor, to_decide_each, to_decide_unrolled, to_explain_unrolled}
+use Rattle.junit.specs.Report.{Case, report_text}
+use Rattle.command_line.specs.Requests.{AskFor, to_decide_each, to_decide_unrolled, to_explain_each, to_explain_unrolled}
 use Rattle.session.specs.Endings.{SessionEnds}
 use Rattle.session.specs.Runs.{SessionRun}
 use Rattle.session.specs.Unrolling.{barriers_in}
@@ -55,12 +56,24 @@ pub record UnrolledRunsAreRight : Type 0 where
       → run.before p ≡ Some source → run.status ≡ 1
       → (barriers : Bool) × (barriers_in way ≡ Some barriers) × (number : ℕ) × IsAmongRanks ranks number × HangsFor p source settings barriers number
 
--- A run of `decide` for several programs with the status 0: none of these programs has a run that
--- gets stuck, as far as files are told. One with the status 1: one of them has.
+-- the words ask to decide, or to explain, each of these programs, and to write a report to a file,
+-- where one is named
+abbrev pub AskEach : List Text → List Text → Option Text → Type 0
+AskEach words programs junit =
+    ((beside : Bool) × (as_json : Bool) × AskFor words (to_decide_each programs junit beside as_json))
+    ⊎ ((workers : ℕ) × (depth : ℕ) × (budget : ℕ) × (form : Form) × (beside : Bool) × AskFor words (to_explain_each programs junit workers depth budget form beside))
+
+-- A run for several programs with the status 0: none of these programs has a run that gets stuck, as
+-- far as files are told. One with the status 1: one of them has. With a status below 4, the file that
+-- is named holds a report of tests, one for each program, in their order. No other file changes.
 pub record EachRunIsRight : Type 0 where
-  pub safe : (run : SessionRun) (programs : List Text) (beside as_json : Bool) (path : Text) (program : List ℕ) → SessionEnds run
-      → AskFor run.words (to_decide_each programs beside as_json) → run.status ≡ 0 → Contains programs path → run.before path ≡ Some program
-      → IsNeverStuckWithin long program
-  pub stuck : (run : SessionRun) (programs : List Text) (beside as_json : Bool) → SessionEnds run → AskFor run.words (to_decide_each programs beside as_json)
+  pub safe : (run : SessionRun) (programs : List Text) (junit : Option Text) (path : Text) (program : List ℕ) → SessionEnds run
+      → AskEach run.words programs junit → run.status ≡ 0 → Contains programs path → run.before path ≡ Some program → IsNeverStuckWithin long program
+  pub stuck : (run : SessionRun) (programs : List Text) (junit : Option Text) → SessionEnds run → AskEach run.words programs junit
       → run.status ≡ 1 → (path : Text) × Contains programs path
       × ((program : List ℕ) → run.before path ≡ Some program → (steps : List Step) × IsStuckRunWithin long program steps)
+  pub reported : (run : SessionRun) (programs : List Text) (file : Text) → SessionEnds run → AskEach run.words programs (Some file)
+      → IsTrue run.tells.writes → run.status < 4
+      → (cases : List Case) × (map (λ c. c.name) cases ≡ programs) × (run.after file ≡ Some (report_text cases))
+  pub others : (run : SessionRun) (programs : List Text) (junit : Option Text) (path : List ℕ) → SessionEnds run → AskEach run.words programs junit
+      → junit ≢ Some path → run.after path ≡ run.before path

@@ -1,8 +1,6 @@
 -- The pages of `decide` and `explain` for an SPMD text.
 use Rattle.std.specs.Prelude.{◌≡◌, ◌⊎◌, ◌+◌, ◌==◌, ℕ, suc, Bool, true, false, List, [], ◌∷◌, ◌++◌, codes, drop, length, nat_lt, if◌then◌else◌, Option, Some, None, Result}
-use Rattle.std.specs.List.{Contains, fold}
-use Rattle.serde_json.specs.Data.{string}
-use Rattle.serde_json.specs.Written.{compact_text}
+use Rattle.std.specs.List.{fold}
 use Rattle.std.specs.Str.Lossy.{utf8_lossy}
 use Rattle.files.specs.Contents.{AreAll}
 use Rattle.plaintext.specs.Plain.{numeral}
@@ -16,7 +14,7 @@ use Rattle.spmd_program.specs.Ranges.{IsRange}
 use Rattle.spmd_program.specs.Unrolling.{IsRefusal, IsUnrolling}
 use Rattle.session.specs.Explaining.{IsDecisionExplained, is_object}
 use Rattle.session.specs.Lines.{line_text}
-use Rattle.session.specs.Pages.{IsDecisionPage, IsUnread}
+use Rattle.session.specs.Pages.{IsDecisionPage}
 use Rattle.session.specs.Unrolling.{refused_text}
 
 -- ---- the numbers of ranks
@@ -132,39 +130,3 @@ pub record IsTable (IsPage : ℕ → List ℕ → ℕ → Type 0) (json : Bool) 
 abbrev pub IsDecidedUnrolled : Option (List ℕ) → List ℕ → List (List ℕ) → Bool → Bool → ℕ → ℕ → List ℕ → ℕ → Type 0
 IsDecidedUnrolled file path settings barriers json first last text status =
     (source : List ℕ) × AreAll file source × IsTable (IsPageFor path source settings barriers json (IsDecidedFor json)) json first last text status
-
--- ---- a table of programs
-
--- the rows are of such pages, for these paths, one after another
-abbrev pub AreRowsOf : (List ℕ → List ℕ → ℕ → Type 0) → List (List ℕ) → List Row → Type 0
-AreRowsOf IsPage [] [] = Unit {0}
-AreRowsOf IsPage (path ∷ paths) (row ∷ rows) = IsPage path row.page row.status × AreRowsOf IsPage paths rows
-AreRowsOf IsPage _ _ = ⊥
-
--- a row: the path stands before its page, in a JSON object as the first member
-abbrev pub file_row : Bool → List ℕ → List ℕ → List ℕ
-file_row false path page = codes "program " ++ (path ++ (codes ": " ++ page))
-file_row true path page = codes "{\"program\":" ++ (compact_text (string path) ++ (codes "," ++ drop 1 page))
-
-abbrev pub file_rows : Bool → List (List ℕ) → List Row → List ℕ
-file_rows json (path ∷ paths) (row ∷ rows) = file_row json path row.page ++ file_rows json paths rows
-file_rows json _ _ = []
-
--- the page of what one run decides of the program of a file
-abbrev pub IsDecidedIn : (List ℕ → Option (List ℕ)) → Bool → List ℕ → List ℕ → ℕ → Type 0
-IsDecidedIn held json path page status =
-    (program : List ℕ) × (d : Result Decision Undecided) × AreAll (held path) program × IsDecided program d × IsDecisionPage json program d page status
-
--- the page of `decide` for several programs: a row each, in their order, and the gravest status
-pub record IsDecidedEach (held : List ℕ → Option (List ℕ)) (paths : List (List ℕ)) (json : Bool) (text : List ℕ) (status : ℕ) : Type 0 where
-  pub rows : List Row
-  pub are : AreRowsOf (IsDecidedIn held json) paths rows
-  pub is_text : text ≡ file_rows json paths rows
-  pub is_status : status ≡ gravest rows
-
--- the file that failed is one of these, and it isn't told to be read
-abbrev pub IsOneUnread : (List ℕ → Bool) → List (List ℕ) → List ℕ → Type 0
-IsOneUnread reads paths path = Contains paths path × IsUnread reads path
-
-abbrev pub beside_several : List ℕ
-beside_several = codes "error: one program alone goes with --out, --progress, --phases, --ranks, --set and --collectives\n"

@@ -49,7 +49,7 @@ pub fn explain_page<'a, R: Threads + Wait + Sync, F: FileSet>(
 
 /// Decides by one run, and explains what it shows, in a form; where messages may race, searches for
 /// an answer, and explains what its evidence shows. No file changes.
-fn decided_first<'a, R: Threads + Wait + Sync, F: FileSet>(
+pub fn decided_first<'a, R: Threads + Wait + Sync, F: FileSet>(
     rt: &R,
     alloc: Global,
     program: &'a str,

@@ -180,8 +180,9 @@ pub fn unrolled_runs_are_right()
     ensures { UnrolledRunsAreRight }
 {}
 
-/// Where words ask to decide several programs, and the run ended with the status 0, none of them has
-/// a run that gets stuck; and where it ended with the status 1, one of them has.
+/// Where words ask to decide or to explain several programs, and the run ended with the status 0, none
+/// of them has a run that gets stuck; where it ended with the status 1, one of them has; with a status
+/// below 4 the file that is named holds a report of tests; and no other file changes.
 pub fn each_run_is_right()
     ensures { EachRunIsRight }
 {}

@@ -13,6 +13,7 @@ mod mapped;
 mod page;
 mod racing;
 mod run;
+mod several;
 mod shrunk;
 mod status;
 mod swept;

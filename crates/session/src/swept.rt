@@ -1,17 +1,17 @@
-//! The commands `decide` and `explain` for an SPMD text, and `decide` for several programs, from the
-//! files that they name to the page that they print.
+//! The commands `decide` and `explain` for an SPMD text, from the file that it names to the page that
+//! they print.
 ghost use Rattle.std.specs.Prelude.{◌≡◌, ◌≤◌, ◌++◌, ◌||◌, IfErr, IfOk, List, OnOk, Some, drop, is_some, map, option_map, ℕ};
 ghost use Rattle.command_line.specs.Requests.{path_of};
 ghost use Rattle.places.specs.Woven.{HasPlaces};
 ghost use Rattle.session.specs.Explaining.{is_object};
 ghost use Rattle.session.specs.Pages.{IsProgram, StopsBy};
-ghost use Rattle.session.specs.Sweeping.{IsDecidedEach, IsDecidedFor, IsDecidedIn, IsDecidedUnrolled, IsExplainedFor, IsExplainedUnrolled, IsOneUnread, IsPageFor, IsRanked, IsTable, IsUnranked, beside_ranks, file_row, form_of_answer, graver, gravity, no_ranks, refused_line, row_text};
+ghost use Rattle.session.specs.Sweeping.{IsDecidedFor, IsDecidedUnrolled, IsExplainedFor, IsExplainedUnrolled, IsPageFor, IsRanked, IsTable, IsUnranked, beside_ranks, form_of_answer, graver, gravity, no_ranks, refused_line, row_text};
 
 use crate::commands::{Stop, is_object};
 use crate::decide::{decision_line, read_whole};
 use crate::explained::decision_explained;
 use crate::mapped::woven_page;
-use crate::page::{Page, page_with, quoted};
+use crate::page::{Page, page_with};
 use crate::status::{DEADLOCK, NO_DEADLOCK, REFUSED, UNKNOWN};
 use crate::unrolled::refused_page;
 use command_line::{ToDecideUnrolled, ToExplainUnrolled};
@@ -114,7 +114,8 @@ fn program_decided(alloc: Global, made: &Unrolling, json: bool) -> Result<Page, 
     placed(alloc, page, form_of_answer(json), made)
 }
 
-fn form_of_answer(json: bool) -> Form
+/// The form of an answer.
+pub fn form_of_answer(json: bool) -> Form
     ensures { result ≡ form_of_answer json }
 {
     if json { Form::Object } else { Form::Brief }
@@ -158,7 +159,7 @@ fn gravity(status: u8) -> u8
 }
 
 /// The graver of two statuses.
-fn graver(one: u8, other: u8) -> u8
+pub fn graver(one: u8, other: u8) -> u8
     ensures { result ≡ graver one other }
 {
     if gravity(one) < gravity(other) {
@@ -185,7 +186,7 @@ fn put_row(text: &mut Vec<u8>, json: bool, ranks: u32, page: &[u8]) -> Result<()
 }
 
 /// What stands behind the first byte.
-fn behind_first(page: &[u8]) -> &[u8]
+pub fn behind_first(page: &[u8]) -> &[u8]
     ensures { result.now ≡ drop 1 page.now }
 {
     match page {
@@ -317,68 +318,4 @@ pub fn explain_unrolled_page<'a, R: Threads + Wait + Sync, F: FileSet>(
     let source = read_whole(alloc, asked.program, files)?;
     let page = explained_for(rt, alloc, &source, asked, barriers, ranks);
     Ok(page?)
-}
-
-/// Adds the row of the program of a file.
-fn put_file_row(
-    text: &mut Vec<u8>,
-    alloc: Global,
-    json: bool,
-    path: &str,
-    page: &[u8],
-) -> Result<(), AllocError>
-    ensures { OnOk result (text.new.items ≡ text.old.items ++ file_row json path.now page.now) }
-{
-    if json {
-        let name = quoted(alloc, path)?;
-        text.extend_from_slice(b"{\"program\":")?;
-        text.extend_from_slice(name.as_bytes())?;
-        text.push(b',')?;
-        return text.extend_from_slice(behind_first(page));
-    }
-    text.extend_from_slice(b"program ")?;
-    text.extend_from_slice(path.as_bytes())?;
-    text.extend_from_slice(b": ")?;
-    text.extend_from_slice(page)
-}
-
-/// The page of what one run decides of the program of a file.
-fn decided_in<'a, F: FileSet>(
-    alloc: Global,
-    path: &'a str,
-    json: bool,
-    files: &mut F,
-) -> Result<Page, Stop<'a>>
-    ensures page { IfOk result (λ page. IsDecidedIn (F.held files.old) json path.entry.now page.text.items page.status) }
-    ensures same { F.held files.new ≡ F.held files.old }
-    ensures same_reads { F.reads files.new ≡ F.reads files.old }
-    ensures stop { IfErr result (StopsBy (IsProgram (F.reads files.old) path.entry.now)
-        (F.held files.old) (F.held files.new)) }
-{
-    let text = read_whole(alloc, path, files)?;
-    let decided = decide(alloc, &text);
-    Ok(decision_line(alloc, &text, &decided, json)?)
-}
-
-/// Decides by one run of each of several programs whether some run of it gets stuck. No file changes.
-pub fn decide_each_page<'a, F: FileSet>(
-    alloc: Global,
-    programs: &[&'a str],
-    json: bool,
-    files: &mut F,
-) -> Result<Page, Stop<'a>>
-    ensures page { IfOk result (λ page.
-        IsDecidedEach (F.held files.old) (map (λ p. p.now) programs.now) json page.text.items page.status) }
-    ensures same { F.held files.new ≡ F.held files.old }
-    ensures stop { IfErr result (StopsBy (IsOneUnread (F.reads files.old) (map (λ p. p.now) programs.now))
-        (F.held files.old) (F.held files.new)) }
-{
-    let mut text = Vec::new(alloc);
-    let mut status = NO_DEADLOCK;
-    for path in programs {
-        let page = decided_in(alloc, path, json, files)?;
-        put_file_row(&mut text, alloc, json, path, &page.text)?;
-        status = graver(status, page.status);
-    }
-    Ok(Page { text, status })
 }

@@ -1,4 +1,4 @@
-use Rattle.session.proofs.SweepLaws.{each_run}
+use Rattle.session.proofs.SeveralLaws.{each_run}
 use Rattle.session.proofs.laws.each_run_is_right.Goals as goal
 
 pub returns : goal.returns

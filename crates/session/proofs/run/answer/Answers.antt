@@ -44,6 +44,9 @@ returns-in-DecideUnrolled g c = λ words. rw c.in-DecideUnrolled.is (c.decide_un
 pub returns-in-DecideEach : goal.returns-in-DecideEach
 returns-in-DecideEach g c = λ words. rw c.in-DecideEach.is (c.decide_each.ensures words c.args.is_terminal)
 
+pub returns-in-ExplainEach : goal.returns-in-ExplainEach
+returns-in-ExplainEach g c = λ words. rw c.in-ExplainEach.is (c.explain_each.ensures words c.args.is_terminal)
+
 pub returns-in-ExplainUnrolled : goal.returns-in-ExplainUnrolled
 returns-in-ExplainUnrolled g c = λ words. rw c.in-ExplainUnrolled.is (c.explain_unrolled.ensures words c.args.is_terminal)
 
