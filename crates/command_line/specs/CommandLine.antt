@@ -106,11 +106,13 @@ explain_app =
     (with_rule
     (with_rule
     (with_rule
+    (with_rule
     (with_search
     (with_rule
     (with_rule (new_app (codes "explain")) program_rule)
     optional_evidence_rule))
     (flag_rule (codes "all")))
+    (flag_rule (codes "messages")))
     (flag_rule (codes "dot")))
     (flag_rule (codes "chart")))
     (flag_rule (codes "svg")))

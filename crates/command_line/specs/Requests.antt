@@ -5,7 +5,7 @@ use Rattle.std.specs.Str.{bytes_eq}
 use Rattle.std.specs.Str.Parse.{IsNumeral, digits_value, without_leading_plus}
 use Rattle.clap.specs.Words.{Row, Text, all_of, fault_of, first_of, one_of, subcommand_of}
 use Rattle.settings.specs.declared.form.Form.{Form}
-use Rattle.settings.specs.declared.form.Form.TheVariants.{Brief, Whole, Graph, Chart, Picture, Page, Object}
+use Rattle.settings.specs.declared.form.Form.TheVariants.{Brief, Whole, Graph, Chart, Picture, Page, Object, Messages}
 use Rattle.command_line.specs.CommandLine.{command_line}
 use Rattle.command_line.specs.declared.request.Request.{Request}
 use Rattle.command_line.specs.declared.request.Request.TheVariants as ask
@@ -109,8 +109,8 @@ is_true (Some text) = bytes_eq text (codes "true")
 abbrev pub Flags : List Row → Text → Bool → Type 0
 Flags rows id value = value ≡ is_true (one_of id rows)
 
--- the form of an explanation: the first of `--json`, `--html`, `--svg`, `--chart`, `--dot` and
--- `--all` that they set
+-- the form of an explanation: the first of `--json`, `--html`, `--svg`, `--chart`, `--dot`,
+-- `--messages` and `--all` that they set
 abbrev pub form_in : List Row → Form
 form_in rows =
     if is_true (one_of (codes "json") rows) then Object
@@ -118,8 +118,9 @@ form_in rows =
     else (if is_true (one_of (codes "svg") rows) then Picture
     else (if is_true (one_of (codes "chart") rows) then Chart
     else (if is_true (one_of (codes "dot") rows) then Graph
+    else (if is_true (one_of (codes "messages") rows) then Messages
     else (if is_true (one_of (codes "all") rows) then Whole
-    else Brief)))))
+    else Brief))))))
 
 -- the number that a text spells in decimal digits, a plus before which doesn't count
 abbrev pub number_of : Text → ℕ

@@ -37,6 +37,8 @@ pub const SVG: &str = "svg";
 
 pub const HTML: &str = "html";
 
+pub const MESSAGES: &str = "messages";
+
 pub const LINES: &str = "lines";
 
 pub const MAP: &str = "map";
@@ -166,6 +168,16 @@ pub fn html<'a>(alloc: Global) -> Arg<'a>
         alloc,
         HTML,
         "Print a page in HTML: the explanation, the timeline, and the program's lines",
+    )
+}
+
+pub fn messages<'a>(alloc: Global) -> Arg<'a>
+    ensures { IsRuled result (flag_rule (codes "messages")) }
+{
+    flag(
+        alloc,
+        MESSAGES,
+        "Print FILE:LINE: and what a rank waits in there, a line for each, as compilers tell faults",
     )
 }
 

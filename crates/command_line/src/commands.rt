@@ -6,9 +6,9 @@ ghost use Rattle.command_line.specs.CommandLine.{IsRuled, IsShaped, check_app, c
 
 use crate::arguments::{
     all, budget, chart, collectives, depth, dimacs, dot, evidence, folder, html, json, lines, map,
-    object, optional_evidence, out, phases, phases_folder, pieces, program, programs, progress,
-    proof, ranks, schedule, set, several_ranks, smaller, spmd, stages, svg, trimmed, unrolled,
-    workers, written_map,
+    messages, object, optional_evidence, out, phases, phases_folder, pieces, program, programs,
+    progress, proof, ranks, schedule, set, several_ranks, smaller, spmd, stages, svg, trimmed,
+    unrolled, workers, written_map,
 };
 use crate::help_ends::{
     CHECK_END, DECIDE_END, ENCODE_END, EXPLAIN_END, EXPORT_END, HELP_END, JOIN_END, PHASES_END,
@@ -163,6 +163,7 @@ fn explain_command<'a>(alloc: Global) -> Result<Command<'a>, AllocError>
     let command = with(command, optional_evidence(alloc));
     let command = with_search(alloc, command);
     let command = with(command, all(alloc));
+    let command = with(command, messages(alloc));
     let command = with(command, dot(alloc));
     let command = with(command, chart(alloc));
     let command = with(command, svg(alloc));

@@ -7,7 +7,7 @@ ghost use Rattle.command_line.specs.Requests.{AskFor, Flags, Makes, MakesSome, R
 
 use crate::arguments::{
     ALL, BUDGET, CHART, COLLECTIVES, DEPTH, DIMACS, DOT, EVIDENCE, FOLDER, HTML, JSON, LINES, MAP,
-    OUT, PHASES, PIECES, PROGRAM, PROGRESS, RANKS, SET, SVG, WORKERS,
+    MESSAGES, OUT, PHASES, PIECES, PROGRAM, PROGRESS, RANKS, SET, SVG, WORKERS,
 };
 use crate::commands::command;
 use clap::error::ErrorKind;
@@ -553,6 +553,8 @@ fn form_of(matches: &ArgMatches<'_>) -> Form
         Form::Chart
     } else if is_set(matches, DOT) {
         Form::Graph
+    } else if is_set(matches, MESSAGES) {
+        Form::Messages
     } else if is_set(matches, ALL) {
         Form::Whole
     } else {

@@ -15,6 +15,7 @@ marker forms.Graph = codes "line "
 marker forms.Chart = codes "line "
 marker forms.Picture = codes "line "
 marker forms.Page = codes "line "
+marker forms.Messages = codes "line "
 
 -- what stands for a byte in a text, in quotes, or in a picture or a page: a question mark where it isn't printable ASCII
 abbrev pub plain_byte : ℕ → List ℕ
@@ -35,6 +36,7 @@ shown forms.Page = drawn_byte
 shown forms.Brief = plain_byte
 shown forms.Whole = plain_byte
 shown forms.Chart = plain_byte
+shown forms.Messages = plain_byte
 
 -- what stands before the words of a place, and behind them
 abbrev pub opening : Form → List ℕ

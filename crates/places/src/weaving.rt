@@ -16,7 +16,7 @@ fn marker(form: Form) -> &'static [u8]
 {
     match form {
         Form::Object => b"\"line\":",
-        Form::Brief | Form::Whole | Form::Graph | Form::Chart | Form::Picture | Form::Page => {
+        Form::Brief | Form::Whole | Form::Graph | Form::Chart | Form::Picture | Form::Page | Form::Messages => {
             b"line "
         }
     }
@@ -64,7 +64,7 @@ fn put_byte(out: &mut Vec<u8>, form: Form, byte: u8) -> Result<(), AllocError>
     match form {
         Form::Object | Form::Graph => put_quoted(out, byte),
         Form::Picture | Form::Page => put_drawn(out, byte),
-        Form::Brief | Form::Whole | Form::Chart => put_plain(out, byte),
+        Form::Brief | Form::Whole | Form::Chart | Form::Messages => put_plain(out, byte),
     }
 }
 
@@ -84,7 +84,7 @@ fn told_of<'a>(form: Form, words: &'a [u8]) -> &'a [u8]
 {
     match form {
         Form::Object => words,
-        Form::Brief | Form::Whole | Form::Graph | Form::Chart | Form::Picture | Form::Page => {
+        Form::Brief | Form::Whole | Form::Graph | Form::Chart | Form::Picture | Form::Page | Form::Messages => {
             match around(words, b" < ") {
                 Some((place, _callers)) => place,
                 None => words,
@@ -99,7 +99,7 @@ fn opening(form: Form) -> &'static [u8]
 {
     match form {
         Form::Object => b",\"place\":\"",
-        Form::Brief | Form::Whole | Form::Graph | Form::Chart | Form::Picture | Form::Page => b" (",
+        Form::Brief | Form::Whole | Form::Graph | Form::Chart | Form::Picture | Form::Page | Form::Messages => b" (",
     }
 }
 
@@ -109,7 +109,7 @@ fn closing(form: Form) -> &'static [u8]
 {
     match form {
         Form::Object => b"\"",
-        Form::Brief | Form::Whole | Form::Graph | Form::Chart | Form::Picture | Form::Page => b")",
+        Form::Brief | Form::Whole | Form::Graph | Form::Chart | Form::Picture | Form::Page | Form::Messages => b")",
     }
 }
 
@@ -180,7 +180,7 @@ pub fn with_places(
             let strings = woven(alloc, plain, Form::Graph, places)?;
             woven(alloc, &strings, Form::Object, places)
         }
-        Form::Brief | Form::Whole | Form::Graph | Form::Chart | Form::Picture | Form::Page => {
+        Form::Brief | Form::Whole | Form::Graph | Form::Chart | Form::Picture | Form::Page | Form::Messages => {
             woven(alloc, plain, form, places)
         }
     }

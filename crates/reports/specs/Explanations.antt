@@ -92,6 +92,7 @@ marks_of forms.Graph = graph_marks
 marks_of forms.Picture = picture_marks
 marks_of forms.Page = page_marks
 marks_of forms.Object = object_marks
+marks_of forms.Messages = line_marks
 
 -- a name and a number
 abbrev pub count_line : Marks → List ℕ → ℕ → List ℕ
@@ -153,6 +154,7 @@ IsDrawnFrom forms.Brief program source p steps text = SaysHowOften p text
 IsDrawnFrom forms.Whole program source p steps text = SaysHowOften p text
 IsDrawnFrom forms.Graph program source p steps text = Unit {0}
 IsDrawnFrom forms.Object program source p steps text = Unit {0}
+IsDrawnFrom forms.Messages program source p steps text = Unit {0}
 
 -- so, of what the program's text says within limits
 abbrev pub IsDrawnWithin : Limits → Form → List ℕ → MpiProgram → List Step → List ℕ → Type 0
@@ -183,6 +185,7 @@ IsAdded forms.Graph p added = added ≡ []
 IsAdded forms.Picture p added = added ≡ []
 IsAdded forms.Page p added = added ≡ []
 IsAdded forms.Object p added = added ≡ []
+IsAdded forms.Messages p added = added ≡ []
 
 -- the text tells these numbers, and below them what the form adds
 abbrev pub IsNumbered : Form → MpiProgram → List ℕ → List ℕ → Type 0

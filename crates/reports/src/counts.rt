@@ -41,7 +41,7 @@ fn marks_of(form: Form) -> Marks
     ensures { texts_of result ≡ marks_of form }
 {
     match form {
-        Form::Brief | Form::Whole | Form::Chart => Marks {
+        Form::Brief | Form::Whole | Form::Chart | Form::Messages => Marks {
             begin: "no deadlock\n",
             front: "",
             middle: " ",

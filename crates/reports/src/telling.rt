@@ -48,7 +48,7 @@ fn limits() -> Limits {
 fn tells_choices(form: Form) -> bool {
     match form {
         Form::Brief | Form::Whole | Form::Page | Form::Object => true,
-        Form::Graph | Form::Chart | Form::Picture => false,
+        Form::Graph | Form::Chart | Form::Picture | Form::Messages => false,
     }
 }
 
@@ -284,6 +284,7 @@ pub fn run_text<R: Threads + Sync>(
 {
     match form {
         Form::Graph => wait_graph(alloc, text, source, program, steps),
+        Form::Messages => wait_graph(alloc, text, source, program, steps),
         Form::Chart => chart(alloc, text, source, program, steps),
         Form::Picture => picture(alloc, text, source, program, steps),
         Form::Page => explained_page(rt, alloc, text, source, program, steps, asked),

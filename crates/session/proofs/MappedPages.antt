@@ -29,6 +29,7 @@ marked_unclean forms.Graph rest h = cc
 marked_unclean forms.Chart rest h = cc
 marked_unclean forms.Picture rest h = cc
 marked_unclean forms.Page rest h = cc
+marked_unclean forms.Messages rest h = cc
 
 clean_deadlock : (as_json : Bool) → clean (deadlock_line as_json) ≡ true
 clean_deadlock false = refl
@@ -86,6 +87,7 @@ places_tell forms.Graph map plain text status woven tells = woven_tells forms.Gr
 places_tell forms.Chart map plain text status woven tells = woven_tells forms.Chart map plain text status woven tells
 places_tell forms.Picture map plain text status woven tells = woven_tells forms.Picture map plain text status woven tells
 places_tell forms.Page map plain text status woven tells = woven_tells forms.Page map plain text status woven tells
+places_tell forms.Messages map plain text status woven tells = woven_tells forms.Messages map plain text status woven tells
 
 -- the words of a refused map begin as no deadlock's line does
 refused_untold : (json : Bool) (fault : MapFault) (text : List ℕ) (status : ℕ) → IsMapRefused json fault text status → PageTells text status → ⊥
