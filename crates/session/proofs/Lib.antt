@@ -16,6 +16,11 @@ pub mod UnrollLaws
 pub mod SweptPages
 pub mod SweepLaws
 pub mod JoinedPages
+pub mod CutFiles
+pub mod CutNames
+pub mod CutTexts
+pub mod CutPages
+pub mod MadeUp
 pub mod PhaseLaws
 pub mod AnyLaws
 pub mod StandIns
