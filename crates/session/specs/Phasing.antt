@@ -142,8 +142,8 @@ ArePrograms texts programs =
 abbrev pub IsDealt : List MpiProgram → ℕ → MpiProgram → MpiProgram → Type 0
 IsDealt programs number q part = (slice_get programs number ≡ Some part) × IsFront q part
 
--- The programs of these numbers, from 0, are taken off the first program, each off what those before
--- it leave, and the second program is what all leave.
+-- The programs of these numbers, from 0, are taken off the first program, each off what those
+-- before it leave, and the second program is what all leave.
 abbrev pub AreDealt : List MpiProgram → MpiProgram → List ℕ → MpiProgram → Type 0
 AreDealt programs p [] q = p ≡ q
 AreDealt programs p (number ∷ order) q = (part : MpiProgram) × IsDealt programs number p part × AreDealt programs (behind p part) order q
@@ -232,7 +232,8 @@ pub record IsCutOf (phases : Phases) (cut : Cut) : Type 0 where
   pub texts : HaveTexts cut.parts phases.texts.items
   pub order : cut.order ≡ map (λ number. number + 1) phases.order.items
 
--- The bytes are the text of a program, within the long limits, that the phases make up in this order.
+-- The bytes are the text of a program, within the long limits, that the phases make up in this
+-- order.
 pub record IsWhole (program : List ℕ) (cut : Cut) : Type 0 where
   pub p : MpiProgram
   pub phases : Phases

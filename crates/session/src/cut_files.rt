@@ -73,8 +73,8 @@ fn is_memory(decided: &Result<Decision, Undecided>) -> bool
     }
 }
 
-/// The texts of phases as files, the paths of those that have to be proved, one a line, and how many
-/// these are.
+/// The texts of phases as files, the paths of those that have to be proved, one a line, and how
+/// many these are.
 #[derive(Drop)]
 pub struct Texts {
     pub files: Vec<Output>,
