@@ -2,7 +2,8 @@
 //! which takes what is sent in it.
 //!
 //! Nobody trusts what comes out: whoever judges a program by phases deals its calls to them and
-//! tests each cut. So no function says here what it does by a contract. The program's run that
+//! tests each cut. So no function says here what it does by a contract, but for the numbers of the
+//! order, which are those of texts (`specs/Orders.antt`). The program's run that
 //! buffers least tells who finds whose message. A phase is a set of calls that is closed: with a
 //! call it has the wait, the other end of the message, the receive on the handle. With a finder of
 //! any source it has, at each rank that sends there later, a call that returns only after the finder

@@ -137,7 +137,7 @@ asked_told run (to_phases p folder) asks ends says =
       inr (inr (inl (folder, asks))),
       λ program held.
           let page = deadlock_page ends.1 says in
-          cut_hangs run.before run.after p page.0 page.1 program page.2 page.3 held,
+          cut_hangs run.tells.writes run.before run.after p folder page.0 page.1 program page.2 page.3 held,
     ))))
 asked_told run (to_unroll p ranks settings way out map) asks (others, inl (none, complains)) says =
     absurd (complaint_untold run no_way 6 (λ one. omega (arith, one)) complains says)

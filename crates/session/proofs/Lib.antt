@@ -17,6 +17,11 @@ pub mod SweptPages
 pub mod SweepLaws
 pub mod SeveralPages
 pub mod JoinedPages
+pub mod CutFiles
+pub mod CutNames
+pub mod CutTexts
+pub mod CutPages
+pub mod MadeUp
 pub mod PhaseLaws
 pub mod SeveralLaws
 pub mod AnyLaws

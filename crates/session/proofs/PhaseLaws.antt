@@ -1,10 +1,13 @@
 -- What the pages of `join`, `phases` and `decide --phases` tell, and the laws of their runs.
-use Rattle.std.proofs.Common.{◌≡◌, ◌≢◌, ◌⊎◌, ap, arith, inl, inr, sym, subst, ℕ, Bool, false, List, Option, Ok, Err, Some, None}
+use Rattle.std.proofs.Common.{◌≡◌, ◌≢◌, ◌⊎◌, ◌<◌, ap, arith, inl, inr, sym, subst, ℕ, Bool, false, List, Option, Ok, Err, Some, None}
+use Rattle.std.specs.Io.KnownBytes.{Appends}
 use Rattle.clap.specs.Words.{Text}
 use Rattle.calltext.specs.Limits.{long}
 use Rattle.semantics.specs.Headline.{IsNeverStuckWithin, IsStuckRunWithin}
 use Rattle.semantics.specs.declared.state.Step.{Step}
+use Rattle.deciding.specs.Decisions.{HasRace}
 use Rattle.deciding.specs.Schedules.{schedule_text}
+use Rattle.deciding.specs.declared.decision.Race.{Race}
 use Rattle.deciding.specs.declared.decision.Decision.TheVariants as decisions
 use Rattle.command_line.specs.Requests.{AskFor, Task}
 use Rattle.command_line.proofs.ReadTasks.{one_task_is_asked}
@@ -12,14 +15,15 @@ use Rattle.session.specs.Asking.{TellsDeadlock, TellsSafety}
 use Rattle.session.specs.Endings.{SessionEnds, TaskEnds}
 use Rattle.session.specs.Lines.{told_of_undecided}
 use Rattle.session.specs.Pages.{ChangesAtMost, IsWritten}
-use Rattle.session.specs.PhaseLaws.{AskByPhases, CutsStayInFolder, PhasesAreJoined}
-use Rattle.session.specs.Phasing.{IsCutPage, IsJoinedPage, IsPhasesPage}
-use Rattle.session.specs.Runs.{SessionRun}
+use Rattle.session.specs.PhaseLaws.{AskByPhases, CutsAreWritten, CutsStayInFolder, IsLeft, PhasesAreJoined}
+use Rattle.session.specs.Phasing.{IsCutPage, IsJoinedPage, IsPhasesPage, IsWrittenCut}
+use Rattle.session.specs.Runs.{PrintsAlone, SessionRun}
 use Rattle.session.specs.declared.told.Told.TheVariants as told
 use Rattle.session.proofs.DeadlockLines.{PageTells, PageTellsSafety, cut_untold, lacking_unsafe, lacking_untold, line_tells, line_tells_safety}
 use Rattle.session.proofs.Deadlocks.{all_are}
 use Rattle.session.proofs.DecidedPages.{not_safe, not_stuck, undecided_above}
 use Rattle.session.proofs.RunLaws.{ended, followed, page_printed, page_that_reassured, page_that_told}
+use Rattle.session.proofs.CutNames.{jobs_held, order_held, others_kept, text_held}
 use Rattle.session.proofs.TaskEnds.{task_ends}
 
 -- ---- pages
@@ -85,14 +89,14 @@ module _ (tells : Bool) (before after : List ℕ → Option (List ℕ)) (out : O
       absurd (not_safe why (line_tells_safety (told_of_undecided why) json text status ends.1 says))
 
 -- the page of `phases` that tells a deadlock is of such a program too
-pub cut_hangs : (before after : List ℕ → Option (List ℕ)) (p text : List ℕ) (status : ℕ) (program : List ℕ)
-    → IsCutPage before after p text status → PageTells text status → before p ≡ Some program → (steps : List Step) × IsStuckRunWithin long program steps
-cut_hangs before after p text status program (given, Ok decisions.NoDeadlock, all, is, page) says held =
+pub cut_hangs : (tells : Bool) (before after : List ℕ → Option (List ℕ)) (p folder text : List ℕ) (status : ℕ) (program : List ℕ)
+    → IsCutPage tells before after p folder text status → PageTells text status → before p ≡ Some program → (steps : List Step) × IsStuckRunWithin long program steps
+cut_hangs tells before after p folder text status program (given, Ok decisions.NoDeadlock, all, is, page) says held =
     let other : told.NoDeadlock ≡ told.Deadlock = line_tells told.NoDeadlock false text status page.1 says in absurd cc
-cut_hangs before after p text status program (given, Ok (decisions.Deadlock steps), all, is, page) says held =
+cut_hangs tells before after p folder text status program (given, Ok (decisions.Deadlock steps), all, is, page) says held =
     (steps.items, subst (λ (bytes : List ℕ). IsStuckRunWithin long bytes steps.items) (all_are (before p) given program all held) is)
-cut_hangs before after p text status program (given, Ok (decisions.Race race), all, is, page) says held = absurd (cut_untold text status page says)
-cut_hangs before after p text status program (given, Err why, all, is, page) says held =
+cut_hangs tells before after p folder text status program (given, Ok (decisions.Race race), all, is, page) says held = absurd (cut_untold page.cut text status page.line says)
+cut_hangs tells before after p folder text status program (given, Err why, all, is, page) says held =
     absurd (not_stuck why (line_tells (told_of_undecided why) false text status page.1 says))
 
 -- ---- runs
@@ -161,3 +165,42 @@ cuts_stay run p folder path ends asks outside = elim (task_or_same run ends asks
   | inl cut ↦ cut.0 path outside
   | inr same ↦ ap (λ (held : List ℕ → Option (List ℕ)). held path) same
 ]
+
+-- ---- what a cut leaves
+
+-- what is printed where the status is its own
+printed : (run : SessionRun) (text : List ℕ) (own : ℕ) → own < 5 → run.status ≡ own → PrintsAlone run text own → Appends run.out_before run.out_after text
+printed run text own low is prints = elim prints.0 [
+  | inl whole ↦ whole.1
+  | inr part ↦ absurd (omega (arith, low, is, part.0))
+]
+
+left_of : (run : SessionRun) (folder : Text) (program text : List ℕ) → IsWrittenCut run.tells.writes run.before run.after folder program text 0
+    → Appends run.out_before run.out_after text → IsLeft run folder program
+left_of run folder program text is appends = record {
+  cut = is.cut;
+  is = is.is;
+  whole = is.whole;
+  printed = subst (Appends run.out_before run.out_after) is.line.0 appends;
+  texts = λ writes place part there. text_held folder is.cut run.after (is.files writes) place part there;
+  jobs = λ writes. jobs_held folder is.cut run.after (is.files writes);
+  order = λ writes. order_held folder is.cut run.after (is.files writes);
+  others = λ path texts jobs order. others_kept folder is.cut run.before run.after is.others path texts jobs order;
+}
+
+left_by : (run : SessionRun) (p folder : Text) (text program : List ℕ) → IsCutPage run.tells.writes run.before run.after p folder text 0
+    → run.before p ≡ Some program → Appends run.out_before run.out_after text
+    → (IsNeverStuckWithin long program × (run.after ≡ run.before)) ⊎ ((race : Race) × HasRace program race × IsLeft run folder program)
+left_by run p folder text program (given, Ok decisions.NoDeadlock, all, is, ends) held appends =
+    inl (subst (IsNeverStuckWithin long) (all_are (run.before p) given program all held) is, ends.0)
+left_by run p folder text program (given, Ok (decisions.Deadlock steps), all, is, ends) held appends = absurd (omega (arith, ends.1.3))
+left_by run p folder text program (given, Ok (decisions.Race race), all, is, ends) held appends =
+    inr
+    (subst (λ (bytes : List ℕ). (r : Race) × HasRace bytes r × IsLeft run folder bytes) (all_are (run.before p) given program all held)
+    (race, is, left_of run folder given text ends appends))
+left_by run p folder text program (given, Err why, all, is, ends) held appends = absurd (omega (arith, ends.1.3, undecided_above why))
+
+pub cuts_written : CutsAreWritten
+cuts_written run p folder program ends asks held zero =
+    let page = page_printed 0 (omega arith) (ended (task_ends run ends asks)) zero in
+    left_by run p folder page.0 program page.1 held (printed run page.0 0 (omega arith) zero page.2)

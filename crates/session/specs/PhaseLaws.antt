@@ -1,14 +1,17 @@
 -- What follows from how a run of `join`, `phases` or `decide --phases` ended.
-use Rattle.std.specs.Prelude.{◌≡◌, ◌≢◌, ◌⊎◌, ℕ, Bool, IsTrue, List, Option, Some}
+use Rattle.std.specs.Prelude.{◌≡◌, ◌≢◌, ◌⊎◌, ℕ, ◌+◌, ◌<◌, Bool, IsTrue, List, length, codes, slice_get, Option, Some}
+use Rattle.std.specs.Io.KnownBytes.{Appends}
 use Rattle.clap.specs.Words.{Text}
 use Rattle.calltext.specs.Limits.{long}
 use Rattle.semantics.specs.Headline.{IsNeverStuckWithin, IsStuckRunWithin}
 use Rattle.semantics.specs.declared.state.Step.{Step}
+use Rattle.deciding.specs.Decisions.{HasRace}
 use Rattle.deciding.specs.Schedules.{schedule_text}
+use Rattle.deciding.specs.declared.decision.Race.{Race}
 use Rattle.command_line.specs.Requests.{AskFor, to_decide_phases, to_join, to_phases}
 use Rattle.session.specs.Asking.{TellsDeadlock, TellsSafety}
 use Rattle.session.specs.Endings.{SessionEnds}
-use Rattle.session.specs.Phasing.{path_in}
+use Rattle.session.specs.Phasing.{Cut, IsCut, IsWhole, Part, count_jobs, cut_line, job_lines, order_lines, path_in, text_path}
 use Rattle.session.specs.Runs.{SessionRun}
 
 -- the words ask to judge the program at a path by phases in a folder, or by phases that are cut now
@@ -36,3 +39,26 @@ abbrev pub CutsStayInFolder : Type 0
 CutsStayInFolder =
     (run : SessionRun) (p folder : Text) (path : List ℕ) → SessionEnds run → AskFor run.words (to_phases p folder)
     → ((name : List ℕ) → path ≢ path_in folder name) → run.after path ≡ run.before path
+
+-- The run left a cut of the program in the folder, and printed its numbers. Where the files tell
+-- what is written, each different phase's file has its text, `jobs` the paths of those that have to
+-- be proved, and `phases` the order. No other file has changed.
+pub record IsLeft (run : SessionRun) (folder : Text) (program : List ℕ) : Type 0 where
+  pub cut : Cut
+  pub is : IsCut cut
+  pub whole : IsWhole program cut
+  pub printed : Appends run.out_before run.out_after (cut_line (length cut.order) (length cut.parts) (count_jobs cut.parts))
+  pub texts : IsTrue run.tells.writes → (place : ℕ) (part : Part) → slice_get cut.parts place ≡ Some part
+      → run.after (text_path folder (place + 1)) ≡ Some part.text
+  pub jobs : IsTrue run.tells.writes → run.after (path_in folder (codes "jobs")) ≡ Some (job_lines folder 1 cut.parts)
+  pub order : IsTrue run.tells.writes → run.after (path_in folder (codes "phases")) ≡ Some (order_lines cut.order)
+  pub others : (path : List ℕ) → ((place : ℕ) → place < length cut.parts → path ≢ text_path folder (place + 1))
+      → path ≢ path_in folder (codes "jobs") → path ≢ path_in folder (codes "phases") → run.after path ≡ run.before path
+
+-- A run that cuts a program and ends with the status 0: no run of the program gets stuck, and no
+-- file has changed; or messages of its one run may race, and a cut is left.
+abbrev pub CutsAreWritten : Type 0
+CutsAreWritten =
+    (run : SessionRun) (p folder : Text) (program : List ℕ) → SessionEnds run → AskFor run.words (to_phases p folder)
+    → run.before p ≡ Some program → run.status ≡ 0
+    → (IsNeverStuckWithin long program × (run.after ≡ run.before)) ⊎ ((race : Race) × HasRace program race × IsLeft run folder program)

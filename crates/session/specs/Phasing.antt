@@ -1,19 +1,28 @@
 -- The pages of `phases`, `join` and `decide --phases`.
-use Rattle.std.specs.Prelude.{◌≡◌, ◌≢◌, ◌⊎◌, ℕ, Bool, true, false, List, ◌++◌, codes, decimal, Option, Some, Result, Ok, Err, slice_get, string_bytes}
+use Rattle.std.specs.Prelude.{◌≡◌, ◌≢◌, ◌⊎◌, ℕ, ◌+◌, ◌-◌, ◌<◌, ◌≤◌, Bool, true, false, IsTrue, List, [], ◌∷◌, ◌++◌, length, map, replicate, codes, decimal, Option, Some, Result, Ok, Err, slice_get, string_bytes}
+use Rattle.std.specs.List.{AllByRecursion, count_by, flat_map}
 use Rattle.calltext.specs.Limits.{long}
+use Rattle.callorder.specs.Programs.{MpiProgram}
+use Rattle.callorder.specs.Resolving.{IsTextOfWithin}
+use Rattle.phases.specs.Rests.{IsFront, behind}
 use Rattle.semantics.specs.Headline.{IsNeverStuckWithin, IsStuckRunWithin}
 use Rattle.semantics.specs.declared.state.Step.{Step}
+use Rattle.std.specs.Global.{Vec}
 use Rattle.files.specs.Contents.{AreAll}
 use Rattle.deciding.specs.Decisions.{IsDecided}
 use Rattle.deciding.specs.Schedules.{schedule_text}
 use Rattle.deciding.specs.declared.decision.Decision.{Decision}
 use Rattle.deciding.specs.declared.decision.Decision.TheVariants as decisions
 use Rattle.deciding.specs.declared.texts.Undecided.{Undecided}
+use Rattle.deciding.specs.declared.texts.Undecided.TheVariants as undecided
+use Rattle.cutting.specs.declared.whole.Phases.{Phases}
 use Rattle.session.specs.Lines.{BeginsWith, IsLine, line_text}
 use Rattle.session.specs.Pages.{IsDecideFile, IsDecisionPage, IsProgram, IsScheduled, IsUnread, IsWritten}
 use Rattle.session.specs.declared.by_phases.Shown.{Shown}
 use Rattle.session.specs.declared.by_phases.Shown.TheVariants as shows
 use Rattle.session.specs.declared.cut_files.Output.{Output}
+use Rattle.session.specs.declared.cut_files.Outputs.{Outputs}
+use Rattle.session.specs.declared.cut_files.Texts.{Texts}
 use Rattle.session.specs.declared.told.Told.TheVariants as told
 
 -- ---- what phases tell
@@ -87,10 +96,31 @@ IsJoinFile reads program folder out old new path =
 abbrev pub ChangesWithin : List ℕ → (List ℕ → Option (List ℕ)) → (List ℕ → Option (List ℕ)) → Type 0
 ChangesWithin folder old new = (path : List ℕ) → ((name : List ℕ) → path ≢ path_in folder name) → new path ≡ old path
 
--- each of these files is in the folder
-abbrev pub AreIn : List ℕ → List Output → Type 0
-AreIn folder outputs =
-    (place : ℕ) (output : Output) → slice_get outputs place ≡ Some output → (name : List ℕ) × (string_bytes output.path ≡ path_in folder name)
+-- A phase that differs from all others: its text, and whether it has to be proved.
+pub record Part : Type 0 where
+  pub text : List ℕ
+  pub job : Bool
+
+-- What a program is cut into: the phases that differ, and of each phase, one after another, the
+-- number of its like among these, from 1.
+pub record Cut : Type 0 where
+  pub parts : List Part
+  pub order : List ℕ
+
+-- One run tells of a phase that it is decided, or that its text is none of a program, unless it has
+-- to be proved: then messages of that run may race. Want of memory tells nothing.
+abbrev pub IsPart : Part → Type 0
+IsPart part = (d : Result Decision Undecided) × IsDecided part.text d × (d ≢ Err undecided.Memory) × (is_race d ≡ part.job)
+
+-- each number of the order is that of a phase, and each phase is in the order
+pub record IsCut (cut : Cut) : Type 0 where
+  pub parts : AllByRecursion IsPart cut.parts
+  pub known : (place number : ℕ) → slice_get cut.order place ≡ Some number → (0 < number) × (number ≤ length cut.parts)
+  pub used : (number : ℕ) → 0 < number → number ≤ length cut.parts → (place : ℕ) × (slice_get cut.order place ≡ Some number)
+
+-- how many have to be proved
+abbrev pub count_jobs : List Part → ℕ
+count_jobs parts = count_by (λ part. part.job) parts
 
 -- the line that tells how many phases there are, how many of them differ, and how many of those
 -- have to be proved
@@ -98,21 +128,159 @@ abbrev pub cut_line : ℕ → ℕ → ℕ → List ℕ
 cut_line phases different jobs =
     codes "phases " ++ (decimal phases ++ (codes ", different " ++ (decimal different ++ (codes ", to prove " ++ (decimal jobs ++ codes "\n")))))
 
-abbrev pub IsCutLine : List ℕ → ℕ → Type 0
-IsCutLine text status = (phases different jobs : ℕ) × (text ≡ cut_line phases different jobs) × (status ≡ 0)
+abbrev pub IsCutLine : Cut → List ℕ → ℕ → Type 0
+IsCutLine cut text status = (text ≡ cut_line (length cut.order) (length cut.parts) (count_jobs cut.parts)) × (status ≡ 0)
 
--- one run's decision is told, and no file has changed; where messages may race, how the program is
--- cut is told
-abbrev pub IsCutDecision : (List ℕ → Option (List ℕ)) → (List ℕ → Option (List ℕ)) → List ℕ → Result Decision Undecided → List ℕ → ℕ → Type 0
-IsCutDecision old new program (Ok (decisions.Race race)) text status = IsCutLine text status
-IsCutDecision old new program (Ok decisions.NoDeadlock) text status = (new ≡ old) × IsDecisionPage false program (Ok decisions.NoDeadlock) text status
-IsCutDecision old new program (Ok (decisions.Deadlock steps)) text status = (new ≡ old) × IsDecisionPage false program (Ok (decisions.Deadlock steps)) text status
-IsCutDecision old new program (Err why) text status = (new ≡ old) × IsDecisionPage false program (Err why) text status
+-- ---- what a cut makes up
+
+-- Of each of these texts, within the long limits, there is the program.
+abbrev pub ArePrograms : List (Vec ℕ) → List MpiProgram → Type 0
+ArePrograms texts programs =
+    (place : ℕ) (text : Vec ℕ) → slice_get texts place ≡ Some text → (p : MpiProgram) × (slice_get programs place ≡ Some p) × IsTextOfWithin long text.items p
+
+-- the part is the program of this number, from 0, and its calls are in front of this one
+abbrev pub IsDealt : List MpiProgram → ℕ → MpiProgram → MpiProgram → Type 0
+IsDealt programs number q part = (slice_get programs number ≡ Some part) × IsFront q part
+
+-- The programs of these numbers, from 0, are taken off the first program, each off what those
+-- before it leave, and the second program is what all leave.
+abbrev pub AreDealt : List MpiProgram → MpiProgram → List ℕ → MpiProgram → Type 0
+AreDealt programs p [] q = p ≡ q
+AreDealt programs p (number ∷ order) q = (part : MpiProgram) × IsDealt programs number p part × AreDealt programs (behind p part) order q
+
+-- The texts make up the program in this order, in which numbers are from 0, as phases are dealt by
+-- `join`: at each rank the calls of each are the first that those before it leave, and none is left
+-- behind the last.
+pub record MakeUp (p : MpiProgram) (phases : Phases) : Type 0 where
+  pub programs : List MpiProgram
+  pub left : MpiProgram
+  pub texts : ArePrograms phases.texts.items programs
+  pub dealt : AreDealt programs p phases.order.items left
+  pub nothing : left.calls ≡ []
+
+-- ---- the files of a cut
+
+-- the name of a file of a phase: the phase's number, from 1, with four digits or more, and what
+-- stands behind them
+abbrev pub file_name : ℕ → List ℕ → List ℕ
+file_name number end = replicate (4 - length (decimal number)) 48 ++ (decimal number ++ end)
+
+abbrev pub text_path : List ℕ → ℕ → List ℕ
+text_path folder number = path_in folder (file_name number (codes ".mpi"))
+
+-- the line of a phase in the list of those that have to be proved, where it is one: its path
+abbrev pub job_line : List ℕ → ℕ → Bool → List ℕ
+job_line folder number true = text_path folder number ++ codes "\n"
+job_line folder number false = []
+
+-- the lines of phases, the first of which has this number
+abbrev pub job_lines : List ℕ → ℕ → List Part → List ℕ
+job_lines folder number [] = []
+job_lines folder number (part ∷ parts) = job_line folder number part.job ++ job_lines folder (number + 1) parts
+
+-- numbers, one a line
+abbrev pub order_lines : List ℕ → List ℕ
+order_lines order = flat_map (λ number. decimal number ++ codes "\n") order
+
+-- a file that is written
+pub record FileText : Type 0 where
+  pub path : List ℕ
+  pub text : List ℕ
+
+abbrev pub text_files : List ℕ → ℕ → List Part → List FileText
+text_files folder number [] = []
+text_files folder number (part ∷ parts) = record { path = text_path folder number; text = part.text } ∷ text_files folder (number + 1) parts
+
+-- the text of each phase that differs; the paths of those that have to be proved; and the order
+abbrev pub cut_files : List ℕ → Cut → List FileText
+cut_files folder cut =
+    text_files folder 1 cut.parts
+    ++ (record { path = path_in folder (codes "jobs"); text = job_lines folder 1 cut.parts }
+    ∷ record { path = path_in folder (codes "phases"); text = order_lines cut.order } ∷ [])
+
+-- each file has its text
+abbrev pub Hold : List FileText → (List ℕ → Option (List ℕ)) → Type 0
+Hold files new = (place : ℕ) (file : FileText) → slice_get files place ≡ Some file → new file.path ≡ Some file.text
+
+-- no other file has changed
+abbrev pub ChangesThese : List FileText → (List ℕ → Option (List ℕ)) → (List ℕ → Option (List ℕ)) → Type 0
+ChangesThese files old new =
+    (path : List ℕ) → ((place : ℕ) (file : FileText) → slice_get files place ≡ Some file → path ≢ file.path) → new path ≡ old path
+
+-- no two files have one path
+abbrev pub AreApart : List FileText → Type 0
+AreApart files =
+    (i j : ℕ) (a b : FileText) → i < j → slice_get files i ≡ Some a → slice_get files j ≡ Some b → a.path ≢ b.path
+
+-- the files that are to be written
+abbrev pub files_of : List Output → List FileText
+files_of outputs = map (λ output. record { path = string_bytes output.path; text = output.text }) outputs
+
+-- what is to be written of phases so far, each with its text
+pub record AreTexts (folder : List ℕ) (parts : List Part) (texts : Texts) : Type 0 where
+  pub all : AllByRecursion IsPart parts
+  pub files : files_of texts.files.items ≡ text_files folder 1 parts
+  pub list : string_bytes texts.list ≡ job_lines folder 1 parts
+  pub jobs : texts.jobs ≡ count_jobs parts
+
+-- of each phase there is its text, and whether it has to be proved
+abbrev pub HaveTexts : List Part → List (Vec ℕ) → Type 0
+HaveTexts parts texts = map (λ part. part.text) parts ≡ map (λ text. text.items) texts
+
+-- the cut has these texts, and they follow one another in this order, in which numbers are from 0
+pub record IsCutOf (phases : Phases) (cut : Cut) : Type 0 where
+  pub texts : HaveTexts cut.parts phases.texts.items
+  pub order : cut.order ≡ map (λ number. number + 1) phases.order.items
+
+-- The bytes are the text of a program, within the long limits, that the phases make up in this
+-- order.
+pub record IsWhole (program : List ℕ) (cut : Cut) : Type 0 where
+  pub p : MpiProgram
+  pub phases : Phases
+  pub is_text : IsTextOfWithin long program p
+  pub of : IsCutOf phases cut
+  pub made : MakeUp p phases
+
+-- what is to be written and told is that of a cut
+pub record AreOutputs (folder : List ℕ) (given : Phases) (outputs : Outputs) : Type 0 where
+  pub cut : Cut
+  pub is : IsCut cut
+  pub of : IsCutOf given cut
+  pub files : files_of outputs.files.items ≡ cut_files folder cut
+  pub phases : outputs.phases ≡ length cut.order
+  pub different : outputs.different ≡ length cut.parts
+  pub jobs : outputs.jobs ≡ count_jobs cut.parts
+
+-- ---- the page of a cut
+
+-- the page tells these numbers
+abbrev pub IsPageOf : Outputs → List ℕ → ℕ → Type 0
+IsPageOf outputs text status = (text ≡ cut_line outputs.phases outputs.different outputs.jobs) × (status ≡ 0)
+
+-- the program is cut, how it is cut is told, and the files of the cut are written, as far as their
+-- set tells what is written; no other file has changed
+pub record IsWrittenCut (tells : Bool) (old new : List ℕ → Option (List ℕ)) (folder program text : List ℕ) (status : ℕ) : Type 0 where
+  pub cut : Cut
+  pub is : IsCut cut
+  pub whole : IsWhole program cut
+  pub line : IsCutLine cut text status
+  pub files : IsTrue tells → Hold (cut_files folder cut) new
+  pub others : ChangesThese (cut_files folder cut) old new
+
+-- one run's decision is told, and no file has changed; where messages may race, the program is cut
+abbrev pub IsCutDecision : Bool → (List ℕ → Option (List ℕ)) → (List ℕ → Option (List ℕ)) → List ℕ → List ℕ → Result Decision Undecided → List ℕ → ℕ → Type 0
+IsCutDecision tells old new folder program (Ok (decisions.Race race)) text status = IsWrittenCut tells old new folder program text status
+IsCutDecision tells old new folder program (Ok decisions.NoDeadlock) text status =
+    (new ≡ old) × IsDecisionPage false program (Ok decisions.NoDeadlock) text status
+IsCutDecision tells old new folder program (Ok (decisions.Deadlock steps)) text status =
+    (new ≡ old) × IsDecisionPage false program (Ok (decisions.Deadlock steps)) text status
+IsCutDecision tells old new folder program (Err why) text status = (new ≡ old) × IsDecisionPage false program (Err why) text status
 
 -- the page of `phases`: so the program of the file is cut
-abbrev pub IsCutPage : (List ℕ → Option (List ℕ)) → (List ℕ → Option (List ℕ)) → List ℕ → List ℕ → ℕ → Type 0
-IsCutPage old new path text status =
-    (program : List ℕ) × (d : Result Decision Undecided) × AreAll (old path) program × IsDecided program d × IsCutDecision old new program d text status
+abbrev pub IsCutPage : Bool → (List ℕ → Option (List ℕ)) → (List ℕ → Option (List ℕ)) → List ℕ → List ℕ → List ℕ → ℕ → Type 0
+IsCutPage tells old new path folder text status =
+    (program : List ℕ) × (d : Result Decision Undecided) × AreAll (old path) program × IsDecided program d
+    × IsCutDecision tells old new folder program d text status
 
 -- the file that failed is the program's, and no file has changed; or it is told as the folder, and
 -- one there can't be written

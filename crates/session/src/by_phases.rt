@@ -7,7 +7,7 @@ ghost use Rattle.command_line.specs.Requests.{path_of};
 ghost use Rattle.session.specs.Endings.{IsFollowedRun};
 ghost use Rattle.session.specs.Lines.{IsLine};
 ghost use Rattle.session.specs.Pages.{ChangesAtMost, IsDecideFile, IsUnread, StopsBy};
-ghost use Rattle.session.specs.Phasing.{IsFolderFile, IsJoinFile, IsJoinedPage, IsPhasesPage, IsShown, IsShownFile, is_race, path_in};
+ghost use Rattle.session.specs.Phasing.{IsFolderFile, IsJoinFile, IsJoinedPage, IsPhasesPage, IsShown, IsShownFile, file_name, is_race, path_in};
 
 use crate::commands::{Open, Stop};
 use crate::decide::{deadlock_page, decided, decision_page, read_whole};
@@ -103,10 +103,12 @@ fn lack_words(alloc: Global, number: usize, what: &str) -> Result<String, AllocE
 
 /// The name of a file of a phase, whose number counts from 1: four digits or more, and what stands
 /// behind them.
-pub fn file_name(alloc: Global, number: usize, end: &str) -> Result<String, AllocError> {
+pub fn file_name(alloc: Global, number: usize, end: &str) -> Result<String, AllocError>
+    ensures { IfOk result (λ name. string_bytes name ≡ file_name number end.now) }
+{
     let digits = number.to_string(alloc)?;
     let mut name = String::new(alloc);
-    for _missing in digits.len()..4 {
+    for _missing in 0..4usize.saturating_sub(digits.len()) {
         name.push('0')?;
     }
     name.push_str(&digits)?;

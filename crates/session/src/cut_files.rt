@@ -1,19 +1,20 @@
 //! The command `phases`, from the file that it names to the files that it writes and the page that
 //! it prints.
-ghost use Rattle.std.specs.Prelude.{◌≡◌, ◌++◌, IfErr, IfOk, OnOk, decimal, string_bytes};
+ghost use Rattle.std.specs.Prelude.{◌≡◌, ◌↔◌, ℕ, ◌+◌, ◌<◌, Bool, true, IsTrue, List, [], ◌∷◌, ◌++◌, length, map, Some, Err, IfErr, IfOk, OnOk, codes, decimal, slice_get, string_bytes};
+ghost use Rattle.cutting.specs.Orders.{IsOrder};
 ghost use Rattle.session.specs.Pages.{StopsBy};
-ghost use Rattle.session.specs.Phasing.{AreIn, ChangesWithin, IsCutFile, IsCutLine, IsCutPage, cut_line};
+ghost use Rattle.session.specs.Phasing.{AreApart, AreOutputs, AreTexts, ChangesThese, ChangesWithin, HaveTexts, Hold, IsCutFile, IsCutPage, IsPageOf, IsPart, IsWrittenCut, Part, cut_line, files_of, order_lines, path_in};
 
 use crate::by_phases::{file_name, is_race, path_in};
 use crate::commands::{Stop, write};
 use crate::decide::{decision_line, read_whole};
+use crate::making_up::make_up;
 use crate::page::Page;
 use crate::status::NO_DEADLOCK;
 use command_line::ToCut;
 use cutting::{Phases, cut};
-use deciding::{decide, program_of};
+use deciding::{Decision, Undecided, decide, program_of};
 use files::FileSet;
-use phase_checker::{NotAPhase, Phase};
 use prooflog::Text;
 use std::alloc::{AllocError, Global};
 
@@ -41,8 +42,8 @@ fn put_file(
     name: &str,
     text: Vec<u8>,
 ) -> Result<(), AllocError>
-    requires { AreIn folder.now files.old.items }
-    ensures { OnOk result (AreIn folder.now files.new.items) }
+    ensures { OnOk result (files_of files.new.items ≡
+        files_of files.old.items ++ record { path = path_in folder.now name.now; text = text.items } ∷ []) }
 {
     let path = path_in(alloc, folder, name)?;
     let text = Text::of(alloc, text);
@@ -51,19 +52,91 @@ fn put_file(
 }
 
 /// Whether the phase of a text has to be proved: one run doesn't tell.
-fn is_job(alloc: Global, text: &[u8]) -> Result<bool, AllocError> {
-    match Phase::decided(alloc, text) {
-        Err(NotAPhase::Race(_race)) => Ok(true),
-        Err(NotAPhase::Memory) => Err(AllocError),
-        _ => Ok(false),
+fn is_job(alloc: Global, text: &[u8]) -> Result<bool, AllocError>
+    ensures { IfOk result (λ job. IsPart (record { text = text.now; job = job })) }
+{
+    let decision = decide(alloc, text);
+    if is_memory(&decision) {
+        return Err(AllocError);
+    }
+    Ok(is_race(&decision))
+}
+
+/// Whether memory ran out.
+fn is_memory(decided: &Result<Decision, Undecided>) -> bool
+    ensures { (result ≡ true) ↔ (decided.now ≡ Err Undecided.Memory) }
+{
+    match decided {
+        Err(Undecided::Memory) => true,
+        Err(_why) => false,
+        Ok(_decision) => false,
     }
 }
 
+/// The texts of phases as files, the paths of those that have to be proved, one a line, and how
+/// many these are.
+#[derive(Drop)]
+pub struct Texts {
+    pub files: Vec<Output>,
+    pub list: String,
+    pub jobs: usize,
+}
+
+impl Texts {
+    ghost use Rattle.std.specs.Prelude.{◌<◌, cond};
+    ghost use Rattle.session.specs.Phasing.{AreTexts, Part};
+
+    /// Notes of a phase, whose file has this name, whether it has to be proved.
+    fn note(&mut self, alloc: Global, folder: &str, name: &str, job: bool) -> Result<(), AllocError>
+        ensures files { self.new.files ≡ self.old.files }
+        ensures list { OnOk result (string_bytes self.new.list ≡
+            string_bytes self.old.list ++ cond job (path_in folder.now name.now ++ codes "\n") []) }
+        ensures jobs { OnOk result (self.old.jobs < 18446744073709551615 → self.new.jobs ≡ cond job (self.old.jobs + 1) self.old.jobs) }
+    {
+        if job {
+            self.list.push_str(&path_in(alloc, folder, name)?)?;
+            self.list.push('\n')?;
+            self.jobs = self.jobs.saturating_add(1);
+        }
+        Ok(())
+    }
+
+    /// Adds the phase behind those that are there.
+    fn put(&mut self, alloc: Global, folder: &str, text: Vec<u8>) -> Result<(), AllocError>
+        ensures { (parts : List Part) → AreTexts folder.now parts self.old →
+            OnOk result ((job : Bool) × AreTexts folder.now (parts ++ record { text = text.items; job = job } ∷ []) self.new) }
+    {
+        let name = file_name(alloc, self.files.len() + 1, ".mpi")?;
+        let job = is_job(alloc, &text)?;
+        self.note(alloc, folder, &name, job)?;
+        put_file(&mut self.files, alloc, folder, &name, text)?;
+        Ok(())
+    }
+}
+
+/// The files of these texts.
+fn texts_of(alloc: Global, folder: &str, texts: Vec<Vec<u8>>) -> Result<Texts, AllocError>
+    ensures { IfOk result (λ made. (parts : List Part) × AreTexts folder.now parts made × HaveTexts parts texts.items) }
+{
+    let mut made = Texts {
+        files: Vec::new(alloc),
+        list: String::new(alloc),
+        jobs: 0,
+    };
+    for text in texts {
+        made.put(alloc, folder, text)?;
+    }
+    Ok(made)
+}
+
 /// The numbers of the phases, from 1, one a line.
-fn order_text(alloc: Global, order: &[usize]) -> Result<Vec<u8>, AllocError> {
+fn order_text(alloc: Global, order: &[usize]) -> Result<Vec<u8>, AllocError>
+    requires { (place number : ℕ) → slice_get order.now place ≡ Some number → number < 18446744073709551615 }
+    ensures { IfOk result (λ text. text.items ≡ order_lines (map (λ number. number + 1) order.now)) }
+{
     let mut text = String::new(alloc);
     for place in order {
-        text.push_str(&place.saturating_add(1).to_string(alloc)?)?;
+        text.push_str(&(place + 1).to_string(alloc)?)?;
         text.push('\n')?;
     }
     Ok(text.into_bytes())
@@ -72,31 +145,21 @@ fn order_text(alloc: Global, order: &[usize]) -> Result<Vec<u8>, AllocError> {
 /// The files of these phases: their texts, then the paths of those that have to be proved, and at
 /// last their order, so that no order is there unless all else is.
 fn outputs_of(alloc: Global, folder: &str, phases: Phases) -> Result<Outputs, AllocError>
-    ensures { IfOk result (λ outputs. AreIn folder.now outputs.files.items) }
+    requires { IsOrder (length phases.texts.items) phases.order.items }
+    ensures { IfOk result (AreOutputs folder.now phases) }
 {
     let different = phases.texts.len();
-    let mut jobs = 0usize;
-    let mut list = String::new(alloc);
-    let mut files = Vec::new(alloc);
-    let mut number = 0usize;
-    for text in phases.texts {
-        number = number.saturating_add(1);
-        let name = file_name(alloc, number, ".mpi")?;
-        if is_job(alloc, &text)? {
-            jobs = jobs.saturating_add(1);
-            list.push_str(&path_in(alloc, folder, &name)?)?;
-            list.push('\n')?;
-        }
-        put_file(&mut files, alloc, folder, &name, text)?;
-    }
-    put_file(&mut files, alloc, folder, "jobs", list.into_bytes())?;
     let order = order_text(alloc, &phases.order)?;
+    let count = phases.order.len();
+    let texts = texts_of(alloc, folder, phases.texts)?;
+    let mut files = texts.files;
+    put_file(&mut files, alloc, folder, "jobs", texts.list.into_bytes())?;
     put_file(&mut files, alloc, folder, "phases", order)?;
     Ok(Outputs {
         files,
-        phases: phases.order.len(),
+        phases: count,
         different,
-        jobs,
+        jobs: texts.jobs,
     })
 }
 
@@ -106,8 +169,9 @@ fn write_all<'a, F: FileSet>(
     outputs: &[Output],
     files: &mut F,
 ) -> Result<(), Stop<'a>>
-    requires { AreIn folder.now outputs.now }
-    ensures within { ChangesWithin folder.entry.now (F.held files.old) (F.held files.new) }
+    requires { AreApart (files_of outputs.now) }
+    ensures held { OnOk result (IsTrue F.tells_written → Hold (files_of outputs.now) (F.held files.new)) }
+    ensures others { ChangesThese (files_of outputs.now) (F.held files.old) (F.held files.new) }
     ensures stop { IfErr result (λ stop. stop ≡ Stop.File folder.entry) }
 {
     for output in outputs {
@@ -153,7 +217,7 @@ fn cut_words(
 
 /// The page that tells how a program is cut.
 fn cut_page_of(alloc: Global, outputs: &Outputs) -> Result<Page, AllocError>
-    ensures { IfOk result (λ page. IsCutLine page.text.items page.status) }
+    ensures { IfOk result (λ page. IsPageOf outputs.now page.text.items page.status) }
 {
     let words = cut_words(alloc, outputs.phases, outputs.different, outputs.jobs)?;
     let text = words.into_bytes();
@@ -169,7 +233,9 @@ fn written_page<'a, F: FileSet>(
     folder: &'a str,
     files: &mut F,
 ) -> Result<Page, Stop<'a>>
-    ensures page { IfOk result (λ page. IsCutLine page.text.items page.status) }
+    ensures page { IfOk result (λ page.
+        IsWrittenCut F.tells_written (F.held files.old) (F.held files.new) folder.entry.now program.now
+        page.text.items page.status) }
     ensures within { ChangesWithin folder.entry.now (F.held files.old) (F.held files.new) }
     ensures stop { IfErr result (StopsBy (λ path. path ≡ folder.entry.now) (F.held files.old) (F.held files.new)) }
 {
@@ -178,6 +244,7 @@ fn written_page<'a, F: FileSet>(
         return Err(Stop::Memory);
     };
     let phases = cut(alloc, &program)?;
+    make_up(alloc, &program, &phases)?;
     let outputs = outputs_of(alloc, folder, phases)?;
     let page = cut_page_of(alloc, &outputs)?;
     write_all(folder, &outputs.files, files)?;
@@ -192,7 +259,8 @@ pub fn cut_page<'a, F: FileSet>(
     files: &mut F,
 ) -> Result<Page, Stop<'a>>
     ensures page { IfOk result (λ page.
-        IsCutPage (F.held files.old) (F.held files.new) asked.entry.program.now page.text.items page.status) }
+        IsCutPage F.tells_written (F.held files.old) (F.held files.new) asked.entry.program.now asked.entry.out.now
+        page.text.items page.status) }
     ensures within { ChangesWithin asked.entry.out.now (F.held files.old) (F.held files.new) }
     ensures stop { IfErr result (StopsBy
         (IsCutFile (F.reads files.old) asked.entry.program.now asked.entry.out.now (F.held files.old) (F.held files.new))

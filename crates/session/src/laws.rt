@@ -4,7 +4,7 @@ ghost use Rattle.session.specs.CheckLaws.{CheckedDeadlockIsPrinted, CheckedDeadl
 ghost use Rattle.session.specs.FileLaws.{ExportedAnswerIsPrinted, ExportedProofIsWritten, ExportedSafetyIsTrue, ShrunkProgramHangs, TrimmedRefutationIsWritten};
 ghost use Rattle.session.specs.SweepLaws.{EachRunIsRight, UnrolledRunsAreRight};
 ghost use Rattle.session.specs.UnrollLaws.{UnrolledTextIsPrinted};
-ghost use Rattle.session.specs.PhaseLaws.{CutsStayInFolder, PhasesAreJoined};
+ghost use Rattle.session.specs.PhaseLaws.{CutsAreWritten, CutsStayInFolder, PhasesAreJoined};
 ghost use Rattle.session.specs.SearchLaws.{DecidedRunsAreRight, ExplainedDeadlockIsShown, ExplainedSafetyIsTrue, ExplainedUnknownFinishes, ProvedDeadlockIsPrinted, ProvedDeadlockIsShown, ProvedSafetyIsPrinted, ProvedSafetyIsTrue, ProvedUnknownFinishes, WrittenDeadlockIsShown, WrittenSafetyIsRefuted};
 
 /// Where words ask for a check, and the run printed the line that tells a deadlock or ended with
@@ -218,4 +218,14 @@ pub fn phases_are_joined()
 /// A run that cuts a program into phases changes files in the folder that is named alone.
 pub fn cuts_stay_in_folder()
     ensures { CutsStayInFolder }
+{}
+
+/// Where a run cut a program into phases, and ended with the status 0: no run of the program gets
+/// stuck, and no file has changed; or messages of its one run may race, the run printed how many
+/// phases there are, how many of them differ, and how many of those one run doesn't decide, each
+/// file of a phase holds its text, `jobs` the paths of those that one run doesn't decide, and
+/// `phases` the order, in which each of the phases that differ occurs and no other number; and no
+/// other file has changed.
+pub fn cuts_are_written()
+    ensures { CutsAreWritten }
 {}

@@ -1,0 +1,20 @@
+use Rattle.std.proofs.Common.{ℕ, List, subst}
+use Rattle.std.specs.Global.{Vec}
+use Rattle.callorder.specs.Programs.{MpiProgram}
+use Rattle.session.specs.Phasing.{AreDealt, ArePrograms}
+use Rattle.session.proofs.making_up.make_up.Goals as goal
+
+pub returns : goal.returns
+returns c =
+    let p = c.args.program.now in
+    let programs = c.in_ok-programs.programs.items in
+    let (left, dealt, nothing) = c.in_ok-deal_all.ensures in
+    record {
+      programs = programs;
+      left = left;
+      texts = subst (λ (texts : List (Vec ℕ)). ArePrograms texts programs) c.deref.ensures.value c.in_ok-programs.ensures;
+      dealt =
+          subst (λ (order : List ℕ). AreDealt programs p order left) c.deref-3.ensures.value
+          (subst (λ (parts : List MpiProgram). AreDealt parts p c.deref-3.result.now left) c.deref-2.ensures.value dealt);
+      nothing = nothing;
+    }
