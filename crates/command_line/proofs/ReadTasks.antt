@@ -66,7 +66,7 @@ read name rows =
     else (if bytes_eq name (codes "trim")
     then to_trim (text_in (first_of (codes "EVIDENCE") rows)) (text_in (first_of (codes "out") rows)) (is_true (one_of (codes "json") rows))
     else (if bytes_eq name (codes "shrink")
-    then to_shrink (text_in (first_of (codes "PROGRAM") rows)) (first_of (codes "out") rows)
+    then to_shrink (text_in (first_of (codes "PROGRAM") rows)) (first_of (codes "out") rows) (first_of (codes "map") rows)
     else (if bytes_eq name (codes "decide")
     then decided (is_several rows) (is_spmd_asked rows) rows
     else (if bytes_eq name (codes "phases")
@@ -115,9 +115,9 @@ is_read name rows (to_export p e out) makes =
 is_read name rows (to_trim e out json) makes =
     let v = makes.values in
     (λ i. to_trim (given _ e v.0 i) (given _ out v.1 i) (v.2 i)) ∙ ap (λ (n : Text). read n rows) (sym makes.command)
-is_read name rows (to_shrink p out) makes =
+is_read name rows (to_shrink p out map) makes =
     let v = makes.values in
-    (λ i. to_shrink (given _ p v.0 i) (sym v.1 i)) ∙ ap (λ (n : Text). read n rows) (sym makes.command)
+    (λ i. to_shrink (given _ p v.0 i) (sym v.1 i) (sym v.2 i)) ∙ ap (λ (n : Text). read n rows) (sym makes.command)
 is_read name rows (to_decide p out progress json) makes =
     let v = makes.values in
     (λ i. to_decide (given _ p v.0 i) (sym v.1 i) (v.2 i) (v.3 i)) ∙ ap (λ (phases : Bool). decided_one phases rows) (sym v.6)

@@ -156,7 +156,7 @@ trim_app = with_rule (with_rule (with_rule (new_app (codes "trim")) evidence_rul
 
 -- the command `shrink`
 abbrev pub shrink_app : App
-shrink_app = with_rule (with_rule (new_app (codes "shrink")) program_rule) out_rule
+shrink_app = with_rule (with_rule (with_rule (new_app (codes "shrink")) program_rule) out_rule) map_rule
 
 -- the command `decide`
 abbrev pub decide_app : App

@@ -18,8 +18,8 @@ use Rattle.command_line.specs.declared.request.Request.TheVariants as ask
 -- named one run, or the answer to a search with these numbers, shows of a program, in a form, with
 -- the places that the file of a map, where one is named, has for lines; to export the proof that an
 -- evidence makes of a program, to a file; to trim an evidence, to a file, with the answer as a JSON
--- object or not; to make a program smaller, to a file, where one is named; to decide a program of
--- any length by one run, with the file for the schedule of a deadlock, where one is named, whether
+-- object or not; to make a program smaller, with the files for the smaller one and for its map,
+-- where they are named; to decide a program of any length by one run, with the file for the schedule of a deadlock, where one is named, whether
 -- the progress is told, and whether the answer is a JSON object, and the same by phases where one
 -- run doesn't tell; to cut a program of any length into phases, in a folder; to judge it by the
 -- phases and the evidence in a folder, with the file for the schedule of a deadlock, where one is
@@ -38,7 +38,7 @@ pub data Task : Type 0 where
   to_explain : Text → Option Text → ℕ → ℕ → ℕ → Form → Option Text → Task
   to_export : Text → Text → Text → Task
   to_trim : Text → Text → Bool → Task
-  to_shrink : Text → Option Text → Task
+  to_shrink : Text → Option Text → Option Text → Task
   to_decide : Text → Option Text → Bool → Bool → Task
   to_unroll : Text → ℕ → List Text → Option Text → Option Text → Option Text → Task
   to_decide_phases : Text → Option Text → Bool → Bool → Task
@@ -63,7 +63,7 @@ task_of (ask.Explain r) =
     to_explain r.program.now (path_of r.evidence) r.options.workers r.options.depth r.options.budget r.form (path_of r.map)
 task_of (ask.Export r) = to_export r.program.now r.evidence.now r.out.now
 task_of (ask.Trim r) = to_trim r.evidence.now r.out.now r.json
-task_of (ask.Shrink r) = to_shrink r.program.now (path_of r.out)
+task_of (ask.Shrink r) = to_shrink r.program.now (path_of r.out) (path_of r.map)
 task_of (ask.Decide r) = to_decide r.program.now (path_of r.out) r.progress r.json
 task_of (ask.DecidePhases r) = to_decide_phases r.program.now (path_of r.out) r.progress r.json
 task_of (ask.Phases r) = to_phases r.program.now r.out.now
@@ -88,7 +88,7 @@ command_of (to_encode program dimacs) = codes "encode"
 command_of (to_explain program evidence workers depth budget form map) = codes "explain"
 command_of (to_export program evidence out) = codes "export"
 command_of (to_trim evidence out json) = codes "trim"
-command_of (to_shrink program out) = codes "shrink"
+command_of (to_shrink program out map) = codes "shrink"
 command_of (to_decide program out progress json) = codes "decide"
 command_of (to_decide_phases program out progress json) = codes "decide"
 command_of (to_phases program folder) = codes "phases"
@@ -225,7 +225,8 @@ HasValues rows (to_export program evidence out) =
     Gives rows (codes "PROGRAM") program × Gives rows (codes "EVIDENCE") evidence × Gives rows (codes "out") out
 HasValues rows (to_trim evidence out json) =
     Gives rows (codes "EVIDENCE") evidence × Gives rows (codes "out") out × Flags rows (codes "json") json
-HasValues rows (to_shrink program out) = Gives rows (codes "PROGRAM") program × (first_of (codes "out") rows ≡ out)
+HasValues rows (to_shrink program out map) =
+    Gives rows (codes "PROGRAM") program × (first_of (codes "out") rows ≡ out) × (first_of (codes "map") rows ≡ map)
 HasValues rows (to_decide program out progress json) =
     Gives rows (codes "PROGRAM") program × (first_of (codes "out") rows ≡ out)
     × Flags rows (codes "progress") progress × Flags rows (codes "json") json × (is_spmd_asked rows ≡ false) × (is_several rows ≡ false)

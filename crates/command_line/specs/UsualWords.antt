@@ -62,9 +62,11 @@ pub data PlainForm : List Text → Task → Type 0 where
   trim_json_form : (name e file : Text) → IsFree e → IsFree file
       → PlainForm (name ∷ codes "trim" ∷ e ∷ codes "--out" ∷ file ∷ codes "--json" ∷ []) (to_trim e file true)
   shrink_form : (name p : Text) → IsFree p
-      → PlainForm (name ∷ codes "shrink" ∷ p ∷ []) (to_shrink p None)
+      → PlainForm (name ∷ codes "shrink" ∷ p ∷ []) (to_shrink p None None)
   shrink_out_form : (name p file : Text) → IsFree p → IsFree file
-      → PlainForm (name ∷ codes "shrink" ∷ p ∷ codes "--out" ∷ file ∷ []) (to_shrink p (Some file))
+      → PlainForm (name ∷ codes "shrink" ∷ p ∷ codes "--out" ∷ file ∷ []) (to_shrink p (Some file) None)
+  shrink_map_form : (name p file map : Text) → IsFree p → IsFree file → IsFree map
+      → PlainForm (name ∷ codes "shrink" ∷ p ∷ codes "--out" ∷ file ∷ codes "--map" ∷ map ∷ []) (to_shrink p (Some file) (Some map))
   decide_form : (name p : Text) → IsFree p
       → PlainForm (name ∷ codes "decide" ∷ p ∷ []) (to_decide p None false false)
   decide_json_form : (name p : Text) → IsFree p

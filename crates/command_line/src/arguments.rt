@@ -274,7 +274,17 @@ pub fn smaller<'a>(alloc: Global) -> Arg<'a>
 {
     written(
         alloc,
-        "Write the smaller program to this file, and print the answer on it alone",
+        "Write the smaller program to this file, and print the answer on it and the lines left",
+    )
+}
+
+pub fn smaller_map<'a>(alloc: Global) -> Arg<'a>
+    ensures { IsRuled result map_rule }
+{
+    file_option(
+        alloc,
+        MAP,
+        "Write to this file which line each line of the smaller program is, for explain --map",
     )
 }
 

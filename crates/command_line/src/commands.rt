@@ -7,8 +7,8 @@ ghost use Rattle.command_line.specs.CommandLine.{IsRuled, IsShaped, check_app, c
 use crate::arguments::{
     all, budget, chart, collectives, color, depth, dimacs, dot, each, evidence, folder, html, json,
     junit, lines, map, messages, object, optional_evidence, out, phases, phases_folder, pieces,
-    program, programs, progress, proof, ranks, schedule, set, several_ranks, smaller, spmd, stages,
-    svg, trimmed, unrolled, workers, written_map,
+    program, programs, progress, proof, ranks, schedule, set, several_ranks, smaller, smaller_map,
+    spmd, stages, svg, trimmed, unrolled, workers, written_map,
 };
 use crate::help_ends::{
     CHECK_END, DECIDE_END, ENCODE_END, EXPLAIN_END, EXPORT_END, HELP_END, JOIN_END, PHASES_END,
@@ -216,7 +216,8 @@ fn shrink_command<'a>(alloc: Global) -> Result<Command<'a>, AllocError>
         SHRINK_END,
     );
     let command = with(Ok(command), program(alloc));
-    with(command, smaller(alloc))
+    let command = with(command, smaller(alloc));
+    with(command, smaller_map(alloc))
 }
 
 fn decide_command<'a>(alloc: Global) -> Result<Command<'a>, AllocError>

@@ -95,7 +95,8 @@ pub const TRIM_END: &str = ending!(
 
 /// Of `shrink`.
 pub const SHRINK_END: &str = ending!(
-    "shrink program.mpi --out smaller.mpi",
+    "shrink program.mpi --out smaller.mpi --map smaller.map
+  mpiprove explain smaller.mpi --map smaller.map",
     "
   1  deadlock: the smaller program, or the answer on it, is printed
   2  unknown: no run that was tried gets stuck

@@ -79,11 +79,13 @@ pub struct ToTrim<'a> {
     pub json: bool,
 }
 
-/// To print a smaller program that gets stuck too, or write it to the file `out`.
+/// To print a smaller program that gets stuck too, or write it to the file `out`, and the map of
+/// its lines, by those of the given program, to the file `map`.
 #[derive(Clone, Copy)]
 pub struct ToShrink<'a> {
     pub program: &'a str,
     pub out: Option<&'a str>,
+    pub map: Option<&'a str>,
 }
 
 /// To decide by one run whether some run of a program of any length gets stuck, and write the
@@ -519,6 +521,7 @@ fn shrink_request<'a>(matches: &ArgMatches<'a>) -> Option<Request<'a>>
     Some(Request::Shrink(ToShrink {
         program: matches.get_str(PROGRAM)?,
         out: matches.get_str(OUT),
+        map: matches.get_str(MAP),
     }))
 }
 

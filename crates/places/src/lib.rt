@@ -10,5 +10,5 @@ mod marks;
 mod sums;
 mod weaving;
 
-pub use map::{MapFault, Places, read_map};
+pub use map::{MapFault, Places, heading_of, read_map};
 pub use weaving::with_places;

@@ -50,8 +50,8 @@ fn hex_digits(alloc: Global, number: u64) -> Result<String, AllocError>
     format!(in alloc; "{number:016x}")
 }
 
-/// The line by which a map names its text.
-fn heading_of(alloc: Global, text: &[u8]) -> Result<String, AllocError>
+/// The line, without its LF, by which a map names its text.
+pub fn heading_of(alloc: Global, text: &[u8]) -> Result<String, AllocError>
     ensures { IfOk result (λ line. string_bytes line ≡ heading text.now) }
 {
     let mut line = String::from_str(alloc, "of ")?;

@@ -16,9 +16,13 @@ fn marker(form: Form) -> &'static [u8]
 {
     match form {
         Form::Object => b"\"line\":",
-        Form::Brief | Form::Whole | Form::Graph | Form::Chart | Form::Picture | Form::Page | Form::Messages => {
-            b"line "
-        }
+        Form::Brief
+        | Form::Whole
+        | Form::Graph
+        | Form::Chart
+        | Form::Picture
+        | Form::Page
+        | Form::Messages => { b"line " }
     }
 }
 
@@ -84,7 +88,13 @@ fn told_of<'a>(form: Form, words: &'a [u8]) -> &'a [u8]
 {
     match form {
         Form::Object => words,
-        Form::Brief | Form::Whole | Form::Graph | Form::Chart | Form::Picture | Form::Page | Form::Messages => {
+        Form::Brief
+        | Form::Whole
+        | Form::Graph
+        | Form::Chart
+        | Form::Picture
+        | Form::Page
+        | Form::Messages => {
             match around(words, b" < ") {
                 Some((place, _callers)) => place,
                 None => words,
@@ -99,7 +109,13 @@ fn opening(form: Form) -> &'static [u8]
 {
     match form {
         Form::Object => b",\"place\":\"",
-        Form::Brief | Form::Whole | Form::Graph | Form::Chart | Form::Picture | Form::Page | Form::Messages => b" (",
+        Form::Brief
+        | Form::Whole
+        | Form::Graph
+        | Form::Chart
+        | Form::Picture
+        | Form::Page
+        | Form::Messages => b" (",
     }
 }
 
@@ -109,7 +125,13 @@ fn closing(form: Form) -> &'static [u8]
 {
     match form {
         Form::Object => b"\"",
-        Form::Brief | Form::Whole | Form::Graph | Form::Chart | Form::Picture | Form::Page | Form::Messages => b")",
+        Form::Brief
+        | Form::Whole
+        | Form::Graph
+        | Form::Chart
+        | Form::Picture
+        | Form::Page
+        | Form::Messages => b")",
     }
 }
 
@@ -180,8 +202,12 @@ pub fn with_places(
             let strings = woven(alloc, plain, Form::Graph, places)?;
             woven(alloc, &strings, Form::Object, places)
         }
-        Form::Brief | Form::Whole | Form::Graph | Form::Chart | Form::Picture | Form::Page | Form::Messages => {
-            woven(alloc, plain, form, places)
-        }
+        Form::Brief
+        | Form::Whole
+        | Form::Graph
+        | Form::Chart
+        | Form::Picture
+        | Form::Page
+        | Form::Messages => { woven(alloc, plain, form, places) }
     }
 }

@@ -98,14 +98,15 @@ asked_told run (to_encode p dimacs) asks ends says =
 asked_told run (to_trim e out as_json) asks ends says =
     let page = deadlock_page ends.1 says in
     absurd (trimmed_untold run.tells.writes run.before run.after e out as_json page.0 page.1 page.2 page.3)
-asked_told run (to_shrink p out) asks ends says =
+asked_told run (to_shrink p out map) asks ends says =
     inr (inr (inl (
       p,
       out,
+      map,
       asks,
       λ program held.
           let page = deadlock_page ends.1 says in
-          shrunk_hangs run.tells.writes run.before run.after p out page.0 page.1 program page.2 page.3 held,
+          shrunk_hangs run.tells.writes run.before run.after p out map page.0 page.1 program page.2 page.3 held,
     )))
 asked_told run (to_decide p out progress as_json) asks ends says =
     inr (inr (inr (inl (

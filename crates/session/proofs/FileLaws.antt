@@ -1,13 +1,15 @@
 -- The laws of runs of `export`, `trim` and `shrink`.
-use Rattle.std.proofs.Common.{◌≡◌, ◌<◌, arith, ap, inl, inr, sym, subst, ℕ, List, Bool, false, Some, None, Option}
+use Rattle.std.proofs.Common.{◌≡◌, ◌∙◌, ◌<◌, arith, ap, inl, inr, sym, subst, ℕ, List, Bool, false, Some, None, Option}
 use Rattle.checker.specs.declared.reason.Reason.TheVariants as reasons
 use Rattle.checker.specs.declared.reason.Verdict.{Verdict}
 use Rattle.checker.specs.declared.reason.Verdict.TheVariants as verdicts
-use Rattle.session.specs.FileLaws.{ExportedAnswerIsPrinted, ExportedProofIsWritten, ExportedSafetyIsTrue, IsHandedOver, ShrunkProgramHangs, TrimmedRefutationIsWritten}
+use Rattle.session.specs.FileLaws.{ExportedAnswerIsPrinted, ExportedProofIsWritten, ExportedSafetyIsTrue, IsHandedOver, IsMapWritten, ShrunkProgramHangs, TrimmedRefutationIsWritten}
 use Rattle.session.specs.Lines.{line_text, lines_words, no_deadlock_line, told_of_untrimmed, told_of_verdict, told_status}
-use Rattle.session.specs.Pages.{IsExportedTo, IsTrimmed, IsWritten}
+use Rattle.session.specs.Pages.{ChangesAtMost, IsExportedTo, IsTrimmed, IsWritten}
 use Rattle.session.specs.Runs.{PrintsAlone, SessionRun}
-use Rattle.session.specs.Shrinking.{Hangs, IsMadeSmaller, IsSmaller, IsSmallerPage, IsUnhung}
+use Rattle.session.specs.Shrinking.{AreWritten, Hangs, IsHandedSmaller, IsMadeSmaller, IsSmaller, IsSmallerPage, IsUnhung}
+use Rattle.shrinking.specs.Left.{AreLeft}
+use Rattle.shrinking.specs.Mapping.{map_text}
 use Rattle.files.specs.Contents.{AreAll}
 use Rattle.reports.specs.Trimming.{Shortens}
 use Rattle.reports.specs.declared.trimmed.Shortened.{Shortened}
@@ -102,55 +104,69 @@ trimmed = record {
 -- ---- shrink
 
 -- a page with the status 1 is that of a smaller program
-shrunk_page : (tells : Bool) (before after : List ℕ → Option (List ℕ)) (p : List ℕ) (out : Option (List ℕ)) (text : List ℕ) → IsMadeSmaller tells before after p out text 1
-    → (program : List ℕ) × AreAll (before p) program × ((smaller : List ℕ) × IsSmaller program smaller × IsWritten tells before after out smaller × IsSmallerPage out smaller text)
-shrunk_page tells before after p out text (program, all, inl s) = (program, all, (s.0, s.1, s.2, s.3))
-shrunk_page tells before after p out text (program, all, inr (inl finishes)) = absurd (omega (arith, finishes.3))
-shrunk_page tells before after p out text (program, all, inr (inr refused)) = absurd (omega (arith, undecided_above false refused.0 text 1 refused.3))
+shrunk_page : (tells : Bool) (before after : List ℕ → Option (List ℕ)) (p : List ℕ) (out map : Option (List ℕ)) (text : List ℕ) → IsMadeSmaller tells before after p out map text 1
+    → (program : List ℕ) × AreAll (before p) program × IsHandedSmaller tells before after p out map program text 1
+shrunk_page tells before after p out map text (program, all, inl s) = (program, all, s)
+shrunk_page tells before after p out map text (program, all, inr (inl finishes)) = absurd (omega (arith, finishes.3))
+shrunk_page tells before after p out map text (program, all, inr (inr refused)) = absurd (omega (arith, undecided_above false refused.0 text 1 refused.3))
 
 -- one with the status 2 is of a program that can finish
-unshrunk_page : (tells : Bool) (before after : List ℕ → Option (List ℕ)) (p : List ℕ) (out : Option (List ℕ)) (text : List ℕ) → IsMadeSmaller tells before after p out text 2
+unshrunk_page : (tells : Bool) (before after : List ℕ → Option (List ℕ)) (p : List ℕ) (out map : Option (List ℕ)) (text : List ℕ) → IsMadeSmaller tells before after p out map text 2
     → (program : List ℕ) × AreAll (before p) program × IsUnhung program
-unshrunk_page tells before after p out text (program, all, inl s) = absurd (omega (arith, s.4))
-unshrunk_page tells before after p out text (program, all, inr (inl finishes)) = (program, all, finishes.0)
-unshrunk_page tells before after p out text (program, all, inr (inr refused)) = absurd (omega (arith, undecided_above false refused.0 text 2 refused.3))
+unshrunk_page tells before after p out map text (program, all, inl s) = absurd (omega (arith, s.one))
+unshrunk_page tells before after p out map text (program, all, inr (inl finishes)) = (program, all, finishes.0)
+unshrunk_page tells before after p out map text (program, all, inr (inr refused)) = absurd (omega (arith, undecided_above false refused.0 text 2 refused.3))
 
 -- and none has the status 0
-never_shrunk : (tells : Bool) (before after : List ℕ → Option (List ℕ)) (p : List ℕ) (out : Option (List ℕ)) (text : List ℕ) → IsMadeSmaller tells before after p out text 0 → ⊥
-never_shrunk tells before after p out text (program, all, inl s) = omega (arith, s.4)
-never_shrunk tells before after p out text (program, all, inr (inl finishes)) = omega (arith, finishes.3)
-never_shrunk tells before after p out text (program, all, inr (inr refused)) = omega (arith, undecided_above false refused.0 text 0 refused.3)
+never_shrunk : (tells : Bool) (before after : List ℕ → Option (List ℕ)) (p : List ℕ) (out map : Option (List ℕ)) (text : List ℕ) → IsMadeSmaller tells before after p out map text 0 → ⊥
+never_shrunk tells before after p out map text (program, all, inl s) = omega (arith, s.one)
+never_shrunk tells before after p out map text (program, all, inr (inl finishes)) = omega (arith, finishes.3)
+never_shrunk tells before after p out map text (program, all, inr (inr refused)) = omega (arith, undecided_above false refused.0 text 0 refused.3)
 
 -- a page that tells a deadlock is of a program that can hang
-pub shrunk_hangs : (tells : Bool) (before after : List ℕ → Option (List ℕ)) (p : List ℕ) (out : Option (List ℕ)) (text : List ℕ) (status : ℕ) (program : List ℕ)
-    → IsMadeSmaller tells before after p out text status → PageTells text status → before p ≡ Some program → Hangs program
-shrunk_hangs tells before after p out text status program (given, all, inl s) says held =
-    subst Hangs (all_are (before p) given program all held) (smaller_hangs given s.0 s.1)
-shrunk_hangs tells before after p out text status program (given, all, inr (inl finishes)) says held =
+pub shrunk_hangs : (tells : Bool) (before after : List ℕ → Option (List ℕ)) (p : List ℕ) (out map : Option (List ℕ)) (text : List ℕ) (status : ℕ) (program : List ℕ)
+    → IsMadeSmaller tells before after p out map text status → PageTells text status → before p ≡ Some program → Hangs program
+shrunk_hangs tells before after p out map text status program (given, all, inl s) says held =
+    subst Hangs (all_are (before p) given program all held) (smaller_hangs given s.smaller s.is)
+shrunk_hangs tells before after p out map text status program (given, all, inr (inl finishes)) says held =
     absurd (unshrunk_untold text status finishes.2 finishes.3 says)
-shrunk_hangs tells before after p out text status program (given, all, inr (inr refused)) says held =
+shrunk_hangs tells before after p out map text status program (given, all, inr (inr refused)) says held =
     absurd (undecided_untold false refused.0 text status refused.3 says)
 
-handed_over : (run : SessionRun) (out : Option (List ℕ)) (smaller text : List ℕ) → IsWritten run.tells.writes run.before run.after out smaller
-    → IsSmallerPage out smaller text → PrintsAlone run text 1 → IsHandedOver run out smaller
-handed_over run None smaller text written page prints = subst (λ (t : List ℕ). PrintsAlone run t 1) page prints
-handed_over run (Some file) smaller text written page prints = written
+-- what was written before the map stays, where the map is written elsewhere
+map_keeps : (between after : List ℕ → Option (List ℕ)) (map : Option (List ℕ)) (file : List ℕ) → ChangesAtMost map between after → (map ≡ Some file → ⊥) → after file ≡ between file
+map_keeps between after None file kept other = ap (λ (held : List ℕ → Option (List ℕ)). held file) kept
+map_keeps between after (Some places) file kept other = kept file (λ same. other (ap Some (sym same)))
+
+handed_over : (run : SessionRun) (out map : Option (List ℕ)) (smaller lines places text : List ℕ) → AreWritten run.tells.writes run.before run.after out map smaller places
+    → IsSmallerPage out smaller lines text → PrintsAlone run text 1 → IsHandedOver run out map smaller lines
+handed_over run None map smaller lines places text written page prints = subst (λ (t : List ℕ). PrintsAlone run t 1) page prints
+handed_over run (Some file) map smaller lines places text written page prints =
+    (subst (λ (t : List ℕ). PrintsAlone run t 1) page prints, λ tells other. map_keeps written.between run.after map file written.kept other ∙ written.program tells)
+
+map_written : (run : SessionRun) (between : List ℕ → Option (List ℕ)) (map : Option (List ℕ)) (places : List ℕ) → IsWritten run.tells.writes between run.after map places → IsMapWritten run map places
+map_written run between None places written = tt
+map_written run between (Some file) places written = written
 
 pub shrunk : ShrunkProgramHangs
 shrunk = record {
-  smaller = λ run p out program ends asks held one.
+  smaller = λ run p out map program ends asks held one.
       let page = page_printed 1 (omega arith) (ended (task_ends run ends asks)) one in
-      let is = shrunk_page run.tells.writes run.before run.after p out page.0 page.1 in
-      let s = is.2 in (
-        s.0,
-        subst (λ (given : List ℕ). IsSmaller given s.0) (all_are (run.before p) is.0 program is.1 held) s.1,
-        handed_over run out s.0 page.0 s.2 s.3 page.2,
+      let is = shrunk_page run.tells.writes run.before run.after p out map page.0 page.1 in
+      let s = is.2 in
+      let same = all_are (run.before p) is.0 program is.1 held in (
+        s.smaller,
+        s.lines,
+        subst (λ (given : List ℕ). IsSmaller given s.smaller) same s.is,
+        subst (λ (given : List ℕ). AreLeft given s.smaller s.lines) same s.left,
+        handed_over run out map s.smaller s.lines (map_text p s.smaller s.lines) page.0 s.written s.page page.2,
+        map_written run s.written.between map (map_text p s.smaller s.lines) s.written.mapped,
       );
-  finishes = λ run p out program ends asks held two.
+  finishes = λ run p out map program ends asks held two.
       let page = page_printed 2 (omega arith) (ended (task_ends run ends asks)) two in
-      let is = unshrunk_page run.tells.writes run.before run.after p out page.0 page.1 in
+      let is = unshrunk_page run.tells.writes run.before run.after p out map page.0 page.1 in
       subst IsUnhung (all_are (run.before p) is.0 program is.1 held) is.2;
-  never_safe = λ run p out ends asks zero.
+  never_safe = λ run p out map ends asks zero.
       let page = page_printed 0 (omega arith) (ended (task_ends run ends asks)) zero in
-      never_shrunk run.tells.writes run.before run.after p out page.0 page.1;
+      never_shrunk run.tells.writes run.before run.after p out map page.0 page.1;
 }

@@ -51,7 +51,7 @@ IsRightlyTold words before =
     × (((as_json : Bool) × AskToCheck as_json words p e)
     ⊎ (((lines : Bool) × AskToReplay lines words p e) ⊎ (((form : Form) × AskToExplainBy form words p e) ⊎ ((out : Text) × AskFor words (to_export p e out)))))
     × ((program evidence : List ℕ) → before p ≡ Some program → before e ≡ Some evidence → Shows program evidence))
-    ⊎ (((p : Text) × (out : Option Text) × AskFor words (to_shrink p out) × ((program : List ℕ) → before p ≡ Some program → Hangs program))
+    ⊎ (((p : Text) × (out : Option Text) × (map : Option Text) × AskFor words (to_shrink p out map) × ((program : List ℕ) → before p ≡ Some program → Hangs program))
     ⊎ (((p : Text) × AskToRun words p
     × ((program : List ℕ) → before p ≡ Some program → (steps : List Step) × IsStuckRunWithin long program steps))
     ⊎ (((programs : List Text) × (junit : Option Text) × AskEach words programs junit

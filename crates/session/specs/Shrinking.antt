@@ -1,5 +1,5 @@
 -- The page of `shrink`.
-use Rattle.std.specs.Prelude.{◌≡◌, ◌≢◌, ◌⊎◌, ℕ, Bool, false, List, codes, Option, Some, None}
+use Rattle.std.specs.Prelude.{◌≡◌, ◌≢◌, ◌⊎◌, ℕ, Bool, false, List, ◌++◌, codes, Option, Some, None}
 use Rattle.files.specs.Contents.{AreAll}
 use Rattle.checker.specs.Verdicts.{IsProgramReason}
 use Rattle.checker.specs.declared.reason.Reason.{Reason}
@@ -7,11 +7,15 @@ use Rattle.checker.specs.declared.reason.Reason.TheVariants as reasons
 use Rattle.deciding.specs.Decisions.{IsUndecided}
 use Rattle.deciding.specs.declared.texts.Undecided.{Undecided}
 use Rattle.prover.specs.Answers.{CanFinish, CanHang}
+use Rattle.shrinking.specs.Left.{AreLeft}
+use Rattle.shrinking.specs.Mapping.{map_text}
+use Rattle.shrinking.specs.Told.{left_text}
 use Rattle.shrinking.specs.Shrinking.{CanHangLong, IsNotStuckLong, IsShrunk, IsShrunkLong}
 use Rattle.shrinking.specs.declared.halving.NotShrunkLong.{NotShrunkLong}
 use Rattle.shrinking.specs.declared.halving.NotShrunkLong.TheVariants as unshrunk
 use Rattle.session.specs.Explaining.{IsUndecidedPage}
-use Rattle.session.specs.Pages.{IsProgram, IsWritten}
+use Rattle.session.specs.Pages.{ChangesAtMost, IsProgram, IsWritten}
+use Rattle.session.specs.Unrolling.{IsNamed}
 
 -- the program is refused by `prove`, as one that is beyond its limits
 abbrev pub IsBeyond : List ℕ → Type 0
@@ -37,10 +41,29 @@ IsNotSmaller program unshrunk.NothingHangs = IsUnhung program
 IsNotSmaller program (unshrunk.Undecided why) = IsUndecided program why
 
 -- the text of the smaller program is the page; or it is written to the file that is named for it,
--- and the page is the line that tells a deadlock
-abbrev pub IsSmallerPage : Option (List ℕ) → List ℕ → List ℕ → Type 0
-IsSmallerPage None smaller text = text ≡ smaller
-IsSmallerPage (Some file) smaller text = text ≡ codes "deadlock\n"
+-- and the page is the line that tells a deadlock, and the one that tells which lines of the given
+-- program are left
+abbrev pub IsSmallerPage : Option (List ℕ) → List ℕ → List ℕ → List ℕ → Type 0
+IsSmallerPage None smaller lines text = text ≡ smaller
+IsSmallerPage (Some file) smaller lines text = text ≡ codes "deadlock\n" ++ left_text lines
+
+-- the smaller program is written to the file that is named for it, and then its map to the one that
+-- is named for that
+pub record AreWritten (tells : Bool) (old new : List ℕ → Option (List ℕ)) (out map : Option (List ℕ)) (smaller places : List ℕ) : Type 0 where
+  pub between : List ℕ → Option (List ℕ)
+  pub program : IsWritten tells old between out smaller
+  pub mapped : IsWritten tells between new map places
+  pub kept : ChangesAtMost map between new
+
+-- a smaller program is handed over, with the lines of the given one, at this path, that are left
+pub record IsHandedSmaller (tells : Bool) (old new : List ℕ → Option (List ℕ)) (path : List ℕ) (out map : Option (List ℕ)) (program text : List ℕ) (status : ℕ) : Type 0 where
+  pub smaller : List ℕ
+  pub lines : List ℕ
+  pub is : IsSmaller program smaller
+  pub left : AreLeft program smaller lines
+  pub written : AreWritten tells old new out map smaller (map_text path smaller lines)
+  pub page : IsSmallerPage out smaller lines text
+  pub one : status ≡ 1
 
 -- the line that tells that no run of a program that was tried ended stuck
 abbrev pub unshrunk_line : List ℕ
@@ -52,24 +75,24 @@ abbrev pub IsUnshrunkPage : NotShrunkLong → List ℕ → ℕ → Type 0
 IsUnshrunkPage unshrunk.NothingHangs text status = (text ≡ unshrunk_line) × (status ≡ 2)
 IsUnshrunkPage (unshrunk.Undecided why) text status = IsUndecidedPage false why text status
 
--- a smaller program is told, and written to the file that is named for it; or no run that was tried
+-- a smaller program is told, or written to the file that is named for it; or no run that was tried
 -- ended stuck, or the program is refused, and all files are as before
-abbrev pub IsShrunkTo : Bool → (List ℕ → Option (List ℕ)) → (List ℕ → Option (List ℕ)) → Option (List ℕ) → List ℕ → List ℕ → ℕ → Type 0
-IsShrunkTo tells old new out program text status =
-    ((smaller : List ℕ) × IsSmaller program smaller × IsWritten tells old new out smaller × IsSmallerPage out smaller text × (status ≡ 1))
+abbrev pub IsShrunkTo : Bool → (List ℕ → Option (List ℕ)) → (List ℕ → Option (List ℕ)) → List ℕ → Option (List ℕ) → Option (List ℕ) → List ℕ → List ℕ → ℕ → Type 0
+IsShrunkTo tells old new path out map program text status =
+    IsHandedSmaller tells old new path out map program text status
     ⊎ ((IsUnhung program × (new ≡ old) × (text ≡ unshrunk_line) × (status ≡ 2))
     ⊎ ((why : Undecided) × IsUndecided program why × (new ≡ old) × IsUndecidedPage false why text status))
 
 -- the page of `shrink`: so the program of the file is made smaller
-abbrev pub IsMadeSmaller : Bool → (List ℕ → Option (List ℕ)) → (List ℕ → Option (List ℕ)) → List ℕ → Option (List ℕ) → List ℕ → ℕ → Type 0
-IsMadeSmaller tells old new path out text status =
-    (program : List ℕ) × AreAll (old path) program × IsShrunkTo tells old new out program text status
+abbrev pub IsMadeSmaller : Bool → (List ℕ → Option (List ℕ)) → (List ℕ → Option (List ℕ)) → List ℕ → Option (List ℕ) → Option (List ℕ) → List ℕ → ℕ → Type 0
+IsMadeSmaller tells old new path out map text status =
+    (program : List ℕ) × AreAll (old path) program × IsShrunkTo tells old new path out map program text status
 
 -- some run of the program of the file ends stuck
 abbrev pub HasSmaller : Option (List ℕ) → Type 0
 HasSmaller file = (program : List ℕ) × AreAll file program × Hangs program
 
--- the file that failed is the program's, and no file has changed; or it is the one that is named
--- for the smaller program, and there is one
-abbrev pub IsShrinkFile : (List ℕ → Bool) → List ℕ → Option (List ℕ) → (List ℕ → Option (List ℕ)) → (List ℕ → Option (List ℕ)) → List ℕ → Type 0
-IsShrinkFile reads program out old new path = (IsProgram reads program path × (new ≡ old)) ⊎ ((out ≡ Some path) × HasSmaller (old program))
+-- the file that failed is the program's, and no file has changed; or it is one of those that are
+-- named for the smaller program and its map, and there is a smaller program
+abbrev pub IsShrinkFile : (List ℕ → Bool) → List ℕ → Option (List ℕ) → Option (List ℕ) → (List ℕ → Option (List ℕ)) → (List ℕ → Option (List ℕ)) → List ℕ → Type 0
+IsShrinkFile reads program out map old new path = (IsProgram reads program path × (new ≡ old)) ⊎ (IsNamed out map path × HasSmaller (old program))

@@ -1,2 +1,5 @@
 pub mod Shrinking
+pub mod Left
 pub mod Laws
+pub mod Mapping
+pub mod Told

@@ -1,5 +1,6 @@
 //! Texts without some of their call lines.
 
+use crate::excerpts::Excerpt;
 use crate::lines::{is_call, is_rank, lines_of};
 use crate::pairing::FOLLOWS;
 use crate::ranks::names;
@@ -37,14 +38,14 @@ pub fn marks_of(alloc: Global, bound: usize, numbers: &[usize]) -> Result<Vec<bo
 /// The text without the call lines of the units that are marked.
 pub fn without_units(
     alloc: Global,
-    text: &[u8],
+    from: &Excerpt,
     units: &[usize],
     left_out: &[bool],
-) -> Result<Vec<u8>, AllocError> {
-    let lines = lines_of(alloc, text)?;
-    let mut out = Vec::with_capacity(alloc, text.len())?;
+) -> Result<Excerpt, AllocError> {
+    let lines = lines_of(alloc, &from.text)?;
+    let mut out = from.emptied(alloc)?;
     let mut place = 0usize;
-    for line in lines.iter() {
+    for (index, line) in lines.iter().enumerate() {
         let mut stays = !line.is_empty();
         if is_call(line) {
             let unit = units.get(place).copied().unwrap_or(FOLLOWS);
@@ -52,7 +53,8 @@ pub fn without_units(
             place = place.saturating_add(1);
         }
         if stays {
-            put_line(&mut out, line)?;
+            put_line(&mut out.text, line)?;
+            out.numbers.push(from.number_at(index))?;
         }
     }
     Ok(out)

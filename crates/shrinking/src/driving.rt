@@ -1,10 +1,13 @@
 //! Which parts of a text are left out, one after another.
 
-ghost use Rattle.std.specs.Prelude.{IfErr, IfOk, OnOk};
+ghost use Rattle.std.specs.Prelude.{◌≡◌, IfErr, IfOk, OnOk};
 ghost use Rattle.prover.specs.Answers.{CanHang};
+ghost use Rattle.shrinking.specs.Left.{AreLeft};
 ghost use Rattle.shrinking.specs.Shrinking.{IsNotShrunk, IsShrunk};
 
 use crate::cutting::{marks_of, marks_of_rank, numbers_of, without_units};
+use crate::excerpts::Excerpt;
+use crate::left::are_left;
 use crate::lines::count_ranks;
 use crate::pairing::{LineUnits, units_of};
 use crate::ranks::without_rank;
@@ -20,6 +23,9 @@ use std::alloc::{AllocError, Global};
 pub struct Shrunk {
     /// The text. Its program has a run that ends stuck.
     pub text: Vec<u8>,
+    /// For each line of the text the number, from 1, of the line of the given text that it is left
+    /// of.
+    pub lines: Vec<usize>,
     /// Whether all was tried: with any one line or rank left out, and what belongs to it, what was
     /// tried no longer ends stuck.
     pub complete: bool,
@@ -44,26 +50,26 @@ fn units_in(alloc: Global, text: &[u8]) -> Result<LineUnits, AllocError> {
 
 /// The text without a rank and without all units that have a line of it, or one that names it; the
 /// whole text, where a call that stays would lose its last partner.
-fn rank_left_out(alloc: Global, text: &[u8], rank: u32) -> Result<Vec<u8>, AllocError> {
-    let units = units_in(alloc, text)?;
-    let mut marks = marks_of_rank(alloc, text, &units.of_lines, rank)?;
+fn rank_left_out(alloc: Global, from: &Excerpt, rank: u32) -> Result<Excerpt, AllocError> {
+    let units = units_in(alloc, &from.text)?;
+    let mut marks = marks_of_rank(alloc, &from.text, &units.of_lines, rank)?;
     if keep_partners(&units.unbalanced, &units.of_calls, &mut marks) {
-        return Vec::from_slice(alloc, text);
+        return from.copied(alloc);
     }
-    let fewer = without_units(alloc, text, &units.of_lines, &marks)?;
+    let fewer = without_units(alloc, from, &units.of_lines, &marks)?;
     let without = without_rank(alloc, &fewer, rank)?;
     tidied(alloc, &without)
 }
 
 /// Leaves out ranks, the highest first.
-fn leave_out_ranks(alloc: Global, text: &mut Vec<u8>, left: &mut u32) -> Result<(), AllocError>
-    requires { CanHang text.old.items }
-    ensures { OnOk result (IsShrunk text.old.items text.new.items) }
+fn leave_out_ranks(alloc: Global, best: &mut Excerpt, left: &mut u32) -> Result<(), AllocError>
+    requires { CanHang best.old.text.items }
+    ensures { OnOk result (IsShrunk best.old.text.items best.new.text.items) }
 {
-    let ranks = count_ranks(alloc, text)?.min(64) as u32;
+    let ranks = count_ranks(alloc, &best.text)?.min(64) as u32;
     for place in 0..ranks {
-        let candidate = rank_left_out(alloc, text, ranks - 1 - place)?;
-        let _taken = improve(alloc, text, candidate, left)?;
+        let candidate = rank_left_out(alloc, best, ranks - 1 - place)?;
+        let _taken = improve(alloc, best, candidate, left)?;
     }
     Ok(())
 }
@@ -72,35 +78,35 @@ fn leave_out_ranks(alloc: Global, text: &mut Vec<u8>, left: &mut u32) -> Result<
 /// that stay have their last partner in.
 fn units_left_out(
     alloc: Global,
-    text: &[u8],
-    from: usize,
+    from: &Excerpt,
+    first: usize,
     size: usize,
-) -> Result<Vec<u8>, AllocError> {
-    let units = units_in(alloc, text)?;
+) -> Result<Excerpt, AllocError> {
+    let units = units_in(alloc, &from.text)?;
     let numbers = numbers_of(alloc, &units.of_lines)?;
-    let to = numbers.len().min(from.saturating_add(size));
-    let mut marks = marks_of(alloc, units.of_lines.len(), &numbers[from.min(to)..to])?;
+    let to = numbers.len().min(first.saturating_add(size));
+    let mut marks = marks_of(alloc, units.of_lines.len(), &numbers[first.min(to)..to])?;
     keep_partners(&units.unbalanced, &units.of_calls, &mut marks);
-    let fewer = without_units(alloc, text, &units.of_lines, &marks)?;
+    let fewer = without_units(alloc, from, &units.of_lines, &marks)?;
     tidied(alloc, &fewer)
 }
 
 /// Leaves out units, so many at once that follow one another, of so many as there are.
 fn leave_out_units(
     alloc: Global,
-    text: &mut Vec<u8>,
+    best: &mut Excerpt,
     count: usize,
     size: usize,
     left: &mut u32,
 ) -> Result<(), AllocError>
-    requires { CanHang text.old.items }
-    ensures { OnOk result (IsShrunk text.old.items text.new.items) }
+    requires { CanHang best.old.text.items }
+    ensures { OnOk result (IsShrunk best.old.text.items best.new.text.items) }
 {
     let mut from = 0usize;
     for _question in 0..count {
         if from < count {
-            let candidate = units_left_out(alloc, text, from, size)?;
-            if !improve(alloc, text, candidate, left)? {
+            let candidate = units_left_out(alloc, best, from, size)?;
+            if !improve(alloc, best, candidate, left)? {
                 from = from.saturating_add(size);
             }
         }
@@ -116,43 +122,62 @@ fn count_units(alloc: Global, text: &[u8]) -> Result<usize, AllocError> {
 }
 
 /// Leaves out ranks, and then units of lines, fewer and fewer at once.
-fn leave_out(alloc: Global, text: &mut Vec<u8>, left: &mut u32) -> Result<(), AllocError>
-    requires { CanHang text.old.items }
-    ensures { OnOk result (IsShrunk text.old.items text.new.items) }
+fn leave_out(alloc: Global, best: &mut Excerpt, left: &mut u32) -> Result<(), AllocError>
+    requires { CanHang best.old.text.items }
+    ensures { OnOk result (IsShrunk best.old.text.items best.new.text.items) }
 {
-    leave_out_ranks(alloc, text, left)?;
-    let count = count_units(alloc, text)?;
+    leave_out_ranks(alloc, best, left)?;
+    let count = count_units(alloc, &best.text)?;
     let mut size = count;
     for _turn in 0..usize::BITS {
         size /= 2;
         if size > 0 {
-            leave_out_units(alloc, text, count, size, left)?;
+            leave_out_units(alloc, best, count, size, left)?;
         }
     }
     Ok(())
+}
+
+/// The smaller text with the numbers of its lines, which are judged once more: an answer is given
+/// with right ones alone.
+pub fn shrunk_of(
+    alloc: Global,
+    given: &[u8],
+    best: Excerpt,
+    complete: bool,
+) -> Result<Shrunk, AllocError>
+    ensures same { IfOk result (λ shrunk. shrunk.text.items ≡ best.text.items) }
+    ensures lines { IfOk result (λ shrunk. AreLeft given.now shrunk.text.items shrunk.lines.items) }
+{
+    if !are_left(alloc, given, &best.text, &best.numbers)? {
+        return Err(AllocError);
+    }
+    Ok(Shrunk {
+        text: best.text,
+        lines: best.numbers,
+        complete,
+    })
 }
 
 /// The text with ranks and lines left out, again and again until nothing more can be left out or no
 /// walk is left.
 fn leave_out_all(alloc: Global, text: &[u8], walks: u32) -> Result<Shrunk, AllocError>
     requires { CanHang text.now }
-    ensures { IfOk result (λ shrunk. IsShrunk text.now shrunk.text.items) }
+    ensures shrunk { IfOk result (λ shrunk. IsShrunk text.now shrunk.text.items) }
+    ensures lines { IfOk result (λ shrunk. AreLeft text.now shrunk.text.items shrunk.lines.items) }
 {
-    let mut smaller = Vec::from_slice(alloc, text)?;
+    let mut best = Excerpt::whole(alloc, text)?;
     let mut left = walks;
     let mut complete = false;
     for _turn in 0..text.len() {
-        let before = smaller.len();
-        leave_out(alloc, &mut smaller, &mut left)?;
-        complete = smaller.len() == before && left > 0;
+        let before = best.text.len();
+        leave_out(alloc, &mut best, &mut left)?;
+        complete = best.text.len() == before && left > 0;
         if complete || left == 0 {
             break;
         }
     }
-    Ok(Shrunk {
-        text: smaller,
-        complete,
-    })
+    shrunk_of(alloc, text, best, complete)
 }
 
 /// A smaller program's text, which still has a run that ends stuck: no longer than the one given,
@@ -166,6 +191,7 @@ fn leave_out_all(alloc: Global, text: &[u8], walks: u32) -> Result<Shrunk, Alloc
 /// none.
 pub fn shrink(alloc: Global, text: &[u8], walks: u32) -> Result<Shrunk, NotShrunk>
     ensures shrunk { IfOk result (λ shrunk. IsShrunk text.now shrunk.text.items) }
+    ensures lines { IfOk result (λ shrunk. AreLeft text.now shrunk.text.items shrunk.lines.items) }
     ensures given { IfOk result (λ shrunk. CanHang text.now) }
     ensures why { IfErr result (IsNotShrunk text.now) }
 {

@@ -1,9 +1,11 @@
 //! Which parts of a text of any length are left out, one after another.
 
 ghost use Rattle.std.specs.Prelude.{IfErr, IfNone, IfOk, IfSome, OnOk};
+ghost use Rattle.shrinking.specs.Left.{AreLeft};
 ghost use Rattle.shrinking.specs.Shrinking.{CanHangLong, IsNotShrunkLong, IsShrunkLong};
 
-use crate::driving::Shrunk;
+use crate::driving::{Shrunk, shrunk_of};
+use crate::excerpts::Excerpt;
 use crate::leaving::{without_over, without_ranks, without_units};
 use crate::running::{Hanging, improve_long, read_hanging};
 use deciding::{Decision, Undecided, decide};
@@ -42,7 +44,7 @@ fn without_parts(
     part: Part,
     from: usize,
     to: usize,
-) -> Result<Vec<u8>, AllocError> {
+) -> Result<Excerpt, AllocError> {
     match part {
         Part::Ranks => without_ranks(alloc, best, from..to),
         Part::Units => without_units(alloc, best, from..to),
@@ -57,8 +59,8 @@ fn leave_out_spans(
     size: usize,
     left: &mut u64,
 ) -> Result<(), AllocError>
-    requires { CanHangLong best.old.text.items }
-    ensures { OnOk result (IsShrunkLong best.old.text.items best.new.text.items) }
+    requires { CanHangLong best.old.excerpt.text.items }
+    ensures { OnOk result (IsShrunkLong best.old.excerpt.text.items best.new.excerpt.text.items) }
 {
     let count = count_parts(best, part);
     let mut to = count;
@@ -81,8 +83,8 @@ fn leave_out_parts(
     part: Part,
     left: &mut u64,
 ) -> Result<(), AllocError>
-    requires { CanHangLong best.old.text.items }
-    ensures { OnOk result (IsShrunkLong best.old.text.items best.new.text.items) }
+    requires { CanHangLong best.old.excerpt.text.items }
+    ensures { OnOk result (IsShrunkLong best.old.excerpt.text.items best.new.excerpt.text.items) }
 {
     let mut size = count_parts(best, part);
     for _turn in 0..usize::BITS {
@@ -98,17 +100,17 @@ fn leave_out_parts(
 /// left; what the run is done with goes first, since the text is small without it. Answers whether
 /// all was tried.
 fn leave_out_long(alloc: Global, best: &mut Hanging, work: u64) -> Result<bool, AllocError>
-    requires { CanHangLong best.old.text.items }
-    ensures { OnOk result (IsShrunkLong best.old.text.items best.new.text.items) }
+    requires { CanHangLong best.old.excerpt.text.items }
+    ensures { OnOk result (IsShrunkLong best.old.excerpt.text.items best.new.excerpt.text.items) }
 {
     let mut left = work;
-    for _turn in 0..best.text.len() {
-        let before = best.text.len();
+    for _turn in 0..best.excerpt.text.len() {
+        let before = best.excerpt.text.len();
         let unended = without_over(alloc, best)?;
         improve_long(alloc, best, unended, &mut left)?;
         leave_out_parts(alloc, best, Part::Ranks, &mut left)?;
         leave_out_parts(alloc, best, Part::Units, &mut left)?;
-        if left == 0 || best.text.len() == before {
+        if left == 0 || best.excerpt.text.len() == before {
             return Ok(left > 0);
         }
     }
@@ -119,17 +121,15 @@ fn leave_out_long(alloc: Global, best: &mut Hanging, work: u64) -> Result<bool, 
 /// that buffers least doesn't get stuck.
 fn shrunk_long(alloc: Global, text: &[u8], work: u64) -> Result<Option<Shrunk>, AllocError>
     ensures shrunk { IfOk result (λ found. IfSome found (λ shrunk. IsShrunkLong text.now shrunk.text.items)) }
+    ensures lines { IfOk result (λ found. IfSome found (λ shrunk. AreLeft text.now shrunk.text.items shrunk.lines.items)) }
     ensures given { IfOk result (λ found. IfSome found (λ shrunk. CanHangLong text.now)) }
 {
-    let found = read_hanging(alloc, Vec::from_slice(alloc, text)?)?;
+    let found = read_hanging(alloc, Excerpt::whole(alloc, text)?)?;
     let Some(mut best) = found else {
         return Ok(None);
     };
     let complete = leave_out_long(alloc, &mut best, work)?;
-    Ok(Some(Shrunk {
-        text: best.text,
-        complete,
-    }))
+    Ok(Some(shrunk_of(alloc, text, best.excerpt, complete)?))
 }
 
 /// Why a text of which that run doesn't get stuck has no smaller one.
@@ -158,6 +158,7 @@ fn not_shrunk(alloc: Global, text: &[u8]) -> NotShrunkLong
 /// A text of which that run doesn't get stuck has no smaller one.
 pub fn shrink_long(alloc: Global, text: &[u8], work: u64) -> Result<Shrunk, NotShrunkLong>
     ensures shrunk { IfOk result (λ shrunk. IsShrunkLong text.now shrunk.text.items) }
+    ensures lines { IfOk result (λ shrunk. AreLeft text.now shrunk.text.items shrunk.lines.items) }
     ensures given { IfOk result (λ shrunk. CanHangLong text.now) }
     ensures why { IfErr result (IsNotShrunkLong text.now) }
 {

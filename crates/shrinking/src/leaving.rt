@@ -1,5 +1,6 @@
 //! Texts without some of their calls and ranks.
 
+use crate::excerpts::Excerpt;
 use crate::lines::{count_calls, is_call, is_rank, lines_of, verb_of};
 use crate::ranks::{heading_rank, new_numbers, put_renumbered};
 use crate::running::Hanging;
@@ -114,21 +115,23 @@ fn heading_stays(line: &[u8], words: &[&[u8]], ranks: &[bool]) -> bool {
 }
 
 /// The text without what is left out. The other ranks are numbered anew.
-fn without(alloc: Global, text: &[u8], left_out: &LeftOut) -> Result<Vec<u8>, AllocError> {
+fn without(alloc: Global, from: &Excerpt, left_out: &LeftOut) -> Result<Excerpt, AllocError> {
     let numbers = new_numbers(alloc, &left_out.ranks)?;
-    let lines = lines_of(alloc, text)?;
-    let mut out = Vec::with_capacity(alloc, text.len())?;
+    let lines = lines_of(alloc, &from.text)?;
+    let mut out = from.emptied(alloc)?;
     let mut place = 0usize;
-    for line in lines.iter() {
+    for (index, line) in lines.iter().enumerate() {
         let words = words_of(alloc, line)?;
         if is_call(line) {
             let kept = kept_words(alloc, &words, &left_out.calls, place)?;
             if !kept.is_empty() {
-                put_renumbered(&mut out, &kept, &numbers)?;
+                put_renumbered(&mut out.text, &kept, &numbers)?;
+                out.numbers.push(from.number_at(index))?;
             }
             place = place.saturating_add(count_calls(&words));
         } else if !line.is_empty() && heading_stays(line, &words, &left_out.ranks) {
-            put_renumbered(&mut out, &words, &numbers)?;
+            put_renumbered(&mut out.text, &words, &numbers)?;
+            out.numbers.push(from.number_at(index))?;
         }
     }
     Ok(out)
@@ -140,7 +143,7 @@ fn without_marked(
     alloc: Global,
     hanging: &Hanging,
     mut marks: Vec<bool>,
-) -> Result<Vec<u8>, AllocError> {
+) -> Result<Excerpt, AllocError> {
     keep_partners(
         &hanging.units.unbalanced,
         &hanging.units.of_calls,
@@ -150,12 +153,12 @@ fn without_marked(
         calls: calls_of(alloc, &hanging.units, &marks)?,
         ranks: vec![in alloc; false; hanging.program.ranks() as usize]?,
     };
-    without(alloc, &hanging.text, &left_out)
+    without(alloc, &hanging.excerpt, &left_out)
 }
 
 /// The text without all units that the run is done with, but for those that calls that stay have
 /// their last partner in. It takes time near linear in the text.
-pub fn without_over(alloc: Global, hanging: &Hanging) -> Result<Vec<u8>, AllocError> {
+pub fn without_over(alloc: Global, hanging: &Hanging) -> Result<Excerpt, AllocError> {
     without_marked(alloc, hanging, hanging.units.are_over.clone()?)
 }
 
@@ -164,7 +167,7 @@ pub fn without_units(
     alloc: Global,
     hanging: &Hanging,
     numbers: Range<usize>,
-) -> Result<Vec<u8>, AllocError> {
+) -> Result<Excerpt, AllocError> {
     let marks = marks_within(alloc, hanging.units.are_over.len(), &numbers)?;
     without_marked(alloc, hanging, marks)
 }
@@ -176,18 +179,18 @@ pub fn without_ranks(
     alloc: Global,
     hanging: &Hanging,
     ranks: Range<usize>,
-) -> Result<Vec<u8>, AllocError> {
+) -> Result<Excerpt, AllocError> {
     let mut marks = touched_units(alloc, &hanging.units, hanging.program.calls(), &ranks)?;
     if keep_partners(
         &hanging.units.unbalanced,
         &hanging.units.of_calls,
         &mut marks,
     ) {
-        return hanging.text.clone();
+        return hanging.excerpt.copied(alloc);
     }
     let left_out = LeftOut {
         calls: calls_of(alloc, &hanging.units, &marks)?,
         ranks: marks_within(alloc, hanging.program.ranks() as usize, &ranks)?,
     };
-    without(alloc, &hanging.text, &left_out)
+    without(alloc, &hanging.excerpt, &left_out)
 }

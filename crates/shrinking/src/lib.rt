@@ -5,15 +5,19 @@
 
 mod cutting;
 mod driving;
+mod excerpts;
 mod groups;
 mod halving;
 mod laws;
 mod leaving;
+mod left;
 mod lines;
+mod mapping;
 mod mates;
 mod pairing;
 mod ranks;
 mod running;
+mod telling;
 mod tidying;
 mod ties;
 mod trying;
@@ -22,3 +26,5 @@ mod units;
 pub use driving::{NotShrunk, Shrunk, shrink};
 pub use halving::{NotShrunkLong, shrink_long};
 pub use laws::{long_hangs_are_short, short_hangs_are_long};
+pub use mapping::left_map;
+pub use telling::left_line;

@@ -1,6 +1,7 @@
 //! The lines of a program's text.
 
-ghost use Rattle.std.specs.Prelude.{◌≡◌};
+ghost use Rattle.std.specs.Prelude.{◌≡◌, IfOk, map};
+ghost use Rattle.shrinking.specs.Left.{lines_in};
 ghost use Rattle.shrinking.specs.Shrinking.{count_lines};
 
 use calltext::Verb;
@@ -14,7 +15,9 @@ pub fn count_lines(text: &[u8]) -> usize
 }
 
 /// The lines of a text, without their LFs. What follows the last LF is the last item.
-pub fn lines_of(alloc: Global, text: &[u8]) -> Result<Vec<&[u8]>, AllocError> {
+pub fn lines_of(alloc: Global, text: &[u8]) -> Result<Vec<&[u8]>, AllocError>
+    ensures { IfOk result (λ lines. map (λ line. line.now) lines.items ≡ lines_in text.now) }
+{
     text.split(|byte| *byte == b'\n').collect(alloc)
 }
 

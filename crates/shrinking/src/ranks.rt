@@ -1,5 +1,6 @@
 //! Texts without some of their ranks, and how the others are numbered then.
 
+use crate::excerpts::Excerpt;
 use crate::lines::{count_ranks, is_rank, lines_of, verb_of};
 use calltext::Verb;
 use plaintext::{number_of, put_number, words_of};
@@ -106,18 +107,19 @@ fn numbers_without(alloc: Global, text: &[u8], rank: u32) -> Result<Vec<u32>, Al
 
 /// The text without the rank of this number, from 0: without its lines and those that name it.
 /// Higher ranks are numbered anew.
-pub fn without_rank(alloc: Global, text: &[u8], rank: u32) -> Result<Vec<u8>, AllocError> {
-    let numbers = numbers_without(alloc, text, rank)?;
-    let lines = lines_of(alloc, text)?;
-    let mut out = Vec::with_capacity(alloc, text.len())?;
+pub fn without_rank(alloc: Global, from: &Excerpt, rank: u32) -> Result<Excerpt, AllocError> {
+    let numbers = numbers_without(alloc, &from.text, rank)?;
+    let lines = lines_of(alloc, &from.text)?;
+    let mut out = from.emptied(alloc)?;
     let mut inside = false;
-    for line in lines.iter() {
+    for (index, line) in lines.iter().enumerate() {
         let words = words_of(alloc, line)?;
         if is_rank(line) {
             inside = names(&words, rank);
         }
         if !inside && !line.is_empty() && !names(&words, rank) {
-            put_renumbered(&mut out, &words, &numbers)?;
+            put_renumbered(&mut out.text, &words, &numbers)?;
+            out.numbers.push(from.number_at(index))?;
         }
     }
     Ok(out)

@@ -3,6 +3,7 @@
 ghost use Rattle.std.specs.Prelude.{◌≡◌, IfOk, IfSome, OnOk};
 ghost use Rattle.shrinking.specs.Shrinking.{CanHangLong, IsShrunkLong};
 
+use crate::excerpts::Excerpt;
 use crate::lines::count_lines;
 use crate::trying::is_smaller;
 use crate::units::{Units, units_of};
@@ -15,7 +16,7 @@ use std::alloc::{AllocError, Global};
 /// A text that hangs: its program, and its units by the run of it that buffers least.
 #[derive(Drop)]
 pub struct Hanging {
-    pub text: Vec<u8>,
+    pub excerpt: Excerpt,
     pub program: LongProgram,
     pub units: Units,
 }
@@ -39,17 +40,17 @@ fn stuck_end(alloc: Global, text: &[u8]) -> Result<Option<(LongProgram, State)>,
 }
 
 /// The text with its program and units, if that run of it ends stuck.
-pub fn read_hanging(alloc: Global, text: Vec<u8>) -> Result<Option<Hanging>, AllocError>
-    ensures same { IfOk result (λ found. IfSome found (λ hanging. hanging.text.items ≡ text.items)) }
-    ensures hangs { IfOk result (λ found. IfSome found (λ hanging. CanHangLong text.items)) }
+pub fn read_hanging(alloc: Global, excerpt: Excerpt) -> Result<Option<Hanging>, AllocError>
+    ensures same { IfOk result (λ found. IfSome found (λ hanging. hanging.excerpt.text.items ≡ excerpt.text.items)) }
+    ensures hangs { IfOk result (λ found. IfSome found (λ hanging. CanHangLong excerpt.text.items)) }
 {
-    let found = stuck_end(alloc, &text)?;
+    let found = stuck_end(alloc, &excerpt.text)?;
     let Some((program, end)) = found else {
         return Ok(None);
     };
-    let units = units_of(alloc, &text, &program, &end)?;
+    let units = units_of(alloc, &excerpt.text, &program, &end)?;
     Ok(Some(Hanging {
-        text,
+        excerpt,
         program,
         units,
     }))
@@ -60,16 +61,16 @@ pub fn read_hanging(alloc: Global, text: Vec<u8>) -> Result<Option<Hanging>, All
 pub fn improve_long(
     alloc: Global,
     best: &mut Hanging,
-    candidate: Vec<u8>,
+    candidate: Excerpt,
     left: &mut u64,
 ) -> Result<(), AllocError>
-    requires { CanHangLong best.old.text.items }
-    ensures { OnOk result (IsShrunkLong best.old.text.items best.new.text.items) }
+    requires { CanHangLong best.old.excerpt.text.items }
+    ensures { OnOk result (IsShrunkLong best.old.excerpt.text.items best.new.excerpt.text.items) }
 {
-    if *left == 0 || !is_smaller(&candidate, &best.text) {
+    if *left == 0 || !is_smaller(&candidate.text, &best.excerpt.text) {
         return Ok(());
     }
-    *left = left.saturating_sub(count_lines(&candidate) as u64);
+    *left = left.saturating_sub(count_lines(&candidate.text) as u64);
     let found = read_hanging(alloc, candidate)?;
     let Some(smaller) = found else {
         return Ok(());

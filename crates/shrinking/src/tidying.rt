@@ -1,5 +1,6 @@
 //! Texts in which each request is started and waited for, and each handle made and received on.
 
+use crate::excerpts::Excerpt;
 use crate::lines::{is_call, is_rank, lines_of, verb_of};
 use calltext::Verb;
 use plaintext::words_of;
@@ -66,9 +67,11 @@ fn follow<'a>(open: &mut Vec<&'a [u8]>, words: &[&'a [u8]]) -> Result<(), AllocE
     Ok(())
 }
 
-/// Adds the words of a line, without names that aren't open, or nothing where all that it uses up aren't.
+/// Adds the words of the line of this number, without names that aren't open, or nothing where all
+/// that it uses up aren't.
 fn put_used<'a>(
-    out: &mut Vec<u8>,
+    out: &mut Excerpt,
+    number: usize,
     alloc: Global,
     words: &[&'a [u8]],
     open: &mut Vec<&'a [u8]>,
@@ -78,25 +81,28 @@ fn put_used<'a>(
         return Ok(());
     };
     follow(open, &kept)?;
-    put_words(out, &kept)?;
-    out.push(b'\n')?;
+    put_words(&mut out.text, &kept)?;
+    out.text.push(b'\n')?;
+    out.numbers.push(number)?;
     Ok(())
 }
 
 /// The text without waits for requests that no line above starts, and without receives on handles that no line above makes.
-fn without_unknown(alloc: Global, text: &[u8]) -> Result<Vec<u8>, AllocError> {
-    let lines = lines_of(alloc, text)?;
-    let mut out = Vec::with_capacity(alloc, text.len())?;
+fn without_unknown(alloc: Global, from: &Excerpt) -> Result<Excerpt, AllocError> {
+    let lines = lines_of(alloc, &from.text)?;
+    let mut out = from.emptied(alloc)?;
     let mut open = Vec::new(alloc);
-    for line in lines.iter() {
+    for (index, line) in lines.iter().enumerate() {
+        let number = from.number_at(index);
         if is_rank(line) {
             open.clear();
         }
         if is_call(line) {
             let words = words_of(alloc, line)?;
-            put_used(&mut out, alloc, &words, &mut open)?;
+            put_used(&mut out, number, alloc, &words, &mut open)?;
         } else if !line.is_empty() {
-            put_line(&mut out, line)?;
+            put_line(&mut out.text, line)?;
+            out.numbers.push(number)?;
         }
     }
     Ok(out)
@@ -121,37 +127,39 @@ fn is_wanted<'a>(
 }
 
 /// The text without starts of requests that no line below waits for, and without handles that no line below receives on.
-fn without_left(alloc: Global, text: &[u8]) -> Result<Vec<u8>, AllocError> {
-    let lines = lines_of(alloc, text)?;
-    let mut kept = Vec::new(alloc);
+fn without_left(alloc: Global, from: &Excerpt) -> Result<Excerpt, AllocError> {
+    let lines = lines_of(alloc, &from.text)?;
+    let mut stay = vec![in alloc; false; lines.len()]?;
     let mut wanted = Vec::new(alloc);
-    for line in lines.iter().rev() {
+    for (line, stays) in lines.iter().zip(stay.iter_mut()).rev() {
         if is_rank(line) {
             wanted.clear();
         }
-        if !is_call(line) || is_wanted(alloc, &mut wanted, line)? {
-            kept.push(*line)?;
-        }
+        *stays = !is_call(line) || is_wanted(alloc, &mut wanted, line)?;
     }
-    kept.reverse();
-    let mut out = Vec::with_capacity(alloc, text.len())?;
-    put_all(&mut out, &kept)?;
-    Ok(out)
+    lines_that_stay(alloc, from, &lines, &stay)
 }
 
-/// Adds lines, but for empty ones.
-fn put_all(out: &mut Vec<u8>, lines: &[&[u8]]) -> Result<(), AllocError> {
-    for line in lines {
-        if !line.is_empty() {
-            put_line(out, line)?;
+/// The lines that stay, but for empty ones.
+fn lines_that_stay(
+    alloc: Global,
+    from: &Excerpt,
+    lines: &[&[u8]],
+    stay: &[bool],
+) -> Result<Excerpt, AllocError> {
+    let mut out = from.emptied(alloc)?;
+    for (index, line) in lines.iter().enumerate() {
+        if !line.is_empty() && stay.get(index).copied().unwrap_or(false) {
+            put_line(&mut out.text, line)?;
+            out.numbers.push(from.number_at(index))?;
         }
     }
-    Ok(())
+    Ok(out)
 }
 
 /// The text without lines and names whose other half isn't there: waits without a start, starts without a wait, and the
 /// same of handles.
-pub fn tidied(alloc: Global, text: &[u8]) -> Result<Vec<u8>, AllocError> {
-    let known = without_unknown(alloc, text)?;
+pub fn tidied(alloc: Global, from: &Excerpt) -> Result<Excerpt, AllocError> {
+    let known = without_unknown(alloc, from)?;
     without_left(alloc, &known)
 }

@@ -4,6 +4,7 @@ ghost use Rattle.std.specs.Prelude.{◌<◌, ◌≤◌, length, IfOk, IsTrue, On
 ghost use Rattle.prover.specs.Answers.{CanHang};
 ghost use Rattle.shrinking.specs.Shrinking.{IsShrunk, count_lines};
 
+use crate::excerpts::Excerpt;
 use crate::lines::count_lines;
 use prover::{Reason, Until, walk_ends};
 use std::alloc::{AllocError, Global};
@@ -41,19 +42,19 @@ pub fn is_smaller(one: &[u8], other: &[u8]) -> bool
 /// Takes the candidate in the text's place, where it is smaller and still hangs. Answers whether it was taken.
 pub fn improve(
     alloc: Global,
-    text: &mut Vec<u8>,
-    candidate: Vec<u8>,
+    best: &mut Excerpt,
+    candidate: Excerpt,
     left: &mut u32,
 ) -> Result<bool, AllocError>
-    requires { CanHang text.old.items }
-    ensures { OnOk result (IsShrunk text.old.items text.new.items) }
+    requires { CanHang best.old.text.items }
+    ensures { OnOk result (IsShrunk best.old.text.items best.new.text.items) }
 {
-    if !is_smaller(&candidate, text) {
+    if !is_smaller(&candidate.text, &best.text) {
         return Ok(false);
     }
-    if !hangs(alloc, &candidate, left)? {
+    if !hangs(alloc, &candidate.text, left)? {
         return Ok(false);
     }
-    *text = candidate;
+    *best = candidate;
     Ok(true)
 }

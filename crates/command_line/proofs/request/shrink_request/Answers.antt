@@ -10,5 +10,6 @@ returns c =
       values = (
         path_by_rows m _ c.get_str.result _ c.get_str.ensures c.in_ok-get_str.was,
         given_by_rows m _ c.get_str-2.result c.get_str-2.ensures,
+        given_by_rows m _ c.get_str-3.result c.get_str-3.ensures,
       );
     }

@@ -2,4 +2,4 @@ use Rattle.shrinking.specs.Shrinking.{IsShrunk}
 use Rattle.shrinking.proofs.driving.leave_out_ranks.Given as goal
 
 abbrev pub invariant-loop-place : goal.invariant-loop-place
-invariant-loop-place l = IsShrunk l.initial.text.items l.text.items
+invariant-loop-place l = IsShrunk l.initial.best.text.items l.best.text.items

@@ -2,4 +2,4 @@ use Rattle.shrinking.specs.Shrinking.{IsShrunkLong}
 use Rattle.shrinking.proofs.halving.leave_out_spans.Given as goal
 
 abbrev pub invariant-loop-question : goal.invariant-loop-question
-invariant-loop-question l = IsShrunkLong l.initial.best.text.items l.best.text.items
+invariant-loop-question l = IsShrunkLong l.initial.best.excerpt.text.items l.best.excerpt.text.items
