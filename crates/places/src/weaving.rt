@@ -17,9 +17,13 @@ fn marker(form: Form) -> &'static [u8]
 {
     match form {
         Form::Object => b"\"line\":",
-        Form::Brief | Form::Whole | Form::Graph | Form::Chart | Form::Picture | Form::Page | Form::Messages => {
-            b"line "
-        }
+        Form::Brief
+        | Form::Whole
+        | Form::Graph
+        | Form::Chart
+        | Form::Picture
+        | Form::Page
+        | Form::Messages => { b"line " }
     }
 }
 
@@ -85,7 +89,13 @@ fn told_of<'a>(form: Form, words: &'a [u8]) -> &'a [u8]
 {
     match form {
         Form::Object => words,
-        Form::Brief | Form::Whole | Form::Graph | Form::Chart | Form::Picture | Form::Page | Form::Messages => {
+        Form::Brief
+        | Form::Whole
+        | Form::Graph
+        | Form::Chart
+        | Form::Picture
+        | Form::Page
+        | Form::Messages => {
             match around(words, b" < ") {
                 Some((place, _callers)) => place,
                 None => words,
@@ -100,7 +110,13 @@ fn opening(form: Form) -> &'static [u8]
 {
     match form {
         Form::Object => b",\"place\":\"",
-        Form::Brief | Form::Whole | Form::Graph | Form::Chart | Form::Picture | Form::Page | Form::Messages => b" (",
+        Form::Brief
+        | Form::Whole
+        | Form::Graph
+        | Form::Chart
+        | Form::Picture
+        | Form::Page
+        | Form::Messages => b" (",
     }
 }
 
@@ -110,7 +126,13 @@ fn closing(form: Form) -> &'static [u8]
 {
     match form {
         Form::Object => b"\"",
-        Form::Brief | Form::Whole | Form::Graph | Form::Chart | Form::Picture | Form::Page | Form::Messages => b")",
+        Form::Brief
+        | Form::Whole
+        | Form::Graph
+        | Form::Chart
+        | Form::Picture
+        | Form::Page
+        | Form::Messages => b")",
     }
 }
 
@@ -155,11 +177,7 @@ fn put_source(out: &mut Vec<u8>, source: Option<&[u8]>, digits: &[u8]) -> Result
 }
 
 /// Adds the source that the map has for the line of this number, or the number.
-fn put_in_place(
-    out: &mut Vec<u8>,
-    digits: &[u8],
-    places: &Places<'_>,
-) -> Result<(), AllocError>
+fn put_in_place(out: &mut Vec<u8>, digits: &[u8], places: &Places<'_>) -> Result<(), AllocError>
     ensures { OnOk result ((map : List ℕ) → AreFrom map places.now → (named : List ℕ)
         × IsAtSource map digits.now named × (out.new.items ≡ out.old.items ++ named)) }
 {
@@ -175,7 +193,13 @@ fn is_in_place(form: Form) -> bool
 {
     match form {
         Form::Messages => true,
-        Form::Brief | Form::Whole | Form::Graph | Form::Chart | Form::Picture | Form::Page | Form::Object => false,
+        Form::Brief
+        | Form::Whole
+        | Form::Graph
+        | Form::Chart
+        | Form::Picture
+        | Form::Page
+        | Form::Object => false,
     }
 }
 
@@ -240,8 +264,12 @@ pub fn with_places(
             let strings = woven(alloc, plain, Form::Graph, places)?;
             woven(alloc, &strings, Form::Object, places)
         }
-        Form::Brief | Form::Whole | Form::Graph | Form::Chart | Form::Picture | Form::Page | Form::Messages => {
-            woven(alloc, plain, form, places)
-        }
+        Form::Brief
+        | Form::Whole
+        | Form::Graph
+        | Form::Chart
+        | Form::Picture
+        | Form::Page
+        | Form::Messages => { woven(alloc, plain, form, places) }
     }
 }

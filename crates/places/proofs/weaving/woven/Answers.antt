@@ -1,7 +1,7 @@
 -- Part by part the text is woven.
-use Rattle.std.proofs.Common.{◌∙◌, ℕ, List, [], ◌∷◌, ◌++◌, ap, subst, sym}
+use Rattle.std.proofs.Common.{◌∙◌, ℕ, List, [], ◌∷◌, ◌++◌, ap, subst}
 use Rattle.places.specs.Marks.{IsAround, Lacks}
-use Rattle.places.specs.Woven.{AreCut, kept_of, marker, told_of}
+use Rattle.places.specs.Woven.{AreCut, kept_of, marker}
 use Rattle.places.proofs.Pieces.{cut_more, kept_more, placed_piece, told_more}
 use Rattle.places.proofs.weaving.woven.Goals as goal
 
