@@ -1,2 +1,3 @@
 pub mod Often
 pub mod Losing
+pub mod Messages

@@ -1,4 +1,5 @@
 pub mod Maps
 pub mod Marks
 pub mod Noting
+pub mod Sources
 pub mod Woven

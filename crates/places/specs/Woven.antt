@@ -1,10 +1,11 @@
 -- A text with the places of the lines that it names.
-use Rattle.std.specs.Prelude.{◌≡◌, ◌⊎◌, ◌≤◌, ◌==◌, ◌||◌, ℕ, length, nat_lt, if◌then◌else◌, List, [], ◌∷◌, ◌++◌, codes}
+use Rattle.std.specs.Prelude.{◌≡◌, ◌⊎◌, ◌≤◌, ◌==◌, ◌||◌, ℕ, length, nat_lt, if◌then◌else◌, Bool, true, false, List, [], ◌∷◌, ◌++◌, Option, Some, None, codes}
 use Rattle.std.specs.List.{flat_map}
 use Rattle.settings.specs.declared.form.Form.{Form}
 use Rattle.settings.specs.declared.form.Form.TheVariants as forms
 use Rattle.places.specs.Maps.{AreDigits, HasEntry}
 use Rattle.places.specs.Marks.{BeginsWithNoDigit, IsAround, Lacks}
+use Rattle.places.specs.Sources.{source_of}
 
 -- what stands before the number of a line that is named
 abbrev pub marker : Form → List ℕ
@@ -57,13 +58,10 @@ IsTold _ words told = (Lacks (codes " < ") words × (told ≡ words)) ⊎ ((call
 abbrev pub place_text : Form → List ℕ → List ℕ
 place_text form words = opening form ++ (flat_map (shown form) words ++ closing form)
 
--- a part of the text, and what is added behind it
+-- a part of the text, and what is told in its place
 pub record Piece : Type 0 where
   pub kept : List ℕ
-  pub added : List ℕ
-
-abbrev pub both : Piece → List ℕ
-both piece = piece.kept ++ piece.added
+  pub told : List ℕ
 
 -- what is added behind the digits of a line's number: the place that the map has for that line, or nothing where it has none
 abbrev pub IsSaid : Form → List ℕ → List ℕ → List ℕ → Type 0
@@ -71,31 +69,60 @@ IsSaid form map digits added =
     ((words : List ℕ) × (short : List ℕ) × HasEntry map digits words × IsTold form words short × (added ≡ place_text form short))
     ⊎ (((words : List ℕ) → HasEntry map digits words → ⊥) × (added ≡ []))
 
--- the part ends with the first marker in it and the digits behind that
+-- what names a line in a message: its source, or where none is known its number
+abbrev pub source_text : Option (List ℕ) → List ℕ → List ℕ
+source_text (Some source) digits = flat_map plain_byte source
+source_text None digits = marker forms.Messages ++ digits
+
+-- so, by the words that the map has for the line
+abbrev pub IsAtSource : List ℕ → List ℕ → List ℕ → Type 0
+IsAtSource map digits named =
+    ((words : List ℕ) × HasEntry map digits words × (named ≡ source_text (source_of words) digits))
+    ⊎ (((words : List ℕ) → HasEntry map digits words → ⊥) × (named ≡ source_text None digits))
+
+-- in messages a source stands in place of the number of a line
+abbrev pub is_in_place : Form → Bool
+is_in_place forms.Messages = true
+is_in_place _ = false
+
+abbrev pub IsNamedIf : Bool → Form → List ℕ → List ℕ → List ℕ → Type 0
+IsNamedIf true form map digits named = IsAtSource map digits named
+IsNamedIf false form map digits named = (added : List ℕ) × IsSaid form map digits added × (named ≡ marker form ++ (digits ++ added))
+
+-- what is told of the line whose number has these digits
+abbrev pub IsNamed : Form → List ℕ → List ℕ → List ℕ → Type 0
+IsNamed form = IsNamedIf (is_in_place form) form
+
+-- the part ends with the first marker in it and the digits behind that, and in their place it is told what names their line
 pub record IsPlaced (form : Form) (map : List ℕ) (piece : Piece) : Type 0 where
   pub front : List ℕ
   pub digits : List ℕ
+  pub named : List ℕ
   pub ends : piece.kept ≡ front ++ (marker form ++ digits)
   pub first : (a b : List ℕ) → piece.kept ≡ a ++ (marker form ++ b) → length front ≤ length a
   pub are : AreDigits digits
-  pub said : IsSaid form map digits piece.added
+  pub names : IsNamed form map digits named
+  pub told_is : piece.told ≡ front ++ named
 
 abbrev pub kept_of : List Piece → List ℕ
 kept_of pieces = flat_map (λ piece. piece.kept) pieces
+
+abbrev pub told_of : List Piece → List ℕ
+told_of pieces = flat_map (λ piece. piece.told) pieces
 
 -- each part is such a part, and behind it, in the others and the rest, stands no digit first
 abbrev pub AreCut : Form → List ℕ → List Piece → List ℕ → Type 0
 AreCut form map [] rest = Unit {0}
 AreCut form map (piece ∷ pieces) rest = IsPlaced form map piece × BeginsWithNoDigit (kept_of pieces ++ rest) × AreCut form map pieces rest
 
--- The one text is cut behind each number of a line, and the other is the same with the places added there.
+-- The one text is cut behind each number of a line, and the other is the same with the places told there.
 pub record IsWoven (form : Form) (map plain told : List ℕ) : Type 0 where
   pub pieces : List Piece
   pub rest : List ℕ
   pub cut : AreCut form map pieces rest
   pub last : Lacks (marker form) rest
   pub plain_is : plain ≡ kept_of pieces ++ rest
-  pub told_is : told ≡ flat_map both pieces ++ rest
+  pub told_is : told ≡ told_of pieces ++ rest
 
 -- The text with all its places. Strings of an object name lines as labels of a graph do, with the same quoting: they come first,
 -- then its members.

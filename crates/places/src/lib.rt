@@ -7,6 +7,7 @@
 mod entries;
 mod map;
 mod marks;
+mod sources;
 mod sums;
 mod weaving;
 

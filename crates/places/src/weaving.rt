@@ -1,12 +1,13 @@
 //! A text with the places of the lines that it names.
 
-ghost use Rattle.std.specs.Prelude.{◌≡◌, ◌++◌, IfOk, List, OnOk, ℕ};
+ghost use Rattle.std.specs.Prelude.{◌≡◌, ◌++◌, IfOk, List, OnOk, ℕ, option_copied};
 ghost use Rattle.std.specs.List.{flat_map};
 ghost use Rattle.places.specs.Maps.{AreFrom};
-ghost use Rattle.places.specs.Woven.{HasPlaces, IsSaid, IsTold, IsWoven, Piece, both, closing, drawn_byte, marker, opening, place_text, plain_byte, quoted_byte, shown};
+ghost use Rattle.places.specs.Woven.{HasPlaces, IsAtSource, IsNamed, IsSaid, IsTold, IsWoven, closing, drawn_byte, is_in_place, marker, opening, place_text, plain_byte, quoted_byte, shown, source_text};
 
 use crate::map::Places;
 use crate::marks::{around, digits_of};
+use crate::sources::source_of;
 use settings::Form;
 use std::alloc::{AllocError, Global};
 
@@ -144,23 +145,78 @@ fn put_place(out: &mut Vec<u8>, form: Form, words: &[u8]) -> Result<(), AllocErr
     out.extend_from_slice(closing(form))
 }
 
-/// Adds a part of a text that ends with the number of a line, and the place of that line, where one is known.
-fn put_piece(
+/// Adds the number of a line, and the place of that line, where one is known.
+fn put_beside(
     out: &mut Vec<u8>,
     form: Form,
-    front: &[u8],
     digits: &[u8],
     places: &Places<'_>,
 ) -> Result<(), AllocError>
-    ensures { OnOk result ((map : List ℕ) → AreFrom map places.now → (piece : Piece)
-        × IsSaid form map digits.now piece.added × (piece.kept ≡ front.now ++ (marker form ++ digits.now)) × (out.new.items ≡ out.old.items ++ both piece)) }
+    ensures { OnOk result ((map : List ℕ) → AreFrom map places.now → (added : List ℕ)
+        × IsSaid form map digits.now added × (out.new.items ≡ out.old.items ++ (marker form ++ (digits.now ++ added)))) }
 {
-    out.extend_from_slice(front)?;
     out.extend_from_slice(marker(form))?;
     out.extend_from_slice(digits)?;
     match places.words_at(digits) {
         Some(words) => put_place(out, form, told_of(form, words)),
         None => Ok(()),
+    }
+}
+
+/// Adds the source of a line, or where none is known its number.
+fn put_source(out: &mut Vec<u8>, source: Option<&[u8]>, digits: &[u8]) -> Result<(), AllocError>
+    ensures { OnOk result (out.new.items ≡ out.old.items ++ source_text (option_copied source.entry) digits.now) }
+{
+    match source {
+        Some(source) => put_words(out, Form::Messages, source),
+        None => {
+            out.extend_from_slice(marker(Form::Messages))?;
+            out.extend_from_slice(digits)
+        }
+    }
+}
+
+/// Adds the source that the map has for the line of this number, or the number.
+fn put_in_place(out: &mut Vec<u8>, digits: &[u8], places: &Places<'_>) -> Result<(), AllocError>
+    ensures { OnOk result ((map : List ℕ) → AreFrom map places.now → (named : List ℕ)
+        × IsAtSource map digits.now named × (out.new.items ≡ out.old.items ++ named)) }
+{
+    match places.words_at(digits) {
+        Some(words) => put_source(out, source_of(words), digits),
+        None => put_source(out, None, digits),
+    }
+}
+
+/// Whether a text of this form tells a source in place of the number of a line.
+fn is_in_place(form: Form) -> bool
+    ensures { result ≡ is_in_place form }
+{
+    match form {
+        Form::Messages => true,
+        Form::Brief
+        | Form::Whole
+        | Form::Graph
+        | Form::Chart
+        | Form::Picture
+        | Form::Page
+        | Form::Object => false,
+    }
+}
+
+/// Adds what is told of the line of this number.
+fn put_named(
+    out: &mut Vec<u8>,
+    form: Form,
+    digits: &[u8],
+    places: &Places<'_>,
+) -> Result<(), AllocError>
+    ensures { OnOk result ((map : List ℕ) → AreFrom map places.now → (named : List ℕ)
+        × IsNamed form map digits.now named × (out.new.items ≡ out.old.items ++ named)) }
+{
+    if is_in_place(form) {
+        put_in_place(out, digits, places)
+    } else {
+        put_beside(out, form, digits, places)
     }
 }
 
@@ -177,7 +233,8 @@ fn woven(
     let mut rest = plain;
     while let Some((front, behind)) = around(rest, marker(form)) {
         let (digits, behind) = digits_of(behind);
-        put_piece(&mut out, form, front, digits, places)?;
+        out.extend_from_slice(front)?;
+        put_named(&mut out, form, digits, places)?;
         rest = behind;
     }
     out.extend_from_slice(rest)?;
@@ -187,8 +244,13 @@ fn woven(
 /// A text that names lines, with their places beside them, in the form in which it was printed: in
 /// brackets behind each number of a line, without callers; in an object so in its strings, and as
 /// the member `place`, with callers, behind each member `line`. Each line that the map says
-/// something of gets its place, wherever its number stands behind the marker, and no other. The only
-/// error is want of memory.
+/// something of gets its place, wherever its number stands behind the marker, and no other.
+///
+/// In messages a place's source, its file and line, stands instead of the words `line N`: of the
+/// parts of what the map says, which blanks and commas part, the first that is a name without
+/// quotes, a colon and digits. Where there is none, `line N` stays.
+///
+/// The only error is want of memory.
 pub fn with_places(
     alloc: Global,
     plain: &[u8],
