@@ -11,10 +11,21 @@ use Rattle.waits.specs.Waiting.{Stands}
 use Rattle.scene.specs.Labels.{Label, call_labels, label_at, labels, rank_of}
 use Rattle.explain.specs.Messages.{AreTold, IsLabelled, IsTold}
 
-pub told_more : (ls : List Label) (p : MpiProgram) (m : Configuration) (standings : List Standing) (rank : ℕ) (above line new : List ℕ) → AreTold ls p m standings rank above
+told_more : (ls : List Label) (p : MpiProgram) (m : Configuration) (standings : List Standing) (rank : ℕ) (above line new : List ℕ) → AreTold ls p m standings rank above
     → IsTold ls p m rank (slice_get standings rank) line → new ≡ above ++ line → AreTold ls p m standings (rank + 1) new
 told_more ls p m standings rank above line new are is both =
     subst (λ (n : ℕ). AreTold ls p m standings n new) (sym (add-one rank)) (above, line, are, is, both)
+
+-- one more rank, in a list that is the same
+pub told_next : (ls : List Label) (p : MpiProgram) (m : Configuration) (standings items : List Standing) (rank : ℕ) (d : Standing) (above new : List ℕ) → items ≡ standings → rank < length items
+    → AreTold ls p m standings rank above → ((r : ℕ) (standing : Standing) → slice_get standings r ≡ Some standing → IsLabelled ls standing)
+    → (IsLabelled ls (get_or items rank d) → (line : List ℕ) × IsTold ls p m rank (Some (get_or items rank d)) line × (new ≡ above ++ line))
+    → AreTold ls p m standings (rank + 1) new
+told_next ls p m standings items rank d above new same within are labelled told =
+    let there : slice_get standings rank ≡ Some (get_or items rank d) =
+    ap (λ (l : List Standing). slice_get l rank) (sym same) ∙ slice_get-get_or items rank d within in
+    let (line, is, both) = told (labelled rank (get_or items rank d) there) in
+    told_more ls p m standings rank above line new are (subst (λ (standing : Option Standing). IsTold ls p m rank standing line) (sym there) is) both
 
 length_labels : (lines : List (List ℕ)) (numbers : List ℕ) (calls : List Call) (count : ℕ) → length (labels lines numbers calls count) ≡ count
 length_labels lines numbers calls zero = refl
@@ -23,7 +34,7 @@ length_labels lines numbers calls (suc count) =
     ∙ ap (λ (n : ℕ). n + 1) (length_labels lines numbers calls count) ∙ add-one count
 
 own_within : (p : MpiProgram) (rank call : ℕ) (known : Option Call) → call_at p call ≡ known → IsTrue (is_of_rank known rank) → call < length p.calls
-own_within p rank call None is own = absurd own
+own_within p rank call None is own = absurd cc
 own_within p rank call (Some known) is own = slice_get_within p.calls call known is
 
 -- where a rank stands so, the call that it waits in has a label
@@ -34,5 +45,6 @@ stands_labelled text source p m rank Ready stands = tt
 stands_labelled text source p m rank (Waits call) stands =
     let none : Label = record { number = 0; rank = 0; line = 0; words = [] } in
     let all = call_labels text source p in
-    let within : call < length all = omega (arith, length_labels _ _ p.calls (length p.calls), own_within p rank call (call_at p call) refl stands.own) in
+    let many : length all ≡ length p.calls = length_labels _ _ p.calls (length p.calls) in
+    let within : call < length all = omega (arith, many, own_within p rank call (call_at p call) refl stands.own) in
     (get_or all call none, slice_get-get_or all call none within)

@@ -1,6 +1,6 @@
 //! A line for each rank that waits, as compilers tell faults.
 
-ghost use Rattle.std.specs.Prelude.{◌≡◌, ◌++◌, ℕ, [], IfOk, IfSome, List, OnOk, Some, length, slice_get};
+ghost use Rattle.std.specs.Prelude.{◌≡◌, ◌⊎◌, ◌++◌, ℕ, [], IfOk, IfSome, List, OnOk, Some, length, slice_get};
 ghost use Rattle.semantics.specs.Machine.{IsStuckRun};
 ghost use Rattle.waits.specs.declared.standings.Standing.{Standing};
 ghost use Rattle.waits.specs.Cycles.{HasEdge, awaited_by};

@@ -12,6 +12,7 @@ use Rattle.semantics.specs.Machine.{IsStuckRun}
 use Rattle.semantics.specs.declared.state.Step.{Step}
 use Rattle.charts.specs.Chart.{chart_of}
 use Rattle.explain.specs.Losing.{TellsLosses}
+use Rattle.explain.specs.Messages.{IsMessages}
 use Rattle.explain.specs.Often.{BeginsWith, often_line}
 use Rattle.frequency.specs.declared.judging.Frequency.{Frequency}
 use Rattle.frequency.specs.declared.judging.Frequency.TheVariants as often
@@ -145,7 +146,7 @@ pub record IsExplainedPage (program : List ℕ) (source : ProgramText) (p : MpiP
   pub is_page : IsPage program source p steps (well_steps often) words page
 
 -- the text draws the run of these steps, as a chart or as a picture, where the form is one of these, and as a text says how often the
--- program gets stuck; a page does both
+-- program gets stuck; a page does both; and messages have a line for each rank that waits
 abbrev pub IsDrawnFrom : Form → List ℕ → ProgramText → MpiProgram → List Step → List ℕ → Type 0
 IsDrawnFrom forms.Chart program source p steps text = text ≡ chart_of program source p steps
 IsDrawnFrom forms.Picture program source p steps text = IsPicture program source p steps text
@@ -154,7 +155,7 @@ IsDrawnFrom forms.Brief program source p steps text = SaysHowOften p text
 IsDrawnFrom forms.Whole program source p steps text = SaysHowOften p text
 IsDrawnFrom forms.Graph program source p steps text = Unit {0}
 IsDrawnFrom forms.Object program source p steps text = Unit {0}
-IsDrawnFrom forms.Messages program source p steps text = Unit {0}
+IsDrawnFrom forms.Messages program source p steps text = IsMessages program source p steps text
 
 -- so, of what the program's text says within limits
 abbrev pub IsDrawnWithin : Limits → Form → List ℕ → MpiProgram → List Step → List ℕ → Type 0

@@ -14,7 +14,7 @@ use calltext::LongSource;
 use charts::{chart, picture};
 use checker::{NoRun, Reason, program_of};
 use choices::{Decided, Limits, decide, decide_run, told};
-use explain::{explanation, wait_graph};
+use explain::{explanation, messages, wait_graph};
 use finishing::frequency_of_program;
 use frequency::{Frequency, frequency_of};
 use htmlpage::page;
@@ -284,7 +284,7 @@ pub fn run_text<R: Threads + Sync>(
 {
     match form {
         Form::Graph => wait_graph(alloc, text, source, program, steps),
-        Form::Messages => wait_graph(alloc, text, source, program, steps),
+        Form::Messages => messages(alloc, text, source, program, steps),
         Form::Chart => chart(alloc, text, source, program, steps),
         Form::Picture => picture(alloc, text, source, program, steps),
         Form::Page => explained_page(rt, alloc, text, source, program, steps, asked),

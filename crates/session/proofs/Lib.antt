@@ -5,6 +5,7 @@ pub mod TaskEnds
 pub mod SmallerPrograms
 pub mod DecidedPages
 pub mod ExplainedPages
+pub mod PlacedTexts
 pub mod MappedPages
 pub mod RunLaws
 pub mod Ended

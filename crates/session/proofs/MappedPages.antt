@@ -1,81 +1,24 @@
 -- What a page with the places of a map tells.
-use Rattle.std.proofs.Common.{◌≡◌, ◌∙◌, ◌⊎◌, ◌<◌, ℕ, Bool, true, false, not, ◌&&◌, ◌==◌, List, [], ◌∷◌, ◌++◌, Option, Some, None, inl, inr, refl, ap, sym, subst, arith, codes, decimal, append_assoc, get_or, drop}
-use Rattle.std.specs.List.{flat_map}
-use Rattle.calltext.proofs.Conjunctions.{and_true}
+use Rattle.std.proofs.Common.{◌≡◌, ◌∙◌, ◌<◌, ℕ, Bool, true, false, List, ◌++◌, Option, Some, None, inl, inr, refl, sym, arith, codes, decimal}
 use Rattle.settings.specs.declared.form.Form.{Form}
 use Rattle.settings.specs.declared.form.Form.TheVariants as forms
-use Rattle.places.specs.Woven.{AreCut, HasPlaces, IsPlaced, IsWoven, Piece, both, kept_of, marker}
+use Rattle.places.specs.Woven.{HasPlaces, IsWoven}
 use Rattle.places.specs.declared.map.MapFault.{MapFault}
 use Rattle.places.specs.declared.map.MapFault.TheVariants as faults
 use Rattle.session.specs.Explaining.{is_object}
 use Rattle.session.specs.Lines.{deadlock_line}
 use Rattle.session.specs.Mapping.{IsMapRefused, IsMapped}
 use Rattle.session.proofs.DeadlockLines.{PageTells, deadlock_begins, plainly_differs}
+use Rattle.session.proofs.PlacedTexts.{IsUnplaced, woven_begins}
 
--- the list has no letter i, which stands before each number of a line
-abbrev clean : List ℕ → Bool
-clean [] = true
-clean (b ∷ bytes) = not (b == 105) && clean bytes
-
-clean_behind : (xs ys : List ℕ) → clean (xs ++ ys) ≡ true → clean ys ≡ true
-clean_behind [] ys h = h
-clean_behind (x ∷ xs) ys h = clean_behind xs ys (and_true (not (x == 105)) (clean (xs ++ ys)) h).1
-
-marked_unclean : (form : Form) (rest : List ℕ) → clean (marker form ++ rest) ≡ true → ⊥
-marked_unclean forms.Object rest h = cc
-marked_unclean forms.Brief rest h = cc
-marked_unclean forms.Whole rest h = cc
-marked_unclean forms.Graph rest h = cc
-marked_unclean forms.Chart rest h = cc
-marked_unclean forms.Picture rest h = cc
-marked_unclean forms.Page rest h = cc
-marked_unclean forms.Messages rest h = cc
-
-clean_deadlock : (as_json : Bool) → clean (deadlock_line as_json) ≡ true
-clean_deadlock false = refl
-clean_deadlock true = refl
-
--- of two parts that make one list, the one begins with the other
-abbrev Cut : List ℕ → List ℕ → List ℕ → List ℕ → Type 0
-Cut xs ys zs ws = ((m : List ℕ) × (zs ≡ xs ++ m) × (ys ≡ m ++ ws)) ⊎ ((m : List ℕ) × (xs ≡ zs ++ m))
-
-cut : (xs ys zs ws : List ℕ) → xs ++ ys ≡ zs ++ ws → Cut xs ys zs ws
-cut [] ys zs ws e = inl (zs, refl, e)
-cut (x ∷ xs) ys [] ws e = inr (x ∷ xs, refl)
-cut (x ∷ xs) ys (z ∷ zs) ws e = longer (cut xs ys zs ws (ap (λ (l : List ℕ). drop 1 l) e))
-  where
-    same : x ≡ z
-    same = ap (λ (l : List ℕ). get_or l 0 0) e
-
-    longer : Cut xs ys zs ws → Cut (x ∷ xs) ys (z ∷ zs) ws
-    longer (inl (m, first, rest)) = inl (m, ap (λ (b : ℕ). b ∷ zs) (sym same) ∙ ap (λ (l : List ℕ). x ∷ l) first, rest)
-    longer (inr (m, first)) = inr (m, ap (λ (b : ℕ). b ∷ xs) same ∙ ap (λ (l : List ℕ). z ∷ l) first)
-
--- what begins the text with the places, and has no letter i, begins the text without them: it ends before the first place
-begins_by : (form : Form) (map : List ℕ) (piece : Piece) (pieces : List Piece) (tail front rest behind : List ℕ) → IsPlaced form map piece → Cut piece.kept behind front rest
-    → clean front ≡ true → (more : List ℕ) × (kept_of (piece ∷ pieces) ++ tail ≡ front ++ more)
-begins_by form map piece pieces tail front rest behind is (inr (m, first)) h =
-    let others = kept_of pieces ++ tail in
-    (m ++ others, append_assoc piece.kept (kept_of pieces) tail ∙ ap (λ (l : List ℕ). l ++ others) first ∙ append_assoc front m others)
-begins_by form map piece pieces tail front rest behind placed (inl (m, first, then)) h =
-    let text : front ≡ placed.front ++ (marker form ++ (placed.digits ++ m)) =
-    first ∙ ap (λ (l : List ℕ). l ++ m) placed.ends ∙ append_assoc placed.front (marker form ++ placed.digits) m
-    ∙ ap (λ (l : List ℕ). placed.front ++ l) (append_assoc (marker form) placed.digits m) in
-    absurd (marked_unclean form (placed.digits ++ m) (clean_behind placed.front (marker form ++ (placed.digits ++ m)) (subst (λ (l : List ℕ). clean l ≡ true) text h)))
-
-woven_begins : (form : Form) (map : List ℕ) (pieces : List Piece) (tail front rest : List ℕ) → AreCut form map pieces tail → clean front ≡ true
-    → flat_map both pieces ++ tail ≡ front ++ rest → (more : List ℕ) × (kept_of pieces ++ tail ≡ front ++ more)
-woven_begins form map [] tail front rest are h e = (rest, e)
-woven_begins form map (piece ∷ pieces) tail front rest are h e =
-    let told = flat_map both pieces in
-    let behind = piece.added ++ (told ++ tail) in
-    begins_by form map piece pieces tail front rest behind are.0
-    (cut piece.kept behind front rest (sym (append_assoc piece.kept piece.added (told ++ tail)) ∙ sym (append_assoc (both piece) told tail) ∙ e)) h
+deadlock_unplaced : (as_json : Bool) → IsUnplaced (deadlock_line as_json)
+deadlock_unplaced false = record { unmarked = refl; unnamed = refl; ends = refl }
+deadlock_unplaced true = record { unmarked = refl; unnamed = refl; ends = refl }
 
 woven_tells : (form : Form) (map plain text : List ℕ) (status : ℕ) → IsWoven form map plain text → PageTells text status → PageTells plain status
 woven_tells form map plain text status w (inl one) = inl one
 woven_tells form map plain text status w (inr begins) =
-    let is = woven_begins form map w.pieces w.rest (deadlock_line begins.0) begins.1 w.cut (clean_deadlock begins.0) (sym w.told_is ∙ begins.2) in
+    let is = woven_begins form map w.pieces w.rest (deadlock_line begins.0) begins.1 w.cut (deadlock_unplaced begins.0) (sym w.told_is ∙ begins.2) in
     inr (begins.0, is.0, w.plain_is ∙ is.1)
 
 pub places_tell : (form : Form) (map plain text : List ℕ) (status : ℕ) → HasPlaces form map plain text → PageTells text status → PageTells plain status
