@@ -35,7 +35,9 @@ fn added(
     match form {
         Form::Brief | Form::Whole => losses(alloc, text, program),
         Form::Chart => Ok(String::new(alloc)),
-        Form::Graph | Form::Picture | Form::Page | Form::Object | Form::Messages => Ok(String::new(alloc)),
+        Form::Graph | Form::Picture | Form::Page | Form::Object | Form::Messages => Ok(String::new(
+            alloc,
+        )),
     }
 }
 

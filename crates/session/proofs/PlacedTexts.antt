@@ -124,9 +124,12 @@ name_of_source part h =
     let n = length part - last_digits part in
     let front = take n part in
     let (i, within, colon, other) = name_in front (and_true (nat_lt 0 (last_digits part)) (is_name front) h).1 in
-    let few : length front ≡ n = length-take-le n part (omega arith) in
-    (i, omega (arith, within, few), sym (get_or-take n part (suc i) 0 (omega (arith, within, few))) ∙ colon,
-    λ quote. other (get_or-take n part i 0 (omega (arith, within, few)) ∙ quote))
+    let few : length front ≡ n = length-take-le n part (omega arith) in (
+      i,
+      omega (arith, within, few),
+      sym (get_or-take n part (suc i) 0 (omega (arith, within, few))) ∙ colon,
+      λ quote. other (get_or-take n part i 0 (omega (arith, within, few)) ∙ quote),
+    )
 
 -- what is told for a source doesn't stand in an unplaced line
 no_source_in : (line front source more : List ℕ) → IsUnplaced line → is_source source ≡ true → line ≡ front ++ (flat_map plain_byte source ++ more) → ⊥
