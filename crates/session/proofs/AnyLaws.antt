@@ -13,6 +13,7 @@ use Rattle.session.specs.Lines.{early_line}
 use Rattle.session.specs.Pages.{IsEncoded}
 use Rattle.session.specs.Runs.{SessionRun}
 use Rattle.session.specs.Several.{beside_each, beside_several}
+use Rattle.session.specs.Sweeping.{form_of_answer}
 use Rattle.session.specs.Unrolling.{no_way}
 use Rattle.session.specs.declared.told.Told.TheVariants as told
 use Rattle.session.proofs.DeadlockLines.{PageTells, deadlock_page, deadlock_printed, dimacs_untold, formula_untold, help_untold, line_tells, version_untold}
@@ -198,13 +199,13 @@ asked_told run (to_decide_each programs junit beside as_json) asks (inl (stands,
     absurd (complaint_untold run beside_several 6 (λ one. omega (arith, one)) complains says)
 asked_told run (to_decide_each programs junit beside as_json) asks (inr (alone, others, ends)) says =
     let page = deadlock_page ends says in
-    let hangs = each_hangs run.tells.writes run.before run.after _ junit programs page.0 (decided_true run.before as_json) page.1 page.2 page.3 in
+    let hangs = each_hangs run.tells.writes run.before run.after (form_of_answer as_json) junit programs page.0 (decided_true run.before as_json) page.1 page.2 page.3 in
     inr (inr (inr (inr (inl (programs, junit, inl (beside, as_json, asks), (hangs.path, hangs.named, hangs.hangs))))))
 asked_told run (to_explain_each programs junit workers depth budget form beside) asks (inl (stands, same, complains)) says =
     absurd (complaint_untold run beside_each 6 (λ one. omega (arith, one)) complains says)
 asked_told run (to_explain_each programs junit workers depth budget form beside) asks (inr (alone, others, ends)) says =
     let page = deadlock_page ends says in
-    let hangs = each_hangs run.tells.writes run.before run.after _ junit programs page.0 (explained_true run.before budget form) page.1 page.2 page.3 in
+    let hangs = each_hangs run.tells.writes run.before run.after form junit programs page.0 (explained_true run.before budget form) page.1 page.2 page.3 in
     inr (inr (inr (inr (inl (programs, junit, inr (workers, depth, budget, form, beside, asks), (hangs.path, hangs.named, hangs.hangs))))))
 
 explained_untold : (run : SessionRun) (kind : ErrorKind) → Explains run kind → TellsDeadlock run → ⊥

@@ -8,7 +8,8 @@ use Rattle.command_line.specs.Requests.{AskFor}
 use Rattle.session.specs.Endings.{EndsSeveral, FailsEarly, SessionEnds}
 use Rattle.session.specs.Pages.{ChangesAtMost}
 use Rattle.session.specs.Runs.{Ends, SessionRun}
-use Rattle.session.specs.Several.{IsOfEach, cases_of}
+use Rattle.session.specs.Several.{IsOfEach, beside_each, beside_several, cases_of}
+use Rattle.session.specs.Sweeping.{form_of_answer}
 use Rattle.session.specs.SweepLaws.{AskEach, EachRunIsRight}
 use Rattle.session.specs.declared.page.Want.{Want}
 use Rattle.session.proofs.PhaseLaws.{file_kept, task_or_same}
@@ -39,32 +40,32 @@ pub each_run : EachRunIsRight
 each_run = record {
   safe = λ run programs junit path program ends asks zero named held. elim asks [
     | inl decides ↦
-        let page = page_printed 0 (omega arith) (inl (each_end run _ _ (task_ends run ends decides.2) (omega (arith, zero)))) zero in
-        each_safe run.tells.writes run.before run.after _ junit programs page.0 (decided_true run.before decides.1) page.1 path program named held
+        let page = page_printed 0 (omega arith) (inl (each_end run decides.0 beside_several (task_ends run ends decides.2) (omega (arith, zero)))) zero in
+        each_safe run.tells.writes run.before run.after (form_of_answer decides.1) junit programs page.0 (decided_true run.before decides.1) page.1 path program named held
     | inr explains ↦
-        let page = page_printed 0 (omega arith) (inl (each_end run _ _ (task_ends run ends explains.5) (omega (arith, zero)))) zero in
-        each_safe run.tells.writes run.before run.after _ junit programs page.0 (explained_true run.before explains.2 explains.3) page.1 path program named held
+        let page = page_printed 0 (omega arith) (inl (each_end run explains.4 beside_each (task_ends run ends explains.5) (omega (arith, zero)))) zero in
+        each_safe run.tells.writes run.before run.after explains.3 junit programs page.0 (explained_true run.before explains.2 explains.3) page.1 path program named held
   ];
   stuck = λ run programs junit ends asks one. elim asks [
     | inl decides ↦
-        let page = page_printed 1 (omega arith) (inl (each_end run _ _ (task_ends run ends decides.2) (omega (arith, one)))) one in
-        let hangs = each_hangs run.tells.writes run.before run.after _ junit programs page.0 (decided_true run.before decides.1) 1 page.1 (inl refl) in
+        let page = page_printed 1 (omega arith) (inl (each_end run decides.0 beside_several (task_ends run ends decides.2) (omega (arith, one)))) one in
+        let hangs = each_hangs run.tells.writes run.before run.after (form_of_answer decides.1) junit programs page.0 (decided_true run.before decides.1) 1 page.1 (inl refl) in
         (hangs.path, hangs.named, hangs.hangs)
     | inr explains ↦
-        let page = page_printed 1 (omega arith) (inl (each_end run _ _ (task_ends run ends explains.5) (omega (arith, one)))) one in
-        let hangs = each_hangs run.tells.writes run.before run.after _ junit programs page.0 (explained_true run.before explains.2 explains.3) 1 page.1 (inl refl) in
+        let page = page_printed 1 (omega arith) (inl (each_end run explains.4 beside_each (task_ends run ends explains.5) (omega (arith, one)))) one in
+        let hangs = each_hangs run.tells.writes run.before run.after explains.3 junit programs page.0 (explained_true run.before explains.2 explains.3) 1 page.1 (inl refl) in
         (hangs.path, hangs.named, hangs.hangs)
   ];
   reported = λ run programs file ends asks writes low. elim asks [
     | inl decides ↦
-        let page = page_printed run.status low (inl (each_end run _ _ (task_ends run ends decides.2) low)) refl in
+        let page = page_printed run.status low (inl (each_end run decides.0 beside_several (task_ends run ends decides.2) low)) refl in
         report_of run programs file page.0 run.status page.1 writes
     | inr explains ↦
-        let page = page_printed run.status low (inl (each_end run _ _ (task_ends run ends explains.5) low)) refl in
+        let page = page_printed run.status low (inl (each_end run explains.4 beside_each (task_ends run ends explains.5) low)) refl in
         report_of run programs file page.0 run.status page.1 writes
   ];
   others = λ run programs junit path ends asks other. elim asks [
-    | inl decides ↦ kept run _ _ junit path (task_or_same run ends decides.2) other
-    | inr explains ↦ kept run _ _ junit path (task_or_same run ends explains.5) other
+    | inl decides ↦ kept run decides.0 beside_several junit path (task_or_same run ends decides.2) other
+    | inr explains ↦ kept run explains.4 beside_each junit path (task_or_same run ends explains.5) other
   ];
 }
