@@ -1,3 +1,4 @@
 pub mod Entries
 pub mod LongTexts
 pub mod Words
+pub mod Kept

@@ -159,24 +159,33 @@ pub fn shrunk_of(
     })
 }
 
-/// The text with ranks and lines left out, again and again until nothing more can be left out or no
-/// walk is left.
+/// Leaves out ranks and lines, again and again until nothing more can be left out or no walk is left.
+/// Answers whether all was tried.
+fn leave_out_turns(alloc: Global, best: &mut Excerpt, walks: u32) -> Result<bool, AllocError>
+    requires { CanHang best.old.text.items }
+    ensures { OnOk result (IsShrunk best.old.text.items best.new.text.items) }
+{
+    let mut left = walks;
+    let mut complete = false;
+    for _turn in 0..best.text.len() {
+        let before = best.text.len();
+        leave_out(alloc, best, &mut left)?;
+        complete = best.text.len() == before && left > 0;
+        if complete || left == 0 {
+            break;
+        }
+    }
+    Ok(complete)
+}
+
+/// The text with all left out that can be, by so many walks.
 fn leave_out_all(alloc: Global, text: &[u8], walks: u32) -> Result<Shrunk, AllocError>
     requires { CanHang text.now }
     ensures shrunk { IfOk result (λ shrunk. IsShrunk text.now shrunk.text.items) }
     ensures lines { IfOk result (λ shrunk. AreLeft text.now shrunk.text.items shrunk.lines.items) }
 {
     let mut best = Excerpt::whole(alloc, text)?;
-    let mut left = walks;
-    let mut complete = false;
-    for _turn in 0..text.len() {
-        let before = best.text.len();
-        leave_out(alloc, &mut best, &mut left)?;
-        complete = best.text.len() == before && left > 0;
-        if complete || left == 0 {
-            break;
-        }
-    }
+    let complete = leave_out_turns(alloc, &mut best, walks)?;
     shrunk_of(alloc, text, best, complete)
 }
 

@@ -1,5 +1,0 @@
-use Rattle.shrinking.specs.Shrinking.{IsShrunk}
-use Rattle.shrinking.proofs.driving.leave_out_all.Given as goal
-
-abbrev pub invariant-loop-turn : goal.invariant-loop-turn
-invariant-loop-turn l = IsShrunk l.fn.text l.best.text.items
