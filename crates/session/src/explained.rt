@@ -60,6 +60,7 @@ pub fn decided_first<'a, R: Threads + Wait + Sync, F: FileSet>(
     ensures page { IfOk result (λ page.
         IsDecidedFirst (F.held files.old program.entry.now) options.budget form page.text.items page.status) }
     ensures same { F.held files.new ≡ F.held files.old }
+    ensures same_reads { F.reads files.new ≡ F.reads files.old }
     ensures stop { IfErr result (StopsBy (IsProgram (F.reads files.old) program.entry.now)
         (F.held files.old) (F.held files.new)) }
 {

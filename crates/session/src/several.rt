@@ -4,6 +4,8 @@ ghost use Rattle.std.specs.Prelude.{◌≡◌, ◌∷◌, ◌++◌, [], IfErr, I
 ghost use Rattle.command_line.specs.Requests.{path_of};
 ghost use Rattle.settings.specs.declared.form.Form.{Form};
 ghost use Rattle.session.specs.Pages.{ChangesAtMost, IsProgram, StopsBy};
+ghost use Rattle.junit.specs.Report.{Case, IsOf};
+ghost use Rattle.session.specs.Sweeping.{graver};
 ghost use Rattle.session.specs.Several.{AreAnswered, IsDecidedEach, IsDecidedIn, IsExplainedEach, IsFileOfEach, IsOfEach, file_row, outcome_of};
 
 use crate::commands::{Stop, write};
@@ -21,6 +23,7 @@ use settings::Form;
 use std::alloc::{AllocError, Global};
 use std::sync::Wait;
 use std::thread::Threads;
+use writing::{Part, put_parts};
 
 /// What is told of the first programs.
 #[derive(Drop)]
@@ -42,9 +45,9 @@ fn put_file_row(
 {
     match form {
         Form::Object => put_object_row(text, alloc, path, page),
-        Form::Messages => put_text_row(text, path, b":\n", page),
+        Form::Messages => put_text_row(text, path, ":\n", page),
         Form::Brief | Form::Whole | Form::Graph | Form::Chart | Form::Picture | Form::Page => {
-            put_text_row(text, path, b": ", page)
+            put_text_row(text, path, ": ", page)
         }
     }
 }
@@ -69,15 +72,20 @@ fn put_object_row(
 fn put_text_row(
     text: &mut Vec<u8>,
     path: &str,
-    parting: &[u8],
+    parting: &str,
     page: &[u8],
 ) -> Result<(), AllocError>
     ensures { OnOk result (text.new.items ≡ text.old.items ++ (codes "program " ++ (path.now ++ (parting.now ++ page.now)))) }
 {
-    text.extend_from_slice(b"program ")?;
-    text.extend_from_slice(path.as_bytes())?;
-    text.extend_from_slice(parting)?;
-    text.extend_from_slice(page)
+    put_parts(
+        text,
+        &[
+            Part::Text("program "),
+            Part::Text(path),
+            Part::Text(parting),
+            Part::Bytes(page),
+        ],
+    )
 }
 
 /// What an answer with this status counts as in a report of tests.
@@ -107,8 +115,10 @@ impl Answers {
 
     /// Adds the page of the program of a file.
     fn add(&mut self, alloc: Global, form: Form, path: &str, page: &Page) -> Result<(), AllocError>
-        ensures { (IsPage : List ℕ → List ℕ → ℕ → Type 0) (paths : List (List ℕ)) → AreAnswered IsPage form paths self.old
-            → IsPage path.now page.now.text.items page.now.status → OnOk result (AreAnswered IsPage form (paths ++ path.now ∷ []) self.new) }
+        ensures text { OnOk result (self.new.text.items ≡ self.old.text.items ++ file_row form path.now page.now.text.items) }
+        ensures status { OnOk result (self.new.status ≡ graver self.old.status page.now.status) }
+        ensures report { (cases : List Case) → IsOf cases self.old.report
+            → OnOk result (IsOf (cases ++ record { name = path.now; outcome = outcome_of page.now.status; text = page.now.text.items } ∷ []) self.new.report) }
     {
         put_file_row(&mut self.text, alloc, form, path, &page.text)?;
         self.status = graver(self.status, page.status);
