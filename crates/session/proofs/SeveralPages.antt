@@ -1,5 +1,5 @@
 -- What the pages of several programs tell.
-use Rattle.std.proofs.Common.{◌≡◌, ◌∙◌, ◌⊎◌, ◌<◌, ◌+◌, arith, ap, inl, inr, sym, subst, refl, ℕ, suc, zero, List, [], ◌∷◌, ◌++◌, length, Bool, false, Some, None, Option, get_or, append_assoc, map, take}
+use Rattle.std.proofs.Common.{◌≡◌, ◌∙◌, ◌⊎◌, ◌<◌, ◌+◌, arith, ap, inl, inr, sym, subst, refl, ℕ, suc, zero, List, [], ◌∷◌, ◌++◌, length, Bool, false, Some, None, Option, Result, Ok, Err, get_or, append_assoc, map, take}
 use Rattle.std.specs.List.{Contains}
 use Rattle.std.proofs.lemmas.List.{append-nil, map-append, take_more}
 use Rattle.std.specs.Borrow.{Bor}
@@ -13,6 +13,9 @@ use Rattle.junit.specs.Report.{Case, IsOf, report_text}
 use Rattle.session.specs.Pages.{IsWritten}
 use Rattle.session.specs.Several.{AreAnswered, AreRowsOf, IsDecidedIn, IsExplainedIn, IsOfEach, cases_of, file_row, file_rows, outcome_of}
 use Rattle.session.specs.Sweeping.{Row, graver, gravest}
+use Rattle.std.specs.Prelude.{IfOk, OnOk}
+use Rattle.session.specs.declared.commands.Stop.{Stop}
+use Rattle.session.specs.declared.page.Page.{Page}
 use Rattle.session.specs.declared.several.Answers.{Answers}
 use Rattle.session.proofs.DeadlockLines.{PageTells}
 use Rattle.session.proofs.Deadlocks.{all_are}
@@ -171,7 +174,7 @@ names_are IsPage (path ∷ paths) [] are = absurd are
 
 pub none_answered : (IsPage : List ℕ → List ℕ → ℕ → Type 0) (form : Form) (answers : Answers) → answers.text.items ≡ [] → answers.status ≡ 0 → IsOf [] answers.report
     → AreAnswered IsPage form [] answers
-none_answered IsPage form answers empty zero is = record { rows = []; are = tt; is_text = empty; is_status = zero; is_report = is }
+none_answered IsPage form answers empty sound is = record { rows = []; are = tt; is_text = empty; is_status = sound; is_report = is }
 
 pub one_answered : (IsPage : List ℕ → List ℕ → ℕ → Type 0) (form : Form) (paths : List (List ℕ)) (path page : List ℕ) (own : ℕ) (answers more : Answers)
     → (far : AreAnswered IsPage form paths answers) → IsPage path page own → more.text.items ≡ answers.text.items ++ file_row form path page
@@ -198,7 +201,10 @@ next_answered IsPage form paths index d answers low told =
     ∙ map-append (λ (p : Bor (List ℕ)). p.now) (take index paths) (get_or paths index d ∷ []))) told
 
 pub reported : (IsPage : List ℕ → List ℕ → ℕ → Type 0) (tells : Bool) (old new : List ℕ → Option (List ℕ)) (form : Form) (junit : Option (List ℕ))
-    (paths : List (List ℕ)) (answers : Answers) → (far : AreAnswered IsPage form paths answers) → IsWritten tells old new junit (report_text (cases_of paths far.rows))
-    → IsOfEach IsPage tells old new form junit paths answers.text.items answers.status
-reported IsPage tells old new form junit paths answers far written =
-    record { rows = far.rows; are = far.are; is_text = far.is_text; is_status = far.is_status; reported = written }
+    (paths : List (List ℕ)) (answers : Answers) (r : Result Page Stop) → (far : AreAnswered IsPage form paths answers)
+    → IfOk r (λ page. page.text.items ≡ answers.text.items) → IfOk r (λ page. page.status ≡ answers.status)
+    → OnOk r (IsWritten tells old new junit (report_text (cases_of paths far.rows)))
+    → IfOk r (λ page. IsOfEach IsPage tells old new form junit paths page.text.items page.status)
+reported IsPage tells old new form junit paths answers (Ok page) far same_text same_status written =
+    record { rows = far.rows; are = far.are; is_text = same_text ∙ far.is_text; is_status = same_status ∙ far.is_status; reported = written }
+reported IsPage tells old new form junit paths answers (Err stop) far same_text same_status written = same_text

@@ -2,11 +2,10 @@
 //! page that they print.
 ghost use Rattle.std.specs.Prelude.{◌≡◌, ◌∷◌, ◌++◌, [], IfErr, IfOk, List, OnOk, codes, map, ℕ};
 ghost use Rattle.command_line.specs.Requests.{path_of};
-ghost use Rattle.settings.specs.declared.form.Form.{Form};
-ghost use Rattle.session.specs.Pages.{ChangesAtMost, IsProgram, StopsBy};
-ghost use Rattle.junit.specs.Report.{Case, IsOf};
+ghost use Rattle.session.specs.Pages.{ChangesAtMost, IsProgram, IsWritten, StopsBy};
+ghost use Rattle.junit.specs.Report.{Case, IsOf, report_text};
 ghost use Rattle.session.specs.Sweeping.{graver};
-ghost use Rattle.session.specs.Several.{AreAnswered, IsDecidedEach, IsDecidedIn, IsExplainedEach, IsFileOfEach, IsOfEach, file_row, outcome_of};
+ghost use Rattle.session.specs.Several.{IsDecidedEach, IsDecidedIn, IsExplainedEach, IsFileOfEach, file_row, outcome_of};
 
 use crate::commands::{Stop, write};
 use crate::decide::{decision_line, read_whole};
@@ -69,11 +68,11 @@ fn put_object_row(
 }
 
 /// Adds a row with this between the path and the page.
-fn put_text_row(
+fn put_text_row<'a>(
     text: &mut Vec<u8>,
-    path: &str,
-    parting: &str,
-    page: &[u8],
+    path: &'a str,
+    parting: &'a str,
+    page: &'a [u8],
 ) -> Result<(), AllocError>
     ensures { OnOk result (text.new.items ≡ text.old.items ++ (codes "program " ++ (path.now ++ (parting.now ++ page.now)))) }
 {
@@ -104,7 +103,9 @@ fn outcome_of(status: u8) -> Outcome
 impl Answers {
     /// Nothing is told yet.
     fn new(alloc: Global) -> Answers
-        ensures { (IsPage : List ℕ → List ℕ → ℕ → Type 0) (form : Form) → AreAnswered IsPage form [] result }
+        ensures text { result.text.items ≡ [] }
+        ensures status { result.status ≡ 0 }
+        ensures report { IsOf [] result.report }
     {
         Answers {
             text: Vec::new(alloc),
@@ -133,9 +134,10 @@ fn reported_page<'a, F: FileSet>(
     junit: Option<&'a str>,
     files: &mut F,
 ) -> Result<Page, Stop<'a>>
-    ensures page { (IsPage : List ℕ → List ℕ → ℕ → Type 0) (form : Form) (paths : List (List ℕ)) → AreAnswered IsPage form paths answers.entry
-        → IfOk result (λ page. IsOfEach IsPage F.tells_written (F.held files.old) (F.held files.new) form (path_of junit.entry) paths
-        page.text.items page.status) }
+    ensures text { IfOk result (λ page. page.text.items ≡ answers.text.items) }
+    ensures status { IfOk result (λ page. page.status ≡ answers.status) }
+    ensures written { (cases : List Case) → IsOf cases answers.report
+        → OnOk result (IsWritten F.tells_written (F.held files.old) (F.held files.new) (path_of junit.entry) (report_text cases)) }
     ensures others { ChangesAtMost (path_of junit.entry) (F.held files.old) (F.held files.new) }
     ensures stop { IfErr result (StopsBy (λ path. path_of junit.entry ≡ Some path) (F.held files.old) (F.held files.new)) }
 {

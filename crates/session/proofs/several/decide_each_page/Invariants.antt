@@ -7,4 +7,4 @@ use Rattle.session.proofs.several.decide_each_page.Given as goal
 abbrev pub invariant-loop-path : goal.invariant-loop-path
 invariant-loop-path g l =
     (g.F.FileSet.held l.files ≡ g.F.FileSet.held l.fn.files) × (g.F.FileSet.reads l.files ≡ g.F.FileSet.reads l.fn.files)
-    × AreAnswered (IsDecidedIn (g.F.FileSet.held l.fn.files) l.asked.now.json) (form_of_answer l.asked.now.json) (map (λ p. p.now) (take l.path-index l.asked.now.programs.items)) l.answers
+    × AreAnswered (IsDecidedIn (g.F.FileSet.held l.fn.files) l.asked.json) (form_of_answer l.asked.json) (map (λ p. p.now) (take l.path-index l.asked.programs.items)) l.answers

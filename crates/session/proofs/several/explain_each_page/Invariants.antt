@@ -6,4 +6,4 @@ use Rattle.session.proofs.several.explain_each_page.Given as goal
 abbrev pub invariant-loop-path : goal.invariant-loop-path
 invariant-loop-path g l =
     (g.F.FileSet.held l.files ≡ g.F.FileSet.held l.fn.files) × (g.F.FileSet.reads l.files ≡ g.F.FileSet.reads l.fn.files)
-    × AreAnswered (IsExplainedIn (g.F.FileSet.held l.fn.files) l.asked.now.options.budget l.asked.now.form) (l.asked.now.form) (map (λ p. p.now) (take l.path-index l.asked.now.programs.items)) l.answers
+    × AreAnswered (IsExplainedIn (g.F.FileSet.held l.fn.files) l.asked.options.budget l.asked.form) (l.asked.form) (map (λ p. p.now) (take l.path-index l.asked.programs.items)) l.answers
