@@ -197,13 +197,13 @@ asked_told run (to_explain_unrolled p ranks settings way evidence workers depth 
     )))))
 asked_told run (to_decide_each programs junit beside as_json) asks (inl (stands, same, complains)) says =
     absurd (complaint_untold run beside_several 6 (λ one. omega (arith, one)) complains says)
-asked_told run (to_decide_each programs junit beside as_json) asks (inr (alone, others, ends)) says =
+asked_told run (to_decide_each programs junit beside as_json) asks (inr (alone, (others, ends))) says =
     let page = deadlock_page ends says in
     let hangs = each_hangs run.tells.writes run.before run.after (form_of_answer as_json) junit programs page.0 (decided_true run.before as_json) page.1 page.2 page.3 in
     inr (inr (inr (inr (inl (programs, junit, inl (beside, as_json, asks), (hangs.path, hangs.named, hangs.hangs))))))
 asked_told run (to_explain_each programs junit workers depth budget form beside) asks (inl (stands, same, complains)) says =
     absurd (complaint_untold run beside_each 6 (λ one. omega (arith, one)) complains says)
-asked_told run (to_explain_each programs junit workers depth budget form beside) asks (inr (alone, others, ends)) says =
+asked_told run (to_explain_each programs junit workers depth budget form beside) asks (inr (alone, (others, ends))) says =
     let page = deadlock_page ends says in
     let hangs = each_hangs run.tells.writes run.before run.after form junit programs page.0 (explained_true run.before budget form) page.1 page.2 page.3 in
     inr (inr (inr (inr (inl (programs, junit, inr (workers, depth, budget, form, beside, asks), (hangs.path, hangs.named, hangs.hangs))))))

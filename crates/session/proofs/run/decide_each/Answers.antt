@@ -8,6 +8,8 @@ returns-then-asked g c = λ words terminal. inl (c.if-asked.true, refl, (c.misus
 pub returns : goal.returns
 returns g c = λ words terminal. inr (
   c.if-asked.false,
-  c.decide_each_page-page.ensures.others,
-  ended c.decide_each_page-page.result c.decide_each_page-page.ensures.page c.decide_each_page-page.ensures.stop c.finish.ensures,
+  (
+    c.decide_each_page-page.ensures.others,
+    ended c.decide_each_page-page.result c.decide_each_page-page.ensures.page c.decide_each_page-page.ensures.stop c.finish.ensures,
+  ),
 )
