@@ -1,8 +1,11 @@
-pub mod Lists
 pub mod Ends
 pub mod Returned
 pub mod Named
 pub mod Unfinished
 pub mod Satisfied
 pub mod Sticking
+pub mod Kept
+pub mod Others
+pub mod Finishing
+pub mod Satisfying
 pub mod Growing

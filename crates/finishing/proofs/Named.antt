@@ -6,7 +6,7 @@ use Rattle.std.specs.List.{flat_map}
 use Rattle.callorder.specs.Programs.{MpiProgram, IsProgram}
 use Rattle.candidates.specs.Pairs.{places, takers_of}
 use Rattle.semantics.specs.declared.state.Step.{Step}
-use Rattle.clauses.specs.Clauses.{satisfies}
+use Rattle.clauses.specs.Clauses.{TruthAssignment, satisfies}
 use Rattle.formulas.specs.declared.facts.Fact.{Fact}
 use Rattle.formulas.specs.declared.facts.Fact.TheVariants.{Issued as issued, Buffered as buffered, Matched as matched, Unfinished as unfinished}
 use Rattle.formulas.specs.declared.facts.Meaning.{Meaning}
@@ -25,8 +25,8 @@ use Rattle.formulas.proofs.Named.{IsVariable, NamesFact, Clauses, issued_named, 
 use Rattle.formulas.proofs.NormalForms.{numbered_clauses_mean_symbolic}
 use Rattle.worlds.specs.Worlds.{is_right, clauses_hold, world_of}
 use Rattle.worlds.specs.Laws.{assignment_of}
+use Rattle.models.proofs.Along.{each_of_mapped, each_of_made}
 use Rattle.finishing.specs.Formula.{is_met, all_calls_are_issued, last_calls_have_returned, all_ranks_finish}
-use Rattle.finishing.proofs.Lists.{each_mapped, each_made}
 
 -- ---- facts that the formula has a variable for
 
@@ -38,14 +38,14 @@ ends_named p is = (end_named p is).1.1.0
 pub unfinished_named : (p : MpiProgram) → IsProgram p → Each (λ c. IsVariable p (fact (unfinished (rank_of p c)))) (last_calls p)
 unfinished_named p is =
     let parts = each_parts (Each (NamesFact p)) (flat_map (λ c. where_returned p c (is_false (unfinished (rank_of p c)))) (last_calls p)) (map (λ c. is_true (unfinished (rank_of p c))) (last_calls p) ∷ []) (ends_named p is) in
-    each_mapped (NamesFact p) (λ c. is_true (unfinished (rank_of p c))) (last_calls p) parts.1.0
+    each_of_mapped (NamesFact p) (λ c. is_true (unfinished (rank_of p c))) (last_calls p) parts.1.0
 
 takers_named : (p : MpiProgram) (c send : ℕ) (x : Statement) → Clauses (NamesFact p) (where_fetched p c send x) → Each (NamesFact p) (map (λ taker. is_true (matched send taker)) (takers_of p send))
 takers_named p c send x h =
     let clause : ℕ → SymbolicClause = λ taker. is_false (issued c) ∷ is_false (matched send taker) ∷ x ∷ unless_issued (receive_on_handle p taker) in
     each_map (NamesFact p) (λ taker. is_true (matched send taker)) (takers_of p send)
     (each_mono (λ taker. Each (NamesFact p) (clause taker)) (λ taker. NamesFact p (is_true (matched send taker))) (λ taker named. named.1.0) (takers_of p send)
-    (each_mapped (Each (NamesFact p)) clause (takers_of p send) h))
+    (each_of_mapped (Each (NamesFact p)) clause (takers_of p send) h))
 
 met_named : (p : MpiProgram) (c : ℕ) (x : Statement) (k : Condition) → Clauses (NamesFact p) (where_returned_under p c x k) → Clauses (NamesFact p) (is_met p k)
 met_named p c x at_once h = tt
@@ -53,7 +53,7 @@ met_named p c x (if_matched taker) h =
     let clause : ℕ → SymbolicClause = λ send. is_false (issued c) ∷ is_false (matched send taker) ∷ x ∷ [] in (
       each_map (NamesFact p) (λ send. is_true (matched send taker)) (sends_of p taker)
           (each_mono (λ send. Each (NamesFact p) (clause send)) (λ send. NamesFact p (is_true (matched send taker))) (λ send named. named.1.0) (sends_of p taker)
-          (each_mapped (Each (NamesFact p)) clause (sends_of p taker) h)),
+          (each_of_mapped (Each (NamesFact p)) clause (sends_of p taker) h)),
       tt,
     )
 met_named p c x (if_fetched send) h = (takers_named p c send x h, tt)
@@ -73,9 +73,9 @@ returns_named p is =
     let parts = each_parts (Each (NamesFact p)) (flat_map (λ c. where_returned p c (rest c)) (last_calls p)) (map (λ c. is_true (unfinished (rank_of p c))) (last_calls p) ∷ []) (ends_named p is) in
     each_flat_map (Each (NamesFact p)) (λ c. is_met p (when_returned p c)) (last_calls p)
     (each_mono (λ c. Clauses (NamesFact p) (where_returned p c (rest c))) (λ c. Clauses (NamesFact p) (is_met p (when_returned p c))) (λ c named. met_named p c (rest c) (when_returned p c) named) (last_calls p)
-    (each_made (Each (NamesFact p)) (λ c. where_returned p c (rest c)) (last_calls p) parts.0))
+    (each_of_made (Each (NamesFact p)) (λ c. where_returned p c (rest c)) (last_calls p) parts.0))
 
-finish_named : (p : MpiProgram) → IsProgram p → Clauses (NamesFact p) (all_ranks_finish p)
+pub finish_named : (p : MpiProgram) → IsProgram p → Clauses (NamesFact p) (all_ranks_finish p)
 finish_named p is =
     each_append (Each (NamesFact p)) (all_calls_are_issued p) (last_calls_have_returned p) (issues_named p) (returns_named p is)
 
@@ -94,14 +94,15 @@ fact_agrees p steps (is_true y) named = told p steps y named
 fact_agrees p steps (is_false y) named = ap not (told p steps y named)
 fact_agrees p steps (is_earlier e f) named = absurd named
 
--- clauses that speak of such facts, and hold in the world of a run, are satisfied by its assignment
-facts_satisfied : (p : MpiProgram) (steps : List Step) (clauses : List SymbolicClause) → Clauses (NamesFact p) clauses → clauses_hold (world_of p steps) clauses ≡ true → satisfies (assignment_of p steps) (numbered p clauses) ≡ true
-facts_satisfied p steps clauses named hold =
-    let A : Statement → Type 0 = Agrees p (assignment_of p steps) (is_right (world_of p steps)) in
-    let agree : All (All A) clauses =
+-- an assignment that agrees with what is right of each such fact agrees with the clauses
+pub facts_agree : (p : MpiProgram) (a : TruthAssignment) (right : Statement → Bool) → ((x : Statement) → NamesFact p x → Agrees p a right x) → (clauses : List SymbolicClause) → Clauses (NamesFact p) clauses → All (All (Agrees p a right)) clauses
+facts_agree p a right agree clauses named =
+    let A : Statement → Type 0 = Agrees p a right in
     all_from_each (All A) clauses
-    (each_mono (Each (NamesFact p)) (All A) (λ clause h. all_from_each A clause (each_mono (NamesFact p) A (fact_agrees p steps) clause h)) clauses named) in
-    numbered_clauses_mean_symbolic p (assignment_of p steps) (is_right (world_of p steps)) clauses agree ∙ hold
+    (each_mono (Each (NamesFact p)) (All A) (λ clause h. all_from_each A clause (each_mono (NamesFact p) A agree clause h)) clauses named)
 
 pub finish_satisfied : (p : MpiProgram) (steps : List Step) → IsProgram p → clauses_hold (world_of p steps) (all_ranks_finish p) ≡ true → satisfies (assignment_of p steps) (numbered p (all_ranks_finish p)) ≡ true
-finish_satisfied p steps is hold = facts_satisfied p steps (all_ranks_finish p) (finish_named p is) hold
+finish_satisfied p steps is hold =
+    let right : Statement → Bool = is_right (world_of p steps) in
+    numbered_clauses_mean_symbolic p (assignment_of p steps) right (all_ranks_finish p)
+    (facts_agree p (assignment_of p steps) right (fact_agrees p steps) (all_ranks_finish p) (finish_named p is)) ∙ hold

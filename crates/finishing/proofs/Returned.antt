@@ -21,8 +21,8 @@ use Rattle.worlds.proofs.Matches.{has_send, has_taker, is_that-from}
 use Rattle.worlds.proofs.Returns.{condition_holds, returned_is, NamesRightly, names_rightly}
 use Rattle.worlds.proofs.Starts.{there_within}
 use Rattle.worlds.proofs.AfterReturns.{fetched}
+use Rattle.models.proofs.Along.{all_pass}
 use Rattle.finishing.specs.Formula.{is_met, all_calls_are_issued, last_calls_have_returned, all_ranks_finish}
-use Rattle.finishing.proofs.Lists.{all_of_each}
 use Rattle.finishing.proofs.Ends.{all_issued, all_returned}
 
 -- ---- a condition that holds at the end of a run is met in its world
@@ -58,7 +58,7 @@ calls_issued : (p : MpiProgram) (steps : List Step) → IsProgram p → IsFinish
 calls_issued p steps program finished ended =
     let test : SymbolicClause → Bool = clause_holds (world_of p steps) in
     let clause : ℕ → SymbolicClause = λ c. is_true (issued c) ∷ [] in
-    all_of_each test (map clause (places p))
+    all_pass test (map clause (places p))
     (each_map (λ x. test x ≡ true) clause (places p)
     (each_range (λ c. test (clause c) ≡ true) 0 (length p.calls) (λ c above below. or_last _ (all_issued p steps c program finished ended (omega (arith, below))))))
 

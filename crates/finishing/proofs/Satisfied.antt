@@ -27,9 +27,9 @@ use Rattle.worlds.proofs.Ranks.{last_calls_hold}
 use Rattle.worlds.proofs.Buffers.{sends_are_buffered_as_allowed as policy_holds}
 use Rattle.worlds.proofs.Sees.{probes_see_messages}
 use Rattle.worlds.proofs.Assignments.{statements_agree, order_satisfied}
+use Rattle.models.proofs.Along.{all_pass, each_passes}
 use Rattle.finishing.specs.Formula.{says_more, all_ranks_finish}
 use Rattle.finishing.specs.Laws.{FinishedRunsSatisfyFormula}
-use Rattle.finishing.proofs.Lists.{all_of_each, each_passes}
 use Rattle.finishing.proofs.Returned.{all_finish}
 use Rattle.finishing.proofs.Named.{finish_satisfied}
 use Rattle.finishing.proofs.Unfinished.{nothing_wanted}
@@ -37,10 +37,10 @@ use Rattle.finishing.proofs.Unfinished.{nothing_wanted}
 -- ---- clauses that say more are satisfied
 
 -- where the clause says more than that one of some ranks is unfinished, it is satisfied
-abbrev IsMetIfKept : MpiProgram → TruthAssignment → List Literal → Type 0
+abbrev pub IsMetIfKept : MpiProgram → TruthAssignment → List Literal → Type 0
 IsMetIfKept p a clause = says_more p clause ≡ true → satisfies_clause a clause ≡ true
 
-abbrev AreMetIfKept : MpiProgram → TruthAssignment → List SymbolicClause → Type 0
+abbrev pub AreMetIfKept : MpiProgram → TruthAssignment → List SymbolicClause → Type 0
 AreMetIfKept p a clauses = Each (IsMetIfKept p a) (numbered p clauses)
 
 met_if_satisfied : (p : MpiProgram) (a : TruthAssignment) (clauses : List (List Literal)) → satisfies a clauses ≡ true → Each (IsMetIfKept p a) clauses
@@ -120,5 +120,5 @@ finished_runs_satisfy_formula p steps is finished over =
     let test : List Literal → Bool = satisfies_clause (assignment_of p steps) in
     let clauses = (formula_of p).clauses in
     all_append test (filter (says_more p) clauses) (numbered p (all_ranks_finish p))
-    (all_of_each test (filter (says_more p) clauses) (each_filter (λ clause. test clause ≡ true) (says_more p) clauses (clauses_met p steps (families_met p steps is finished over))))
+    (all_pass test (filter (says_more p) clauses) (each_filter (λ clause. test clause ≡ true) (says_more p) clauses (clauses_met p steps (families_met p steps is finished over))))
     (finish_satisfied p steps is (all_finish p steps is finished over))

@@ -23,7 +23,7 @@ run_of_rest : (p : MpiProgram) (m : Configuration) (steps more : List Step) → 
 run_of_rest p m [] more run = run
 run_of_rest p m (x ∷ steps) more run = run_of_rest p (after m x) steps more run.1
 
-still_finished : (p : MpiProgram) (steps more : List Step) → IsProgram p → IsFinishedRun p steps → IsRun p (opening p) (steps ++ more) → IsFinishedRun p (steps ++ more)
+pub still_finished : (p : MpiProgram) (steps more : List Step) → IsProgram p → IsFinishedRun p steps → IsRun p (opening p) (steps ++ more) → IsFinishedRun p (steps ++ more)
 still_finished p steps more is finished run =
     let e = after_all (opening p) steps in
     let kept = kept_run p steps is.rank_order finished.run in

@@ -12,5 +12,8 @@ mod laws;
 mod searching;
 
 pub use asking::frequency_of_program;
-pub use laws::{finished_runs_satisfy_formula, unsatisfiable_get_stuck};
+pub use laws::{
+    finished_runs_satisfy_formula, satisfiable_where_finished, satisfying_give_finished_runs,
+    unsatisfiable_get_stuck,
+};
 pub use searching::frequency_of_encoded;
