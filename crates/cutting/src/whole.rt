@@ -1,4 +1,6 @@
 //! From a program to its phases.
+ghost use Rattle.std.specs.Prelude.{IfOk, length};
+ghost use Rattle.cutting.specs.Orders.{IsOrder};
 
 use crate::clocks::{Known, seal_all};
 use crate::finders::{Columns, waits_of};
@@ -113,7 +115,9 @@ fn probes_of(alloc: Global, program: &LongProgram) -> Result<Vec<usize>, AllocEr
 
 /// Cuts a program into phases, each as fine as may be; equal ones are told once. The only error is
 /// want of memory. Where the program has a run that gets stuck, the phases may be anything.
-pub fn cut(alloc: Global, program: &LongProgram) -> Result<Phases, AllocError> {
+pub fn cut(alloc: Global, program: &LongProgram) -> Result<Phases, AllocError>
+    ensures { IfOk result (λ phases. IsOrder (length phases.texts.items) phases.order.items) }
+{
     let phases = phases_of(alloc, program)?;
     let (starts, members) = by_phase(alloc, &phases)?;
     let codes = codes_of(alloc, program, &members)?;
@@ -122,8 +126,8 @@ pub fn cut(alloc: Global, program: &LongProgram) -> Result<Phases, AllocError> {
     let mut texts = Vec::new(alloc);
     let mut order = Vec::new(alloc);
     for phase in 0..numbers.len() {
-        let number = numbers[phase].unwrap_or(0);
-        if number >= texts.len() {
+        let number = numbers[phase].unwrap_or(0).min(texts.len());
+        if number == texts.len() {
             let end = at(&starts, phase.saturating_add(1));
             let calls = part(&members, at(&starts, phase), end);
             texts.push(text_of(alloc, program, calls, &probes)?)?;
