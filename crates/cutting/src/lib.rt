@@ -2,9 +2,9 @@
 //! which takes what is sent in it.
 //!
 //! Nobody trusts what comes out: whoever judges a program by phases deals its calls to them and
-//! tests each cut. So no function says here what it does by a contract, but for the numbers of the
-//! order, which are those of texts (`specs/Orders.antt`). The program's run that
-//! buffers least tells who finds whose message. A phase is a set of calls that is closed: with a
+//! tests each cut. So a contract says of the order alone that its numbers are those of texts, and
+//! that each text is in it; a cut into no phase would meet it. The program's run that buffers least
+//! tells who finds whose message. A phase is a set of calls that is closed: with a
 //! call it has the wait, the other end of the message, the receive on the handle. With a finder of
 //! any source it has, at each rank that sends there later, a call that returns only after the finder
 //! has found, or else that rank's last such send. The strong components of that graph are the finest

@@ -113,8 +113,9 @@ fn probes_of(alloc: Global, program: &LongProgram) -> Result<Vec<usize>, AllocEr
     Ok(probes)
 }
 
-/// Cuts a program into phases, each as fine as may be; equal ones are told once. The only error is
-/// want of memory. Where the program has a run that gets stuck, the phases may be anything.
+/// Cuts a program into phases, each as fine as may be; equal ones are told once. Each number of the
+/// order is that of a text, from 0, and each text is in the order; nothing else is promised. The only
+/// error is want of memory. Where the program has a run that gets stuck, the phases may be anything.
 pub fn cut(alloc: Global, program: &LongProgram) -> Result<Phases, AllocError>
     ensures { IfOk result (λ phases. IsOrder (length phases.texts.items) phases.order.items) }
 {
