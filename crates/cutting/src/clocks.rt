@@ -2,7 +2,7 @@
 //! their phase for it.
 
 use crate::finders::Columns;
-use crate::graph::Edge;
+use crate::graph::{Edge, Needs};
 use crate::lists::{at, count_up_to, put};
 use crate::routes::Wildcards;
 use crate::tying::partner;
@@ -200,7 +200,7 @@ impl Clocks {
         place: usize,
         number: usize,
         more: usize,
-        edges: &mut Vec<Edge>,
+        needs: &mut Needs,
     ) -> Result<(), AllocError> {
         let old = self.known_of(call.rank, number);
         if more <= old || number == columns.number(call.rank) {
@@ -223,7 +223,7 @@ impl Clocks {
             return Ok(());
         };
         if self.last_of(&route) > place {
-            edges.push(Edge {
+            needs.edges.push(Edge {
                 from: finder.place,
                 to: place,
             })?;
@@ -239,14 +239,14 @@ impl Clocks {
         call: &Call,
         place: usize,
         other: usize,
-        edges: &mut Vec<Edge>,
+        needs: &mut Needs,
     ) -> Result<(), AllocError> {
         let heard = match self.issued.get(other) {
             Some(Some(heard)) => Vec::from_slice(alloc, heard)?,
             _ => Vec::new(alloc),
         };
         for number in 0..heard.len() {
-            self.learn(columns, call, place, number, at(&heard, number), edges)?;
+            self.learn(columns, call, place, number, at(&heard, number), needs)?;
         }
         Ok(())
     }
@@ -258,7 +258,7 @@ impl Clocks {
         columns: &Columns,
         call: &Call,
         place: usize,
-        edges: &mut Vec<Edge>,
+        needs: &mut Needs,
     ) -> Result<(), AllocError> {
         let Some(message) = call.kind.message() else {
             return Ok(());
@@ -272,10 +272,12 @@ impl Clocks {
         let known = self.known_of(call.rank, columns.number(message.destination));
         let first = count_up_to(&column.ends, known);
         if let Some(finder) = column.fitting(first, message.communicator, message.tag) {
-            edges.push(Edge {
+            let edge = Edge {
                 from: finder,
                 to: place,
-            })?;
+            };
+            needs.edges.push(edge)?;
+            needs.unordered.push(edge)?;
         }
         Ok(())
     }
@@ -287,7 +289,7 @@ impl Clocks {
         program: &LongProgram,
         known: &Known,
         rank: u32,
-        edges: &mut Vec<Edge>,
+        needs: &mut Needs,
     ) -> Result<(), AllocError> {
         let place = at(&self.next, rank as usize);
         put(&mut self.next, rank as usize, place.saturating_add(1));
@@ -297,11 +299,11 @@ impl Clocks {
         let before = place.saturating_sub(1);
         if before < place && program.is_of_rank(before, rank) {
             if let Some(other) = known.returned(program, before) {
-                self.hear(alloc, &known.columns, &call, before, other, edges)?;
+                self.hear(alloc, &known.columns, &call, before, other, needs)?;
             }
         }
         self.know(rank, known.columns.number(rank), place);
-        self.send(&known.columns, &call, place, edges)?;
+        self.send(&known.columns, &call, place, needs)?;
         self.keep(alloc, program, known, rank, place)
     }
 
@@ -334,7 +336,7 @@ pub fn seal_all(
     program: &LongProgram,
     run: &[Step],
     known: &Known,
-    edges: &mut Vec<Edge>,
+    needs: &mut Needs,
 ) -> Result<(), AllocError> {
     if known.columns.columns.is_empty() {
         return Ok(());
@@ -342,7 +344,7 @@ pub fn seal_all(
     let mut clocks = Clocks::new(alloc, program, known)?;
     for step in run {
         if let Step::Issue { rank, .. } = step {
-            clocks.issue(alloc, program, known, *rank, edges)?;
+            clocks.issue(alloc, program, known, *rank, needs)?;
         }
     }
     Ok(())

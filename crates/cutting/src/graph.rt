@@ -11,6 +11,15 @@ pub struct Edge {
     pub to: usize,
 }
 
+/// What calls need.
+#[derive(Drop)]
+pub struct Needs {
+    pub edges: Vec<Edge>,
+    /// Those edges that lead from a finder of any source to a send that fits it, and isn't known to
+    /// come only once it has found.
+    pub unordered: Vec<Edge>,
+}
+
 /// For each call the calls that it needs, besides the call before it.
 #[derive(Drop)]
 pub struct Graph {

@@ -19,6 +19,7 @@ mod clocks;
 mod finders;
 mod graph;
 mod keys;
+mod knots;
 mod lists;
 mod printing;
 mod routes;
@@ -26,4 +27,5 @@ mod strong;
 mod tying;
 mod whole;
 
+pub use knots::Tie;
 pub use whole::{Phases, cut};

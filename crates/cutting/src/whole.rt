@@ -4,8 +4,9 @@ ghost use Rattle.cutting.specs.Orders.{IsOrder};
 
 use crate::clocks::{Known, seal_all};
 use crate::finders::{Columns, waits_of};
-use crate::graph::Graph;
+use crate::graph::{Edge, Graph, Needs};
 use crate::keys::{codes_of, numbers_of, part};
+use crate::knots::{Tie, knots_of};
 use crate::lists::{at, put};
 use crate::printing::text_of;
 use crate::routes::Wildcards;
@@ -22,13 +23,15 @@ pub struct Phases {
     pub texts: Vec<Vec<u8>>,
     /// For each phase, one after another, the place of its text, from 0.
     pub order: Vec<usize>,
+    /// Of texts with more than 1,024 events why they are no shorter, as far as that is known.
+    pub ties: Vec<Tie>,
 }
 
-/// The graph of what phases need.
-fn graph_of(
+/// What phases need, and the partner of each call.
+fn needs_of(
     alloc: Global,
     program: &LongProgram,
-) -> Result<(Graph, Vec<Option<usize>>), AllocError> {
+) -> Result<(Needs, Vec<Option<usize>>), AllocError> {
     let (run, _state) = least_buffered_run(alloc, program)?;
     let waits = waits_of(alloc, program)?;
     let columns = Columns::of(alloc, program, &waits)?;
@@ -38,11 +41,13 @@ fn graph_of(
         columns,
         wildcards: Wildcards::of(alloc, program)?,
     };
-    let mut edges = Vec::new(alloc);
-    tie_all(program, &known.partners, &mut edges)?;
-    seal_all(alloc, program, &run, &known, &mut edges)?;
-    let graph = Graph::of(alloc, program.calls().len(), &edges)?;
-    Ok((graph, known.partners))
+    let mut needs = Needs {
+        edges: Vec::new(alloc),
+        unordered: Vec::new(alloc),
+    };
+    tie_all(program, &known.partners, &mut needs.edges)?;
+    seal_all(alloc, program, &run, &known, &mut needs)?;
+    Ok((needs, known.partners))
 }
 
 /// The first component with a send that nobody takes, or a number that is too great for any.
@@ -58,16 +63,17 @@ fn first_left(program: &LongProgram, partners: &[Option<usize>], components: &[u
 }
 
 /// For each call the number of its phase: that of its component, but all from the first on that
-/// leaves a message are one phase, the last.
-fn phases_of(alloc: Global, program: &LongProgram) -> Result<Vec<usize>, AllocError> {
-    let (graph, partners) = graph_of(alloc, program)?;
+/// leaves a message are one phase, the last. Then the edges that aren't ordered.
+fn phases_of(alloc: Global, program: &LongProgram) -> Result<(Vec<usize>, Vec<Edge>), AllocError> {
+    let (needs, partners) = needs_of(alloc, program)?;
+    let graph = Graph::of(alloc, program.calls().len(), &needs.edges)?;
     let mut phases = components(alloc, program, &graph)?;
     let last = first_left(program, &partners, &phases);
     for place in 0..phases.len() {
         let phase = at(&phases, place).min(last);
         put(&mut phases, place, phase);
     }
-    Ok(phases)
+    Ok((phases, needs.unordered))
 }
 
 /// Where the calls of each phase begin in the list of all calls by phase, with the end behind the
@@ -113,17 +119,19 @@ fn probes_of(alloc: Global, program: &LongProgram) -> Result<Vec<usize>, AllocEr
     Ok(probes)
 }
 
-/// Cuts a program into phases, each as fine as may be; equal ones are told once. Each number of the
-/// order is that of a text, from 0, and each text is in the order; nothing else is promised. The only
-/// error is want of memory. Where the program has a run that gets stuck, the phases may be anything.
+/// Cuts a program into phases, each as fine as may be; equal ones are told once. Each number of
+/// the order is that of a text, from 0, and each text is in the order; nothing else is promised.
+/// The only error is want of memory. Where the program has a run that gets stuck, the phases may be
+/// anything.
 pub fn cut(alloc: Global, program: &LongProgram) -> Result<Phases, AllocError>
     ensures { IfOk result (λ phases. IsOrder (length phases.texts.items) phases.order.items) }
 {
-    let phases = phases_of(alloc, program)?;
+    let (phases, unordered) = phases_of(alloc, program)?;
     let (starts, members) = by_phase(alloc, &phases)?;
     let codes = codes_of(alloc, program, &members)?;
     let numbers = numbers_of(alloc, &codes, &starts)?;
     let probes = probes_of(alloc, program)?;
+    let mut knots = knots_of(alloc, program, &phases, &unordered)?;
     let mut texts = Vec::new(alloc);
     let mut order = Vec::new(alloc);
     for phase in 0..numbers.len() {
@@ -132,8 +140,10 @@ pub fn cut(alloc: Global, program: &LongProgram) -> Result<Phases, AllocError>
             let end = at(&starts, phase.saturating_add(1));
             let calls = part(&members, at(&starts, phase), end);
             texts.push(text_of(alloc, program, calls, &probes)?)?;
+            knots.note(program, calls, phase, number)?;
         }
         order.push(number)?;
     }
-    Ok(Phases { texts, order })
+    let ties = knots.ties;
+    Ok(Phases { texts, order, ties })
 }

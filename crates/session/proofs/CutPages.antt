@@ -16,6 +16,7 @@ use Rattle.deciding.specs.declared.texts.Undecided.{Undecided}
 use Rattle.cutting.specs.Orders.{IsOrder}
 use Rattle.cutting.specs.declared.whole.Phases.{Phases}
 use Rattle.session.specs.Phasing.{AreApart, AreOutputs, AreTexts, ChangesThese, ChangesWithin, FileText, HaveTexts, Hold, IsCut, IsCutDecision, IsCutPage, IsPageOf, IsPart, IsWrittenCut, MakeUp, Part, cut_line, files_of, is_race, job_lines, order_lines, path_in, text_files}
+use Rattle.session.specs.Ties.{AreToldTies}
 use Rattle.session.specs.declared.commands.Stop.{Stop}
 use Rattle.session.specs.declared.cut_files.Outputs.{Outputs}
 use Rattle.session.specs.declared.cut_files.Texts.{Texts}
@@ -82,14 +83,14 @@ module _ (folder : List ℕ) (given : Phases) (outputs : Outputs) (are : AreOutp
 
 -- ---- the page
 
-pub is_written : (tells : Bool) (old new : List ℕ → Option (List ℕ)) (folder : List ℕ) (given : Phases) (outputs : Outputs) (program text : List ℕ) (status : ℕ) (p : MpiProgram) (are : AreOutputs folder given outputs)
-    → IsTextOfWithin long program p → MakeUp p given → IsPageOf outputs text status → (IsTrue tells → Hold (files_of outputs.files.items) new) → ChangesThese (files_of outputs.files.items) old new
+pub is_written : (tells : Bool) (old new : List ℕ → Option (List ℕ)) (folder : List ℕ) (given : Phases) (outputs : Outputs) (program told text : List ℕ) (status : ℕ) (p : MpiProgram) (are : AreOutputs folder given outputs)
+    → IsTextOfWithin long program p → MakeUp p given → AreToldTies program p told → IsPageOf outputs told text status → (IsTrue tells → Hold (files_of outputs.files.items) new) → ChangesThese (files_of outputs.files.items) old new
     → IsWrittenCut tells old new folder program text status
-is_written tells old new folder given outputs program text status p are is made page held others = record {
+is_written tells old new folder given outputs program told text status p are is made ties page held others = record {
   cut = are.cut;
   is = are.is;
   whole = record { p = p; phases = given; is_text = is; of = are.of; made = made };
-  line = (page.0 ∙ (λ i. cut_line (are.phases i) (are.different i) (are.jobs i)), page.1);
+  line = (told, ties, page.0 ∙ (λ i. cut_line (are.phases i) (are.different i) (are.jobs i) ++ told), page.1);
   files = λ t. subst (λ (files : List FileText). Hold files new) are.files (held t);
   others = subst (λ (files : List FileText). ChangesThese files old new) are.files others;
 }

@@ -95,7 +95,7 @@ cut_hangs tells before after p folder text status program (given, Ok decisions.N
     let other : told.NoDeadlock ≡ told.Deadlock = line_tells told.NoDeadlock false text status page.1 says in absurd cc
 cut_hangs tells before after p folder text status program (given, Ok (decisions.Deadlock steps), all, is, page) says held =
     (steps.items, subst (λ (bytes : List ℕ). IsStuckRunWithin long bytes steps.items) (all_are (before p) given program all held) is)
-cut_hangs tells before after p folder text status program (given, Ok (decisions.Race race), all, is, page) says held = absurd (cut_untold page.cut text status page.line says)
+cut_hangs tells before after p folder text status program (given, Ok (decisions.Race race), all, is, page) says held = absurd (cut_untold given page.whole.p page.cut text status page.line says)
 cut_hangs tells before after p folder text status program (given, Err why, all, is, page) says held =
     absurd (not_stuck why (line_tells (told_of_undecided why) false text status page.1 says))
 
@@ -181,7 +181,9 @@ left_of run folder program text is appends = record {
   cut = is.cut;
   is = is.is;
   whole = is.whole;
-  printed = subst (Appends run.out_before run.out_after) is.line.0 appends;
+  told = is.line.0;
+  ties = is.line.1;
+  printed = subst (Appends run.out_before run.out_after) is.line.2 appends;
   texts = λ writes place part there. text_held folder is.cut run.after (is.files writes) place part there;
   jobs = λ writes. jobs_held folder is.cut run.after (is.files writes);
   order = λ writes. order_held folder is.cut run.after (is.files writes);

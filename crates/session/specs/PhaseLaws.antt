@@ -1,5 +1,5 @@
 -- What follows from how a run of `join`, `phases` or `decide --phases` ended.
-use Rattle.std.specs.Prelude.{◌≡◌, ◌≢◌, ◌⊎◌, ℕ, ◌+◌, ◌<◌, Bool, IsTrue, List, length, codes, slice_get, Option, Some}
+use Rattle.std.specs.Prelude.{◌≡◌, ◌≢◌, ◌⊎◌, ℕ, ◌+◌, ◌<◌, Bool, IsTrue, List, ◌++◌, length, codes, slice_get, Option, Some}
 use Rattle.std.specs.Io.KnownBytes.{Appends}
 use Rattle.clap.specs.Words.{Text}
 use Rattle.calltext.specs.Limits.{long}
@@ -13,6 +13,7 @@ use Rattle.session.specs.Asking.{TellsDeadlock, TellsSafety}
 use Rattle.session.specs.Endings.{SessionEnds}
 use Rattle.session.specs.Phasing.{Cut, IsCut, IsWhole, Part, count_jobs, cut_line, job_lines, order_lines, path_in, text_path}
 use Rattle.session.specs.Runs.{SessionRun}
+use Rattle.session.specs.Ties.{AreToldTies}
 
 -- the words ask to judge the program at a path by phases in a folder, or by phases that are cut now
 abbrev pub AskByPhases : List Text → Text → Option Text → Type 0
@@ -40,14 +41,17 @@ CutsStayInFolder =
     (run : SessionRun) (p folder : Text) (path : List ℕ) → SessionEnds run → AskFor run.words (to_phases p folder)
     → ((name : List ℕ) → path ≢ path_in folder name) → run.after path ≡ run.before path
 
--- The run left a cut of the program in the folder, and printed its numbers. Where the files tell
+-- The run left a cut of the program in the folder, and printed its numbers, and below them a line for
+-- each of some ties of the program: a call that takes any source, and a send that fits it. Where the files tell
 -- what is written, each different phase's file has its text, `jobs` the paths of those that have to
 -- be proved, and `phases` the order. No other file has changed.
 pub record IsLeft (run : SessionRun) (folder : Text) (program : List ℕ) : Type 0 where
   pub cut : Cut
   pub is : IsCut cut
   pub whole : IsWhole program cut
-  pub printed : Appends run.out_before run.out_after (cut_line (length cut.order) (length cut.parts) (count_jobs cut.parts))
+  pub told : List ℕ
+  pub ties : AreToldTies program whole.p told
+  pub printed : Appends run.out_before run.out_after (cut_line (length cut.order) (length cut.parts) (count_jobs cut.parts) ++ told)
   pub texts : IsTrue run.tells.writes → (place : ℕ) (part : Part) → slice_get cut.parts place ≡ Some part
       → run.after (text_path folder (place + 1)) ≡ Some part.text
   pub jobs : IsTrue run.tells.writes → run.after (path_in folder (codes "jobs")) ≡ Some (job_lines folder 1 cut.parts)

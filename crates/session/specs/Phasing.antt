@@ -18,6 +18,7 @@ use Rattle.deciding.specs.declared.texts.Undecided.TheVariants as undecided
 use Rattle.cutting.specs.declared.whole.Phases.{Phases}
 use Rattle.session.specs.Lines.{BeginsWith, IsLine, line_text}
 use Rattle.session.specs.Pages.{IsDecideFile, IsDecisionPage, IsProgram, IsScheduled, IsUnread, IsWritten}
+use Rattle.session.specs.Ties.{AreToldTies}
 use Rattle.session.specs.declared.by_phases.Shown.{Shown}
 use Rattle.session.specs.declared.by_phases.Shown.TheVariants as shows
 use Rattle.session.specs.declared.cut_files.Output.{Output}
@@ -128,8 +129,11 @@ abbrev pub cut_line : ℕ → ℕ → ℕ → List ℕ
 cut_line phases different jobs =
     codes "phases " ++ (decimal phases ++ (codes ", different " ++ (decimal different ++ (codes ", to prove " ++ (decimal jobs ++ codes "\n")))))
 
-abbrev pub IsCutLine : Cut → List ℕ → ℕ → Type 0
-IsCutLine cut text status = (text ≡ cut_line (length cut.order) (length cut.parts) (count_jobs cut.parts)) × (status ≡ 0)
+-- that line of a cut of the program of a text, and below it what is told of phases that are too
+-- large for a search
+abbrev pub IsCutLine : List ℕ → MpiProgram → Cut → List ℕ → ℕ → Type 0
+IsCutLine program p cut text status =
+    (told : List ℕ) × AreToldTies program p told × (text ≡ cut_line (length cut.order) (length cut.parts) (count_jobs cut.parts) ++ told) × (status ≡ 0)
 
 -- ---- what a cut makes up
 
@@ -253,9 +257,9 @@ pub record AreOutputs (folder : List ℕ) (given : Phases) (outputs : Outputs) :
 
 -- ---- the page of a cut
 
--- the page tells these numbers
-abbrev pub IsPageOf : Outputs → List ℕ → ℕ → Type 0
-IsPageOf outputs text status = (text ≡ cut_line outputs.phases outputs.different outputs.jobs) × (status ≡ 0)
+-- the page tells these numbers, and this below
+abbrev pub IsPageOf : Outputs → List ℕ → List ℕ → ℕ → Type 0
+IsPageOf outputs told text status = (text ≡ cut_line outputs.phases outputs.different outputs.jobs ++ told) × (status ≡ 0)
 
 -- the program is cut, how it is cut is told, and the files of the cut are written, as far as their
 -- set tells what is written; no other file has changed
@@ -263,7 +267,7 @@ pub record IsWrittenCut (tells : Bool) (old new : List ℕ → Option (List ℕ)
   pub cut : Cut
   pub is : IsCut cut
   pub whole : IsWhole program cut
-  pub line : IsCutLine cut text status
+  pub line : IsCutLine program whole.p cut text status
   pub files : IsTrue tells → Hold (cut_files folder cut) new
   pub others : ChangesThese (cut_files folder cut) old new
 

@@ -11,6 +11,7 @@ use crate::decide::{decision_line, read_whole};
 use crate::making_up::make_up;
 use crate::page::Page;
 use crate::status::NO_DEADLOCK;
+use crate::ties::told_ties;
 use command_line::ToCut;
 use cutting::{Phases, cut};
 use deciding::{Decision, Undecided, decide, program_of};
@@ -215,11 +216,12 @@ fn cut_words(
     Ok(words)
 }
 
-/// The page that tells how a program is cut.
-fn cut_page_of(alloc: Global, outputs: &Outputs) -> Result<Page, AllocError>
-    ensures { IfOk result (λ page. IsPageOf outputs.now page.text.items page.status) }
+/// The page that tells how a program is cut, and what is told of phases that are too large.
+fn cut_page_of(alloc: Global, outputs: &Outputs, told: &str) -> Result<Page, AllocError>
+    ensures { IfOk result (λ page. IsPageOf outputs.now told.now page.text.items page.status) }
 {
-    let words = cut_words(alloc, outputs.phases, outputs.different, outputs.jobs)?;
+    let mut words = cut_words(alloc, outputs.phases, outputs.different, outputs.jobs)?;
+    words.push_str(told)?;
     let text = words.into_bytes();
     let status = NO_DEADLOCK;
     Ok(Page { text, status })
@@ -229,24 +231,25 @@ fn cut_page_of(alloc: Global, outputs: &Outputs) -> Result<Page, AllocError>
 /// is written, so that none changes where memory runs out.
 fn written_page<'a, F: FileSet>(
     alloc: Global,
-    program: &[u8],
+    text: &[u8],
     folder: &'a str,
     files: &mut F,
 ) -> Result<Page, Stop<'a>>
     ensures page { IfOk result (λ page.
-        IsWrittenCut F.tells_written (F.held files.old) (F.held files.new) folder.entry.now program.now
+        IsWrittenCut F.tells_written (F.held files.old) (F.held files.new) folder.entry.now text.now
         page.text.items page.status) }
     ensures within { ChangesWithin folder.entry.now (F.held files.old) (F.held files.new) }
     ensures stop { IfErr result (StopsBy (λ path. path ≡ folder.entry.now) (F.held files.old) (F.held files.new)) }
 {
     // The program was made of this text before, so want of memory alone can be met.
-    let Ok(program) = program_of(alloc, program) else {
+    let Ok(program) = program_of(alloc, text) else {
         return Err(Stop::Memory);
     };
     let phases = cut(alloc, &program)?;
     make_up(alloc, &program, &phases)?;
+    let told = told_ties(alloc, text, &program, &phases)?;
     let outputs = outputs_of(alloc, folder, phases)?;
-    let page = cut_page_of(alloc, &outputs)?;
+    let page = cut_page_of(alloc, &outputs, &told)?;
     write_all(folder, &outputs.files, files)?;
     Ok(page)
 }

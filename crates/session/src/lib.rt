@@ -18,6 +18,7 @@ mod several;
 mod shrunk;
 mod status;
 mod swept;
+mod ties;
 mod told;
 mod unrolled;
 

@@ -15,7 +15,7 @@ fn line_of(lines: &[usize], place: usize) -> usize
 }
 
 /// A call by its line and its rank.
-fn call_words(alloc: Global, lines: &[usize], call: Caller) -> Result<String, AllocError>
+pub fn call_words(alloc: Global, lines: &[usize], call: Caller) -> Result<String, AllocError>
     ensures { IfOk result (λ words. string_bytes words ≡ call_words lines.now call) }
 {
     let mut words = String::from_str(alloc, "line ")?;

@@ -25,8 +25,8 @@ pub enum Trouble {
 
 /// Two files that can be read, `program` and `evidence`, and one that can be written, `out`. The path
 /// `memory` can't be opened for want of memory. A path in the folder `folder` is that of a part of
-/// `evidence`: behind `== ` and the file's name on a line of its own, up to the next such line. Every
-/// other path isn't there.
+/// `evidence`, or of `out` where it is written: behind `== ` and the file's name on a line of its own,
+/// up to the next such line. Every other path isn't there.
 #[derive(Drop)]
 pub struct Disk<'a> {
     /// What the file `program` holds.
@@ -35,7 +35,7 @@ pub struct Disk<'a> {
     pub evidence: &'a [u8],
     /// What was written to the file `out`.
     pub written: RefCell<Vec<u8>>,
-    /// How often `out` was opened.
+    /// How often `out` was opened, or 1 where files in the folder were written last.
     pub writers: Cell<u64>,
     /// How many opens, reads, writes and closes there were.
     pub steps: Cell<u64>,
@@ -64,6 +64,14 @@ impl Disk<'_> {
             Some(Trouble::Device) | Some(Trouble::NoByte) => Err(OpenFault::Device),
             Some(Trouble::Interrupted) | None => Ok(()),
         }
+    }
+
+    /// Begins the part of `out` that stands for a file in the folder.
+    fn begin_part(&self, name: &str) -> io::Result<()> {
+        self.writers.set(1);
+        self.written.try_borrow_mut()?.write_all(b"== ")?;
+        self.written.try_borrow_mut()?.write_all(name.as_bytes())?;
+        self.written.try_borrow_mut()?.write_all(b"\n")
     }
 
     /// Opens a file to be read.
@@ -142,7 +150,13 @@ impl<'a> FileSet for DiskFiles<'a> {
                 Ok(DiskWriter { disk })
             }
             "memory" => Err(OpenFault::Memory),
-            _ => Err(OpenFault::Device),
+            path => {
+                let Some(name) = path.strip_prefix("folder/") else {
+                    return Err(OpenFault::Device);
+                };
+                disk.begin_part(name)?;
+                Ok(DiskWriter { disk })
+            }
         }
     }
 

@@ -5,7 +5,7 @@ use std::thread::Threads;
 use std::time::Clock;
 use test_runs::{Ended, Scene, run};
 
-/// The columns of a row. In each text `/` stands for the end of a line and `~` for a `|`, and in the two files that are read `{N PART}` stands for
+/// The columns of a row. In each text `/` stands for the end of a line, `~` for a `|` and `%` for a `/`, and in the files `{N PART}` stands for
 /// N times PART, in which others may stand.
 #[derive(Clone, Copy)]
 pub struct Row<'a> {
@@ -135,7 +135,7 @@ impl<'a> Row<'a> {
 
     /// Whether a run wrote what the row says.
     fn has_written(&self, alloc: Global, ended: &Ended) -> Result<bool, AllocError> {
-        let written = lines(alloc, self.written)?;
+        let written = lines(alloc, &unfolded(alloc, self.written)?)?;
         let is_written = ended.written.as_slice() == written.as_bytes();
         Ok(is_written && ended.writers == u64::from(!written.is_empty()))
     }
@@ -149,9 +149,11 @@ fn column(text: &str) -> (&str, &str) {
     }
 }
 
-/// A text whose lines end where a `/` stands, with a `|` for each `~`.
+/// A text whose lines end where a `/` stands, with a `|` for each `~` and a `/` for each `%`.
 fn lines(alloc: Global, text: &str) -> Result<String, AllocError> {
-    text.replace(alloc, '/', "\n")?.replace(alloc, '~', "|")
+    text.replace(alloc, '/', "\n")?
+        .replace(alloc, '~', "|")?
+        .replace(alloc, '%', "/")
 }
 
 /// A text with the first `{N PART}` in it that holds no other one written out; none where there is none.
