@@ -1,5 +1,5 @@
 -- The names of the files of a cut: no two have one path, and all are in the folder.
-use Rattle.std.proofs.Common.{◌≡◌, ◌≢◌, ◌∙◌, ℕ, zero, suc, ◌+◌, ◌-◌, ◌<◌, ◌≤◌, ◌⊎◌, inl, inr, List, [], ◌∷◌, ◌++◌, Some, length, replicate, get_or, slice_get, arith, refl, sym, subst, ap, codes, decimal, length-append, append_assoc}
+use Rattle.std.proofs.Common.{◌≡◌, ◌≢◌, ◌∙◌, ℕ, zero, suc, ◌+◌, ◌-◌, ◌<◌, ◌≤◌, inl, inr, List, [], ◌∷◌, ◌++◌, Some, length, replicate, get_or, slice_get, arith, refl, sym, subst, ap, codes, decimal, length-append, append_assoc}
 use Rattle.std.specs.Prelude.{Option, ◌^◌}
 use Rattle.std.proofs.lemmas.Fmt.{decimal_injective, first_decimal}
 use Rattle.std.proofs.lemmas.List.{append_cancel_left, append_cancel_right, length-replicate}

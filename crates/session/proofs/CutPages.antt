@@ -1,5 +1,5 @@
 -- What is written of a cut, and the page of `phases`.
-use Rattle.std.proofs.Common.{◌≡◌, ◌∙◌, ℕ, zero, suc, ◌+◌, ◌-◌, ◌<◌, ◌≤◌, Bool, true, List, [], ◌∷◌, ◌++◌, Some, None, Result, Ok, Err, IfOk, length, map, slice_get, arith, refl, sym, subst, ap, append_assoc, codes}
+use Rattle.std.proofs.Common.{◌≡◌, ◌∙◌, ℕ, ◌+◌, ◌-◌, ◌<◌, Bool, true, List, [], ◌∷◌, ◌++◌, Some, None, Result, Ok, Err, IfOk, length, map, slice_get, arith, refl, sym, subst, ap, append_assoc, codes}
 use Rattle.std.specs.Prelude.{Option, IsTrue, option_map, string_bytes}
 use Rattle.std.specs.List.{AllByRecursion}
 use Rattle.std.specs.Global.{Vec}

@@ -1,5 +1,5 @@
 -- What a page with the places of a map tells.
-use Rattle.std.proofs.Common.{◌≡◌, ◌∙◌, ◌<◌, ℕ, Bool, true, false, List, ◌++◌, Option, Some, None, inl, inr, refl, sym, arith, codes, decimal}
+use Rattle.std.proofs.Common.{◌∙◌, ◌<◌, ℕ, Bool, true, false, List, ◌++◌, Option, Some, None, inl, inr, refl, sym, arith, codes, decimal}
 use Rattle.settings.specs.declared.form.Form.{Form}
 use Rattle.settings.specs.declared.form.Form.TheVariants as forms
 use Rattle.places.specs.Woven.{HasPlaces, IsWoven}

@@ -1,5 +1,5 @@
 -- A line that begins a text with the places of a map begins the text without them.
-use Rattle.std.proofs.Common.{◌≡◌, ◌∙◌, ◌⊎◌, ◌<◌, ◌≤◌, ◌+◌, ◌-◌, ℕ, zero, suc, Bool, true, false, not, ◌&&◌, ◌||◌, ◌==◌, if◌then◌else◌, cond, List, [], ◌∷◌, ◌++◌, Option, Some, None, inl, inr, refl, ap, sym, subst, arith, codes, append_assoc, append-nil, get_or, drop, take, length, map, length-append, eq-eqb, eqb-true, nat_lt}
+use Rattle.std.proofs.Common.{◌≡◌, ◌∙◌, ◌⊎◌, ◌<◌, ◌+◌, ◌-◌, ℕ, zero, suc, Bool, true, false, not, ◌&&◌, ◌||◌, ◌==◌, if◌then◌else◌, cond, List, [], ◌∷◌, ◌++◌, Option, Some, None, inl, inr, refl, ap, sym, subst, arith, codes, append_assoc, append-nil, get_or, drop, take, length, map, length-append, eq-eqb, eqb-true, nat_lt}
 use Rattle.std.specs.List.{ends_with, find, flat_map, list_any, slice_split}
 use Rattle.std.proofs.lemmas.Bool.{ltb-false, ltb-true, not-true}
 use Rattle.std.proofs.lemmas.Bool.Decides.{Decides-eqb}

@@ -1,17 +1,15 @@
 -- The law of runs for several programs.
-use Rattle.std.proofs.Common.{◌≡◌, ◌∙◌, ◌≢◌, ◌⊎◌, ◌<◌, arith, ap, inl, inr, sym, refl, subst, map, ℕ, List, Bool, true, false, Some, None, Option}
+use Rattle.std.proofs.Common.{◌≡◌, ◌≢◌, ◌⊎◌, ◌<◌, arith, ap, inl, inr, refl, map, ℕ, List, Bool, Some, Option}
 use Rattle.std.specs.Prelude.{IsTrue}
 use Rattle.clap.specs.Words.{Text}
 use Rattle.settings.specs.declared.form.Form.{Form}
 use Rattle.junit.specs.Report.{Case, report_text}
-use Rattle.command_line.specs.Requests.{AskFor}
-use Rattle.session.specs.Endings.{EndsSeveral, FailsEarly, SessionEnds}
+use Rattle.session.specs.Endings.{EndsSeveral, FailsEarly}
 use Rattle.session.specs.Pages.{ChangesAtMost}
-use Rattle.session.specs.Runs.{Ends, SessionRun}
+use Rattle.session.specs.Runs.{SessionRun}
 use Rattle.session.specs.Several.{IsOfEach, beside_each, beside_several, cases_of}
 use Rattle.session.specs.Sweeping.{form_of_answer}
-use Rattle.session.specs.SweepLaws.{AskEach, EachRunIsRight}
-use Rattle.session.specs.declared.page.Want.{Want}
+use Rattle.session.specs.SweepLaws.{EachRunIsRight}
 use Rattle.session.proofs.PhaseLaws.{file_kept, task_or_same}
 use Rattle.session.proofs.RunLaws.{page_printed}
 use Rattle.session.proofs.SeveralPages.{decided_true, each_hangs, each_safe, explained_true, names_are}

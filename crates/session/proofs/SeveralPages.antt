@@ -12,7 +12,7 @@ use Rattle.settings.specs.declared.form.Form.TheVariants as forms
 use Rattle.junit.specs.Report.{Case, IsOf, report_text}
 use Rattle.session.specs.Pages.{IsWritten}
 use Rattle.session.specs.Several.{AreAnswered, AreRowsOf, IsDecidedIn, IsExplainedIn, IsOfEach, cases_of, file_row, file_rows, outcome_of}
-use Rattle.session.specs.Sweeping.{Row, graver, gravest}
+use Rattle.session.specs.Sweeping.{Row, graver}
 use Rattle.std.specs.Prelude.{IfOk, OnOk}
 use Rattle.session.specs.declared.commands.Stop.{Stop}
 use Rattle.session.specs.declared.page.Page.{Page}

@@ -1,5 +1,5 @@
 -- The law of runs of `decide` and `explain` for an SPMD text.
-use Rattle.std.proofs.Common.{◌≡◌, ◌∙◌, ◌⊎◌, ◌≤◌, arith, inl, inr, sym, subst, refl, ℕ, List, Bool, true, false, Some, Option}
+use Rattle.std.proofs.Common.{◌≡◌, ◌∙◌, ◌≤◌, arith, inl, inr, sym, subst, refl, ℕ, List, Bool, true, false, Some, Option}
 use Rattle.std.specs.Prelude.{◌||◌, is_some}
 use Rattle.std.proofs.lemmas.Option.{same_Some}
 use Rattle.spmd_program.specs.Ranges.{IsRange}
@@ -7,7 +7,7 @@ use Rattle.clap.specs.Words.{Text}
 use Rattle.session.specs.Endings.{EndsRanked}
 use Rattle.session.specs.Sweeping.{IsRanked}
 use Rattle.session.specs.SweepLaws.{IsSafeFor, UnrolledRunsAreRight}
-use Rattle.session.specs.Runs.{Complains, SessionRun}
+use Rattle.session.specs.Runs.{SessionRun}
 use Rattle.session.proofs.RunLaws.{page_printed}
 use Rattle.session.proofs.SweptPages.{explained_hangs, explained_safe, swept_hangs, swept_safe}
 use Rattle.session.proofs.TaskEnds.{task_ends}

@@ -1,5 +1,5 @@
 -- What the pages of an SPMD text for numbers of ranks tell.
-use Rattle.std.proofs.Common.{◌≡◌, ◌∙◌, ◌⊎◌, ◌<◌, ◌≤◌, ◌+◌, ◌==◌, arith, ap, inl, inr, sym, subst, refl, ℕ, suc, zero, List, [], ◌∷◌, ◌++◌, length, length-append, Bool, true, false, Some, None, Option, Result, Ok, Err, get_or, codes, append_assoc, map, take}
+use Rattle.std.proofs.Common.{◌≡◌, ◌∙◌, ◌⊎◌, ◌<◌, ◌≤◌, ◌+◌, ◌==◌, arith, ap, inl, inr, sym, subst, refl, ℕ, suc, zero, List, [], ◌∷◌, ◌++◌, length, length-append, Bool, true, false, Some, None, Option, Result, Ok, Err, get_or, codes, append_assoc, map}
 use Rattle.std.specs.Prelude.{if◌then◌else◌, nat_lt}
 use Rattle.std.specs.List.{fold}
 use Rattle.std.specs.Str.Lossy.{utf8_lossy}

@@ -1,6 +1,5 @@
-use Rattle.std.proofs.Common.{◌≡◌, ◌<◌, ℕ, Some, slice_get}
 use Rattle.std.specs.Prelude.{IsTrue}
-use Rattle.session.specs.Phasing.{ChangesThese, FileText, files_of}
+use Rattle.session.specs.Phasing.{ChangesThese, files_of}
 use Rattle.session.proofs.CutFiles.{HoldBelow}
 use Rattle.session.proofs.cut_files.write_all.Given as goal
 

@@ -1,7 +1,4 @@
 use Rattle.std.proofs.Common.{take}
-use Rattle.callorder.specs.Programs.{MpiProgram}
-use Rattle.phases.specs.Rests.{IsRest}
-use Rattle.session.specs.Phasing.{AreDealt}
 use Rattle.session.proofs.MadeUp.{IsDealtTo}
 use Rattle.session.proofs.making_up.deal_all.Given as goal
 

@@ -1,4 +1,3 @@
-use Rattle.std.proofs.Common.{◌≡◌, ◌<◌, ℕ, List, Some, length, slice_get}
 use Rattle.session.proofs.MadeUp.{AreSoMany}
 use Rattle.session.proofs.making_up.programs_of.Given as goal
 

@@ -1,5 +1,5 @@
 -- One program more, until the last.
-use Rattle.std.proofs.Common.{◌∙◌, ◌+◌, ◌≤◌, ◌++◌, [], ap, get_or, length, map, subst, sym, take, ℕ, List, Option}
+use Rattle.std.proofs.Common.{◌∙◌, ◌+◌, ◌≤◌, [], get_or, length, map, subst, sym, take, ℕ, List, Option}
 use Rattle.std.specs.Prelude.{OnOk}
 use Rattle.std.proofs.lemmas.List.{take_all}
 use Rattle.std.specs.Borrow.{Bor}
