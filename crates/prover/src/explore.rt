@@ -4,8 +4,8 @@ ghost use Rattle.std.specs.Prelude.{◌↔◌, IfNone, IfOk, IfSome, IsTrue};
 ghost use Rattle.semantics.specs.Machine.{IsFinishedRun, IsStuckRun};
 ghost use Rattle.prover.specs.Searches.{HasFinishedRun};
 
-use crate::manner::{CHANCES, by_chance, manner_at, manners};
-use crate::walk::walk;
+use crate::manner::{CHANCES, CHANCES_BEHIND, by_chance, manner_at, manners, unbuffered};
+use crate::walk::{walk, walk_along};
 use callorder::LongProgram;
 use semantics::{End, ReplayFault, Step, replay};
 use std::alloc::{AllocError, Global};
@@ -61,4 +61,64 @@ pub fn finished_walk(alloc: Global, program: &LongProgram) -> Result<Option<Vec<
         }
     }
     Ok(None)
+}
+
+/// A run that takes these steps, then goes on without a buffered send that needn't be, and ends with all
+/// ranks finished, where one of some walks does.
+fn finished_behind(
+    alloc: Global,
+    program: &LongProgram,
+    along: &[Step],
+) -> Result<Option<Vec<Step>>, AllocError>
+    ensures { IfOk result (λ found. IfSome found (λ steps. IsFinishedRun program.now steps.items)) }
+{
+    for number in 0..CHANCES_BEHIND {
+        let steps = walk_along(alloc, program, along, unbuffered(number))?;
+        if is_finished(alloc, program, &steps)? {
+            return Ok(Some(steps));
+        }
+    }
+    Ok(None)
+}
+
+/// A run that ends with all ranks finished, buffers no send that it needn't but where these steps do, and
+/// goes along with them for as long as one that is tried does: behind that none is known to end so. None
+/// where no such run is found from the beginning, which tells nothing. The number of walks is near the
+/// logarithm of that of the steps. The only error is want of memory.
+pub fn run_that_parts_last(
+    alloc: Global,
+    program: &LongProgram,
+    steps: &[Step],
+) -> Result<Option<Vec<Step>>, AllocError>
+    ensures { IfOk result (λ found. IfSome found (λ run. IsFinishedRun program.now run.items)) }
+{
+    let mut best = finished_behind(alloc, program, &[])?;
+    if best.is_none() {
+        return Ok(best);
+    }
+    let mut low: usize = 0;
+    let mut high = steps.len();
+    for _halving in 0..64 {
+        if low >= high {
+            return Ok(best);
+        }
+        let middle = high - (high - low) / 2;
+        let found = finished_behind(alloc, program, front_of(steps, middle))?;
+        if found.is_some() {
+            best = found;
+            low = middle;
+        } else {
+            high = middle.saturating_sub(1);
+        }
+    }
+    Ok(best)
+}
+
+/// The first steps, so many of them, or all.
+fn front_of(steps: &[Step], count: usize) -> &[Step] {
+    if count <= steps.len() {
+        &steps[..count]
+    } else {
+        steps
+    }
 }

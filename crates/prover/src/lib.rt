@@ -12,7 +12,7 @@ mod walk;
 pub use answer::Answer;
 pub use checker::{PieceGate, Reason, Verdict, verdict, verdict_in};
 pub use ends::{Until, WalkEnds, walk_ends};
-pub use explore::finished_walk;
+pub use explore::{finished_walk, run_that_parts_last};
 pub use pool::Why;
 pub use proving::prove;
 pub use settings::{Options, Pieces, Searches};

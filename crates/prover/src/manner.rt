@@ -92,6 +92,19 @@ pub fn by_chance(number: u64) -> Manner {
     }
 }
 
+/// How many manners there are that buffer only what they must.
+pub const CHANCES_BEHIND: u64 = 8;
+
+/// A manner that buffers only what it must, for each number: with 0 the first match is taken, with
+/// others one that is chosen by chance.
+pub fn unbuffered(number: u64) -> Manner {
+    Manner {
+        matches_first: number % 2 == 0,
+        chance: number.wrapping_mul(0x9e37_79b9_7f4a_7c15),
+        ..PLAIN
+    }
+}
+
 /// What chance is in the next step: 0 stays 0.
 pub fn next_chance(chance: u64) -> u64 {
     let first = chance ^ (chance << 13);

@@ -280,9 +280,38 @@ fn next_step(
     Ok(seeing)
 }
 
-/// A run from the opening state, which goes on until no step is enabled: so it ends stuck or finished. No run has more
-/// than two steps for each call.
-pub fn walk(alloc: Global, program: &LongProgram, manner: Manner) -> Result<Vec<Step>, AllocError>
+/// The step of this number, from 0, of the run that is gone along, where it is enabled; else an
+/// enabled step, where there is one.
+fn step_along(
+    alloc: Global,
+    program: &LongProgram,
+    state: &State,
+    ranks: &[u32],
+    manner: Manner,
+    wanted: Option<Step>,
+) -> Result<Option<Step>, AllocError>
+    requires of { IsConfigurationOf program.now state.now }
+    requires others { IsPermutation (filter (is_other manner.held_back) (range_with_len 0 program.now.ranks)) ranks.now }
+    ensures some { IfOk result (λ found. IfSome found (IsEnabled program.now state.now)) }
+    ensures none { IfOk result (λ found. IfNone found (NothingEnabled program.now state.now)) }
+{
+    if let Some(step) = wanted {
+        if state.enabled(program, step) {
+            return Ok(Some(step));
+        }
+    }
+    next_step(alloc, program, state, ranks, manner)
+}
+
+/// A run from the opening state that takes these steps, one after another, as far as they are enabled
+/// when their turn comes, and goes on until no step is enabled: so it ends stuck or finished. No run has
+/// more than two steps for each call.
+pub fn walk_along(
+    alloc: Global,
+    program: &LongProgram,
+    along: &[Step],
+    manner: Manner,
+) -> Result<Vec<Step>, AllocError>
     ensures { IfOk result (λ steps. IsWalk program.now steps.items) }
 {
     let others = other_ranks(alloc, program.ranks(), manner.held_back)?;
@@ -292,7 +321,8 @@ pub fn walk(alloc: Global, program: &LongProgram, manner: Manner) -> Result<Vec<
     let mut chance = manner.chance;
     for turn in 0..2 * program.calls().len() + 1 {
         let now = Manner { chance, ..manner };
-        let Some(step) = next_step(alloc, program, &state, &ranks, now)? else {
+        let wanted = along.get(turn).copied();
+        let Some(step) = step_along(alloc, program, &state, &ranks, now, wanted)? else {
             return Ok(steps);
         };
         steps.push(step)?;
@@ -300,4 +330,11 @@ pub fn walk(alloc: Global, program: &LongProgram, manner: Manner) -> Result<Vec<
         chance = next_chance(chance);
     }
     Ok(steps)
+}
+
+/// A run from the opening state, which goes on until no step is enabled.
+pub fn walk(alloc: Global, program: &LongProgram, manner: Manner) -> Result<Vec<Step>, AllocError>
+    ensures { IfOk result (λ steps. IsWalk program.now steps.items) }
+{
+    walk_along(alloc, program, &[], manner)
 }

@@ -3,7 +3,7 @@
 ghost use Rattle.std.specs.Prelude.{◌≡◌, IfOk, option_copied};
 ghost use Rattle.calltext.specs.Limits.{long};
 ghost use Rattle.callorder.specs.Resolving.{IsTextOf, IsTextOfWithin};
-ghost use Rattle.semantics.specs.Machine.{IsStuckRun};
+ghost use Rattle.semantics.specs.Machine.{IsFinishedRun, IsStuckRun};
 ghost use Rattle.frequency.specs.Frequencies.{IsFrequency};
 ghost use Rattle.explain.specs.Often.{BeginsWith, often_line};
 ghost use Rattle.reports.specs.Explanations.{IsDrawnFrom, SaysHowOften, well_steps};
@@ -19,7 +19,7 @@ use finishing::frequency_of_program;
 use frequency::{Frequency, frequency_of};
 use htmlpage::page;
 use objects::object_text;
-use prover::finished_walk;
+use prover::{finished_walk, run_that_parts_last};
 use semantics::Step;
 use settings::{Form, Options};
 use std::alloc::{AllocError, Global};
@@ -142,6 +142,7 @@ fn often_by_chance<R: Threads + Sync>(
     alloc: Global,
     text: &[u8],
     program: &LongProgram,
+    steps: &[Step],
 ) -> Result<Frequency, AllocError>
     requires text { IsTextOfWithin long text.now program.now }
     requires unknown { IsFrequency program.now Frequency.Unknown }
@@ -150,26 +151,53 @@ fn often_by_chance<R: Threads + Sync>(
     if program.calls().len() > FEW_CALLS {
         return Ok(Frequency::Unknown);
     }
+    if let Some(run) = run_that_parts_last(alloc, program, steps)? {
+        return Ok(Frequency::Sometimes(run));
+    }
     match finished_walk(alloc, program)? {
-        Some(steps) => Ok(Frequency::Sometimes(steps)),
+        Some(run) => Ok(Frequency::Sometimes(run)),
         None => often_by_formula(rt, alloc, text, program),
     }
 }
 
-/// How often the runs of the program of a text get stuck.
+/// A run that ends well, and parts from these steps where that is decided, as far as is known; else
+/// the one that is given.
+fn parting_run(
+    alloc: Global,
+    program: &LongProgram,
+    steps: &[Step],
+    known: Vec<Step>,
+) -> Result<Vec<Step>, AllocError>
+    requires { IsFinishedRun program.now known.items }
+    ensures { IfOk result (λ run. IsFinishedRun program.now run.items) }
+{
+    if program.calls().len() > FEW_CALLS {
+        return Ok(known);
+    }
+    match run_that_parts_last(alloc, program, steps)? {
+        Some(run) => Ok(run),
+        None => Ok(known),
+    }
+}
+
+/// How often the runs of the program of a text get stuck, of which these steps are one that does.
 fn often<R: Threads + Sync>(
     rt: &R,
     alloc: Global,
     text: &[u8],
     program: &LongProgram,
+    steps: &[Step],
 ) -> Result<Frequency, AllocError>
     requires { IsTextOfWithin long text.now program.now }
     ensures { IfOk result (IsFrequency program.now) }
 {
     match frequency_of(alloc, program)? {
         Frequency::Always => Ok(Frequency::Always),
-        Frequency::Sometimes(steps) => Ok(Frequency::Sometimes(steps)),
-        Frequency::Unknown => often_by_chance(rt, alloc, text, program),
+        Frequency::Sometimes(known) => {
+            let run = parting_run(alloc, program, steps, known)?;
+            Ok(Frequency::Sometimes(run))
+        }
+        Frequency::Unknown => often_by_chance(rt, alloc, text, program, steps),
     }
 }
 
@@ -210,7 +238,7 @@ fn explained_text<R: Threads + Sync>(
     requires stuck { IsStuckRun program.now steps.now }
     ensures { IfOk result (λ told. SaysHowOften program.now told.items) }
 {
-    let frequency = often(rt, alloc, text, program)?;
+    let frequency = often(rt, alloc, text, program, steps)?;
     words_of(
         alloc, text, source, program, steps, asked, &frequency, whole,
     )
@@ -241,7 +269,7 @@ fn explained_page<R: Threads + Sync>(
     requires stuck { IsStuckRun program.now steps.now }
     ensures { IfOk result (λ told. IsDrawnFrom Form.Page text.now source.now program.now steps.now told.items) }
 {
-    let frequency = often(rt, alloc, text, program)?;
+    let frequency = often(rt, alloc, text, program, steps)?;
     let words = words_of(
         alloc, text, source, program, steps, asked, &frequency, false,
     )?;
@@ -262,7 +290,7 @@ fn explained_object<R: Threads + Sync>(
     requires text { IsTextOfWithin long text.now program.now }
     requires stuck { IsStuckRun program.now steps.now }
 {
-    let frequency = often(rt, alloc, text, program)?;
+    let frequency = often(rt, alloc, text, program, steps)?;
     let deciders = deciders_of(alloc, asked)?;
     object_text(alloc, text, source, program, steps, &frequency, &deciders)
 }

@@ -2,7 +2,7 @@ use Rattle.std.proofs.Common.{length, subst, ap, arith}
 use Rattle.std.specs.Prelude.{IfSome}
 use Rattle.semantics.specs.Machine.{IsEnabled}
 use Rattle.prover.proofs.Walks.{now_more, run_more, too_long}
-use Rattle.prover.proofs.walk.walk.Goals as goal
+use Rattle.prover.proofs.walk.walk_along.Goals as goal
 
 pub loop-turn-preserved : goal.loop-turn-preserved
 loop-turn-preserved c =

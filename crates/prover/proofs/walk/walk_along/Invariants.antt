@@ -1,6 +1,6 @@
 use Rattle.std.proofs.Common.{◌≡◌, length}
 use Rattle.semantics.specs.Machine.{IsConfigurationOf, IsRun, opening, after_all}
-use Rattle.prover.proofs.walk.walk.Given as goal
+use Rattle.prover.proofs.walk.walk_along.Given as goal
 
 abbrev pub invariant-loop-turn : goal.invariant-loop-turn
 invariant-loop-turn l =
