@@ -403,12 +403,14 @@ fills_readable at names here f =
     record {
       policy = p;
       program = s;
-      spelled = ap (λ (z : Rest). only (is_ordered s) (after piece.TextEnd (after_statement s (after_policy p z)))) f.spelled
-          ∙ (ap (λ (z : Rest). only (is_ordered s) (after piece.TextEnd (after_statement s z))) f.on.spelled
-          ∙ (ap (λ (z : Rest). only (is_ordered s) (after piece.TextEnd z)) spelled
-          ∙ (ap (λ (b : Bool). only b (after piece.TextEnd (Some f.on.on.on.mid))) ordered
-          ∙ (f.on.on.on.on.spelled ∙ ap Some f.on.on.on.on.on))));
-      obeys = (f.on.on.may, f.on.on.on.may.obeys);
+      says = record {
+        spelled = ap (λ (z : Rest). only (is_ordered s) (after piece.TextEnd (after_statement s (after_policy p z)))) f.spelled
+            ∙ (ap (λ (z : Rest). only (is_ordered s) (after piece.TextEnd (after_statement s z))) f.on.spelled
+            ∙ (ap (λ (z : Rest). only (is_ordered s) (after piece.TextEnd z)) spelled
+            ∙ (ap (λ (b : Bool). only b (after piece.TextEnd (Some f.on.on.on.mid))) ordered
+            ∙ (f.on.on.on.on.spelled ∙ ap Some f.on.on.on.on.on))));
+        obeys = (f.on.on.may, f.on.on.on.may.obeys);
+      };
     }
 
 -- Lines that may stand one after another from the beginning of a text on are the beginning of some

@@ -357,5 +357,5 @@ first_fault at names tokens number s = record {
       stuck_behind (all_renamed others s.reached) s.bad other s.one
       (stuck_alike names others s.reached s.bad runs.0 (alike_second names others s.before s.bad alike) s.stuck)
       (runs_same (all_renamed others s.reached) (begin others ∷ []) [] s.before (s.bad ++ other) runs.1
-      (subst (λ (xs : List Token). Runs [] (begin others ∷ []) xs) (append_assoc s.before s.bad other) (text_runs others r.policy r.program (s.before ++ s.bad ++ other) r.spelled r.obeys)));
+      (subst (λ (xs : List Token). Runs [] (begin others ∷ []) xs) (append_assoc s.before s.bad other) (text_runs others r.policy r.program (s.before ++ s.bad ++ other) r.says.spelled r.says.obeys)));
 }

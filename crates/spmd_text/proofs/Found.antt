@@ -75,10 +75,6 @@ joint_no_end (joint.Between o) e = cc
 joint_passed : (s : Parser) (j : Joint) → joint_of (next s) ≡ Some j → after (joint_piece j) (Some s.rest.now) ≡ Some (behind s.rest.now)
 joint_passed s j e = passed s.fault s.rest.now (joint_piece j) (joint_plain j) (joint_no_end j) (joint_so (next s) j e)
 
-stops_first : (here : List Token) (k : ℕ) → stops k here ≡ is_below (joint_of (next_of None here)) k
-stops_first [] k = refl
-stops_first (t ∷ ts) k = refl
-
 -- ---- what may stand at it
 
 times_fits : (a : Expression) → 5 ≤ closeness a → (closeness a ≡ 5 → is_lone_tree a ≡ false) → 7 ≤ binding a

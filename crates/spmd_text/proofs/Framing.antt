@@ -1,5 +1,5 @@
 -- What is read within a line: the same is read whatever stands behind it, and no line ends in it.
-use Rattle.std.proofs.Common.{◌≡◌, ℕ, Bool, true, false, not, ◌&&◌, nat_eq, List, [], ◌∷◌, ◌++◌, Option, Some, None, refl, ap, sym, ◌∙◌}
+use Rattle.std.proofs.Common.{◌≡◌, ℕ, Bool, true, false, not, ◌&&◌, ◌||◌, nat_eq, List, [], ◌∷◌, ◌++◌, Option, Some, None, refl, ap, sym, subst, ◌∙◌}
 use Rattle.std.proofs.lemmas.Bool.{false≢true}
 use Rattle.std.proofs.lemmas.List.{append_assoc}
 use Rattle.std.proofs.lemmas.Option.{same_Some}
@@ -21,7 +21,7 @@ use Rattle.spmd_text.specs.declared.piece.Piece.{Piece}
 use Rattle.spmd_text.specs.declared.piece.Piece.TheVariants as piece
 use Rattle.spmd_text.specs.declared.piece.Token.{Token}
 use Rattle.spmd_text.specs.Spelling.{Rest, after, after_arguments, after_communicator, after_condition, after_expression, after_group, after_index, after_label, after_labels, after_optional, after_request, after_root, after_start, after_value, after_wild, comparison_piece, is_piece, only, operator_piece}
-use Rattle.spmd_text.specs.Lines.{closes, is_line}
+use Rattle.spmd_text.specs.Lines.{closes, has_text_end, is_line, is_text_end}
 use Rattle.spmd_text.proofs.NoStar.{left_before, only_left}
 use Rattle.spmd_text.proofs.Parts.{none_some}
 use Rattle.spmd_text.proofs.Pieces.{piece_is}
@@ -29,16 +29,33 @@ use Rattle.spmd_text.proofs.Strict.{only_none}
 
 -- ---- pieces before the end of a line
 
--- with these pieces before it, each line is a line still
-abbrev pub Opens : List Token → Type 0
-Opens read = (line : List Token) → is_line line ≡ true → is_line (read ++ line) ≡ true
+-- a line in a text: it ends with the end of a line
+pub record IsFull (line : List Token) : Type 0 where
+  pub one : is_line line ≡ true
+  pub inner : has_text_end line ≡ false
 
-pub one_before : (t : Token) → closes t.piece ≡ false → (line : List Token) → is_line line ≡ true → is_line (t ∷ line) ≡ true
-one_before t opens [] one = absurd (false≢true one)
-one_before t opens (u ∷ us) one = ap (λ (b : Bool). not b && is_line (u ∷ us)) opens ∙ one
+-- with these pieces before it, each such line is one still
+abbrev pub Opens : List Token → Type 0
+Opens read = (line : List Token) → IsFull line → IsFull (read ++ line)
+
+-- what closes no line ends no text
+pub open_piece : (p : Piece) → closes p ≡ false → is_text_end p ≡ false
+open_piece piece.LineEnd e = refl
+open_piece piece.TextEnd e = absurd (false≢true (sym e))
+open_piece p e = refl
+
+pub longer_line : (t : Token) → closes t.piece ≡ false → (line : List Token) → is_line line ≡ true → is_line (t ∷ line) ≡ true
+longer_line t opens [] one = absurd (false≢true one)
+longer_line t opens (u ∷ us) one = ap (λ (b : Bool). not b && is_line (u ∷ us)) opens ∙ one
+
+pub one_before : (t : Token) → closes t.piece ≡ false → (line : List Token) → IsFull line → IsFull (t ∷ line)
+one_before t opens line full = record {
+  one = longer_line t opens line full.one;
+  inner = ap (λ (b : Bool). b || has_text_end line) (open_piece t.piece opens) ∙ full.inner;
+}
 
 opens_on : (xs ys : List Token) → Opens xs → Opens ys → Opens (xs ++ ys)
-opens_on xs ys one other line is = ap is_line (append_assoc xs ys line) ∙ one (ys ++ line) (other line is)
+opens_on xs ys one other line full = subst IsFull (sym (append_assoc xs ys line)) (one (ys ++ line) (other line full))
 
 -- ---- what is read within a line
 
@@ -56,7 +73,7 @@ pub record Framed (f : Rest → Rest) : Type 0 where
 pub framed_same : Framed (λ z. z)
 framed_same = record {
   strict = refl;
-  held = λ here rest e. record { read = []; split = same_Some here rest e; opens = λ line is. is; alone = λ other. refl };
+  held = λ here rest e. record { read = []; split = same_Some here rest e; opens = λ line full. full; alone = λ other. refl };
 }
 
 -- first the one, then the other

@@ -1,5 +1,4 @@
 pub mod Feeding
-pub mod Places
 pub mod Refusals
 pub mod Headings
 pub mod Pieces

@@ -1,5 +1,5 @@
 -- A line tells by its first piece of which kind it is.
-use Rattle.std.proofs.Common.{◌≡◌, ℕ, pos, true, false, not, nat_eq, List, [], ◌∷◌, ◌++◌, Some, None, refl, ap, sym, subst, ◌∙◌}
+use Rattle.std.proofs.Common.{◌≡◌, ◌⊎◌, ℕ, pos, true, false, not, nat_eq, List, [], ◌∷◌, ◌++◌, Some, None, refl, ap, sym, subst, ◌∙◌, inl, inr}
 use Rattle.std.proofs.lemmas.List.{append_assoc, append-nil}
 use Rattle.spmd_tree.specs.declared.tree.Statement.{Statement}
 use Rattle.spmd_tree.specs.declared.tree.Statement.TheVariants as statement
@@ -17,6 +17,7 @@ use Rattle.spmd_text.specs.Lines as lines
 use Rattle.spmd_text.proofs.BlockForms.{not_so}
 use Rattle.spmd_text.proofs.BlockWords.{condition_strict, one_begins, start_begins, taken_begins}
 use Rattle.spmd_text.proofs.Following.{and_left, and_right}
+use Rattle.spmd_text.proofs.Framing.{IsFull}
 use Rattle.spmd_text.proofs.LeftOut.{gap_strict}
 use Rattle.spmd_text.proofs.NoStar.{left_before}
 use Rattle.spmd_text.proofs.Parts.{none_some}
@@ -132,21 +133,28 @@ by_kind levels line next (lines.text_end h) = of_kind text_end levels line next 
 
 -- ---- a step takes one line
 
-whole : (f : Rest → Rest) → IsLineTaker f → (line : List Token) → f (Some line) ≡ Some [] → is_line line ≡ true
-whole f takes line e =
-    let a = takes.alone line [] e in subst (λ (xs : List Token). is_line xs ≡ true) (sym (append-nil a.line) ∙ sym a.split) a.one
+whole : (f : Rest → Rest) → IsLineTaker f → (line : List Token) → f (Some line) ≡ Some [] → IsFull line
+whole f takes line e = let a = takes.alone line [] e in subst IsFull (sym (append-nil a.line) ∙ sym a.split) a.full
+
+-- a line that may stand somewhere is one in the text, or the end of it
+pub step_full : (levels : List Level) (line : List Token) (next : List Level) → Steps levels line next → IsFull line ⊎ IsTextEnd levels line next
+step_full levels line next (lines.heading h) = inl (whole _ heading_line line h.spelled)
+step_full levels line next (lines.policy h) = inl (whole _ (policy_line h.policy) line h.spelled)
+step_full levels line next (lines.parameter h) = inl (whole _ (parameter_line h.number h.name h.value) line h.spelled)
+step_full levels line next (lines.simple h) = inl (whole _ (simple_line h.statement h.may.one h.simple) line h.spelled)
+step_full levels line next (lines.repeat h) = inl (whole _ (loop_line h.number h.name h.span) line h.spelled)
+step_full levels line next (lines.when h) = inl (whole _ (head_line h.number false h.condition) line h.spelled)
+step_full levels line next (lines.chained h) = inl (whole _ (head_line h.number true h.condition) line h.spelled)
+step_full levels line next (lines.otherwise h) = inl (whole _ else_line line h.spelled)
+step_full levels line next (lines.end h) = inl (whole _ end_line line h.spelled)
+step_full levels line next (lines.text_end h) = inr h
 
 pub step_is_line : (levels : List Level) (line : List Token) (next : List Level) → Steps levels line next → is_line line ≡ true
-step_is_line levels line next (lines.heading h) = whole _ heading_line line h.spelled
-step_is_line levels line next (lines.policy h) = whole _ (policy_line h.policy) line h.spelled
-step_is_line levels line next (lines.parameter h) = whole _ (parameter_line h.number h.name h.value) line h.spelled
-step_is_line levels line next (lines.simple h) = whole _ (simple_line h.statement h.may.one h.simple) line h.spelled
-step_is_line levels line next (lines.repeat h) = whole _ (loop_line h.number h.name h.span) line h.spelled
-step_is_line levels line next (lines.when h) = whole _ (head_line h.number false h.condition) line h.spelled
-step_is_line levels line next (lines.chained h) = whole _ (head_line h.number true h.condition) line h.spelled
-step_is_line levels line next (lines.otherwise h) = whole _ else_line line h.spelled
-step_is_line levels line next (lines.end h) = whole _ end_line line h.spelled
-step_is_line levels line next (lines.text_end h) = text_end_line line h.spelled
+step_is_line levels line next steps = by_form (step_full levels line next steps)
+  where
+    by_form : IsFull line ⊎ IsTextEnd levels line next → is_line line ≡ true
+    by_form (inl full) = full.one
+    by_form (inr h) = text_end_line line h.spelled
 
 -- ---- where lines lead is determined
 
@@ -230,6 +238,11 @@ next_is chained levels line next h = h.is ∙ ap (λ (ls : List Level). next_by 
 next_is otherwise levels line next h = h.is ∙ ap (λ (ls : List Level). next_by otherwise ls line) (sym h.here)
 next_is end levels line next h = h.is ∙ ap (λ (ls : List Level). next_by end ls line) (sym h.here)
 next_is text_end levels line next h = h.is ∙ ap (λ (ls : List Level). next_by text_end ls line) (sym h.here)
+
+-- behind the end of the text nothing stands
+pub none_leads : (line : List Token) (next : List Level) → Steps [] line next → next ≡ []
+unfolding next_by
+none_leads line next steps = next_is (kind_at line) [] line next (by_kind [] line next steps)
 
 -- a line leads to one place
 pub step_same : (levels : List Level) (line : List Token) (a b : List Level) → Steps levels line a → Steps levels line b → a ≡ b

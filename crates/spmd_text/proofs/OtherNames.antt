@@ -1,9 +1,8 @@
 -- Only the names that stand in the pieces matter: with others in the place of all the rest, lines
 -- may stand where they could before.
-use Rattle.std.proofs.Common.{◌≡◌, ℕ, Bool, true, false, List, [], ◌∷◌, ◌++◌, Option, Some, None, slice_get, map, refl, ap, sym, subst, ◌∙◌}
-use Rattle.std.specs.Option.{option_map}
+use Rattle.std.proofs.Common.{◌≡◌, ℕ, Bool, true, false, List, [], ◌∷◌, ◌++◌, Option, Some, None, slice_get, refl, ap, sym, subst, ◌∙◌}
 use Rattle.std.proofs.lemmas.Bool.{false≢true}
-use Rattle.std.proofs.lemmas.Option.{same_Some, slice_get-map}
+use Rattle.std.proofs.lemmas.Option.{same_Some}
 use Rattle.std.specs.Global.{Vec}
 use Rattle.spmd_tree.specs.declared.tree.LabelForm.{LabelForm}
 use Rattle.spmd_tree.specs.declared.tree.Labels.{Labels}
@@ -16,12 +15,11 @@ use Rattle.spmd_text.specs.declared.piece.Piece.{Piece}
 use Rattle.spmd_text.specs.declared.piece.Piece.TheVariants as piece
 use Rattle.spmd_text.specs.declared.piece.Word.TheVariants as word
 use Rattle.spmd_text.specs.declared.piece.Token.{Token}
-use Rattle.spmd_text.specs.FirstFaults.{AreAlike, IsAlike, IsReadable, letters_of}
+use Rattle.spmd_text.specs.FirstFaults.{AreAlike, IsAlike, letters_of}
 use Rattle.spmd_text.specs.Labels.{has_index, is_label, label_fits, name_fits}
 use Rattle.spmd_text.specs.Lines.{Level, Runs, Steps}
 use Rattle.spmd_text.specs.Lines as lines
 use Rattle.spmd_text.specs.Parts.{IfThere, MayCall, MayLabel, MayLabels}
-use Rattle.spmd_text.specs.Programs.{ObeysText}
 use Rattle.spmd_text.specs.Spelling.{Rest, after, after_arguments, after_index, after_label, after_labels, after_request, after_start, after_statement, call_word}
 use Rattle.spmd_text.specs.Statements.{Obeys, Scope, first_word, is_one, is_simple}
 use Rattle.spmd_text.proofs.Framing.{Framed, framed_communicator, framed_label, framed_on, framed_pair, framed_piece, framed_request, framed_start, framed_value, framed_wild}
@@ -309,28 +307,3 @@ stuck_alike names others levels line have alike stuck next s =
     stuck (all_renamed names next)
     (subst (λ (ls : List Level). Steps ls line (all_renamed names next)) (renamed_back names others levels have)
     (step_alike others names (all_renamed others levels) line next (renamed_have others levels) (alike_back names others line alike) s))
-
--- ---- the same names, wherever they are kept
-
-letters_items : (o : Option (Vec ℕ)) → letters_of o ≡ option_map (λ (n : Vec ℕ). n.items) o
-letters_items None = refl
-letters_items (Some n) = refl
-
-letters_at : (names : List (Vec ℕ)) (k : ℕ) → letters_of (slice_get names k) ≡ slice_get (map (λ (n : Vec ℕ). n.items) names) k
-letters_at names k = letters_items (slice_get names k) ∙ sym (slice_get-map (λ (n : Vec ℕ). n.items) names k)
-
-pub items_alike : (names others : List (Vec ℕ)) → map (λ (n : Vec ℕ). n.items) names ≡ map (λ (n : Vec ℕ). n.items) others → (k : ℕ)
-    → letters_of (slice_get names k) ≡ letters_of (slice_get others k)
-items_alike names others same k = letters_at names k ∙ (ap (λ (ws : List (List ℕ)). slice_get ws k) same ∙ sym (letters_at others k))
-
-piece_alike : (names others : List (Vec ℕ)) → map (λ (n : Vec ℕ). n.items) names ≡ map (λ (n : Vec ℕ). n.items) others → (p : Piece) → IsAlike names others p
-piece_alike names others same (piece.Name k) = items_alike names others same k
-piece_alike names others same p = tt
-
-pub pieces_alike : (names others : List (Vec ℕ)) → map (λ (n : Vec ℕ). n.items) names ≡ map (λ (n : Vec ℕ). n.items) others → (pieces : List Token) → AreAlike names others pieces
-pieces_alike names others same [] = tt
-pieces_alike names others same (t ∷ ts) = (piece_alike names others same t.piece, pieces_alike names others same ts)
-
--- what can be read can be read with names that let it keep the rules
-pub readable_alike : (names others : List (Vec ℕ)) (tokens : List Token) → ((s : Statement) → ObeysText names s → ObeysText others s) → IsReadable names tokens → IsReadable others tokens
-readable_alike names others tokens obey r = record { policy = r.policy; program = r.program; spelled = r.spelled; obeys = obey r.program r.obeys }

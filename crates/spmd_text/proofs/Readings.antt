@@ -18,7 +18,7 @@ use Rattle.spmd_text.specs.Reading.{Finds}
 use Rattle.spmd_text.specs.Spelling.{Rest, after, after_statement, after_text, is_ordered, is_piece, only}
 use Rattle.spmd_text.specs.Statements.{heading_part}
 use Rattle.spmd_text.specs.Programs.{Meets, ObeysText, Says, is_all_read, parameters_of, text_part}
-use Rattle.spmd_text.specs.FirstFaults.{IsFirstFault}
+use Rattle.spmd_text.specs.FirstFaults.{IsFirstFault, IsReadable}
 use Rattle.spmd_text.specs.Joints.{Place}
 use Rattle.spmd_text.specs.Lines.{IsEnded, Tells, begin}
 use Rattle.spmd_text.specs.Texts.{HasFault, HasFirstFault, IsText, grammar_fault, is_memory}
@@ -43,7 +43,7 @@ end_left (t ∷ ts) e =
 -- ---- what the reader found
 
 pub read_said : {old new : Parser} {x : Policy × Statement} (pieces : Pieces) → Meets (text_part old.names.now) old new x → old.rest.now ≡ pieces.tokens.items → old.names.now ≡ pieces.names.items
-    → new.fault ≡ None → is_all_read new.rest.now ≡ true → Says pieces x.0 x.1
+    → new.fault ≡ None → is_all_read new.rest.now ≡ true → Says pieces.names.items pieces.tokens.items x.0 x.1
 read_said {old} {new} {x} pieces meets tokens names sound ends = record {
   spelled =
       ap (λ (ts : List Token). after_text x.0 x.1 (Some ts)) (sym tokens)
@@ -62,7 +62,7 @@ some_never why e = cc
 
 pub read_told : {old new : Parser} {x : Policy × Statement} (pieces : Pieces) → Meets (text_part old.names.now) old new x → old.rest.now ≡ pieces.tokens.items → old.names.now ≡ pieces.names.items
     → old.fault ≡ None → (o : Option ParseFault) → IfSome o (λ fault. new.fault ≡ Some fault.reason)
-    → IfSome o (λ fault. is_memory fault.reason ≡ false → (p : Policy) (s : Statement) → Says pieces p s → ⊥)
+    → IfSome o (λ fault. is_memory fault.reason ≡ false → IsReadable pieces.names.items pieces.tokens.items → ⊥)
 read_told {old} {new} {x} pieces meets tokens names sound None is_told = tt
 read_told {old} {new} {x} pieces meets tokens names sound (Some fault) is_told = never
   where
@@ -70,13 +70,15 @@ read_told {old} {new} {x} pieces meets tokens names sound (Some fault) is_told =
     by_found rest other (inl memory) = memory_told fault.reason (sym is_told ∙ memory) other
     by_found rest other (inr (there, any)) = some_never fault.reason (sym is_told ∙ there.sound)
 
-    never : is_memory fault.reason ≡ false → (p : Policy) (s : Statement) → Says pieces p s → ⊥
-    never other p s says =
+    never : is_memory fault.reason ≡ false → IsReadable pieces.names.items pieces.tokens.items → ⊥
+    never other r =
+        let p : Policy = r.policy in
+        let s : Statement = r.program in
         let o = only_left (is_ordered s) (after piece.TextEnd (after_statement s (heading_part.behind p (Some old.rest.now)))) []
-        (ap (λ (ts : List Token). after_text p s (Some ts)) tokens ∙ says.spelled) in
+        (ap (λ (ts : List Token). after_text p s (Some ts)) tokens ∙ r.says.spelled) in
         let rest = left_before (after piece.TextEnd) refl (after_statement s (heading_part.behind p (Some old.rest.now))) [] o.1 in
         by_found rest.0 other
-        (meets.finds (p, s) rest.0 sound rest.1 (subst (λ (n : List (Vec ℕ)). ObeysText n s) (sym names) says.obeys)
+        (meets.finds (p, s) rest.0 sound rest.1 (subst (λ (n : List (Vec ℕ)). ObeysText n s) (sym names) r.says.obeys)
         (end_left rest.0 (ap (after piece.TextEnd) (sym rest.1) ∙ o.1)))
 
 -- the line that is told is the first that is wrong
@@ -97,7 +99,8 @@ read_first {old} {new} {x} {at} place pieces meets tells tokens names sound (Som
 
 -- ---- what is told of the bytes
 
-pub text_of : (bytes : List ℕ) (pieces : Pieces) (p : Policy) (s : Statement) (parameters : Vec ℕ) → length bytes ≤ 65536 → ArePieces pieces (pieces_of bytes) → Says pieces p s
+pub text_of : (bytes : List ℕ) (pieces : Pieces) (p : Policy) (s : Statement) (parameters : Vec ℕ) → length bytes ≤ 65536 → ArePieces pieces (pieces_of bytes)
+    → Says pieces.names.items pieces.tokens.items p s
     → parameters.items ≡ parameters_of s → IsText (record { policy = p; program = s; names = pieces.names; parameters = parameters }) bytes
 text_of bytes pieces p s parameters small cut says named = record {
   small = small;
@@ -114,18 +117,22 @@ same_state : (a b : Cutting) (whole : Result Cutting ParseFault) → whole ≡ O
 same_state a b whole is also = cc
 
 -- a text is what its pieces say, in names of their own
-text_says : (bytes : List ℕ) (pieces : Pieces) → ArePieces pieces (pieces_of bytes) → (text : Text) → IsText text bytes → Says pieces text.policy text.program
-text_says bytes pieces cut text is =
+text_read : (bytes : List ℕ) (pieces : Pieces) → ArePieces pieces (pieces_of bytes) → (text : Text) → IsText text bytes → IsReadable pieces.names.items pieces.tokens.items
+text_read bytes pieces cut text is =
     let same = same_state is.state cut.state (pieces_of bytes) is.cut cut.done in
     record {
-      spelled =
-          ap (λ (ts : List Token). after_text text.policy text.program (Some ts)) (cut.tokens ∙ ap (λ (c : Cutting). c.tokens) (sym same))
-          ∙ is.spelled;
-      obeys = text_same text.names.items pieces.names.items (is.names ∙ (ap (λ (c : Cutting). c.names) same ∙ sym cut.names)) text.program is.obeys;
+      policy = text.policy;
+      program = text.program;
+      says = record {
+        spelled =
+            ap (λ (ts : List Token). after_text text.policy text.program (Some ts)) (cut.tokens ∙ ap (λ (c : Cutting). c.tokens) (sym same))
+            ∙ is.spelled;
+        obeys = text_same text.names.items pieces.names.items (is.names ∙ (ap (λ (c : Cutting). c.names) same ∙ sym cut.names)) text.program is.obeys;
+      };
     }
 
 pub fault_told : (bytes : List ℕ) (pieces : Pieces) (fault : ParseFault) → length bytes ≤ 65536 → ArePieces pieces (pieces_of bytes)
-    → (is_memory fault.reason ≡ false → (p : Policy) (s : Statement) → Says pieces p s → ⊥)
+    → (is_memory fault.reason ≡ false → IsReadable pieces.names.items pieces.tokens.items → ⊥)
     → (is_memory fault.reason ≡ false → IsEnded pieces.tokens.items → IsFirstFault pieces.names.items pieces.tokens.items fault.line) → HasFault bytes (grammar_fault fault)
 fault_told bytes pieces fault small cut never first = by_memory (is_memory fault.reason) refl
   where
@@ -142,4 +149,4 @@ fault_told bytes pieces fault small cut never first = by_memory (is_memory fault
     by_memory true e = subst (λ (k : Bool). HasFault bytes (if k then told.Memory else told.Grammar fault)) (sym e) tt
     by_memory false e =
         subst (λ (k : Bool). HasFault bytes (if k then told.Memory else told.Grammar fault)) (sym e)
-        (small, has_first e, e, λ text is. never e text.policy text.program (text_says bytes pieces cut text is))
+        (small, has_first e, e, λ text is. never e (text_read bytes pieces cut text is))

@@ -57,9 +57,6 @@ pub index_strict : (e : Option Expression) → after_index e None ≡ None
 index_strict None = refl
 index_strict (Some e) = after_of piece.CloseIndex _ (value_strict e)
 
-index_of : (e : Option Expression) (z : Rest) → z ≡ None → after_index e z ≡ None
-index_of e z f = ap (λ (y : Rest). after_index e y) f ∙ index_strict e
-
 pub label_strict : (f : LabelForm) → after_label f None ≡ None
 label_strict f = index_strict f.index
 

@@ -1,5 +1,5 @@
 -- Which line can't stand where it does: the first one here, or one behind lines that may stand.
-use Rattle.std.proofs.Common.{◌≡◌, ℕ, Bool, true, false, ◌||◌, ◌&&◌, not, List, [], ◌∷◌, ◌++◌, append_assoc, append-nil, Option, Some, None, refl, ap, sym, subst, ◌∙◌, inl, inr}
+use Rattle.std.proofs.Common.{◌≡◌, ℕ, Bool, true, false, ◌||◌, List, [], ◌∷◌, ◌++◌, append_assoc, append-nil, Option, Some, None, refl, ap, sym, subst, ◌∙◌, inl, inr}
 use Rattle.spmd_text.specs.declared.fault.ParseReason.{ParseReason}
 use Rattle.spmd_text.specs.declared.fault.ParseReason.TheVariants.{Memory}
 use Rattle.spmd_text.specs.declared.parser.Parser.{Parser}
@@ -9,7 +9,8 @@ use Rattle.spmd_text.specs.Parts.{Part, Reads}
 use Rattle.spmd_text.specs.Statements.{Makes, line_at}
 use Rattle.spmd_text.specs.Lines as lines
 use Rattle.spmd_text.specs.Lines.{IsStuckAt, Level, Steps, Tells, closes, has_text_end, is_line}
-use Rattle.spmd_text.proofs.LineEnds.{end_before, open_piece, runs_end}
+use Rattle.spmd_text.proofs.Framing.{longer_line, open_piece}
+use Rattle.spmd_text.proofs.LineEnds.{end_before, runs_end}
 use Rattle.spmd_text.proofs.LineKinds.{ByKind, Kind, by_kind, kind_at}
 use Rattle.spmd_text.proofs.Parts.{none_some}
 use Rattle.spmd_text.proofs.TreeLines.{RunsTo, runs_on}
@@ -31,10 +32,6 @@ pub record FirstLine (here : List Token) : Type 0 where
   pub kind : kind_at line ≡ kind_at here
   pub number : line_at here ≡ line_at line
 
-longer_line : (t : Token) (line : List Token) → closes t.piece ≡ false → is_line line ≡ true → is_line (t ∷ line) ≡ true
-longer_line t [] open_so one = absurd (let never : false ≡ true = one in cc)
-longer_line t (u ∷ us) open_so one = ap (λ (b : Bool). not b && is_line (u ∷ us)) open_so ∙ one
-
 pub first_line : (here : List Token) → has_text_end here ≡ true → FirstLine here
 first_line [] ended = absurd (let never : false ≡ true = ended in cc)
 first_line (t ∷ ts) ended = by_first (closes t.piece) refl (λ e. first_line ts e)
@@ -47,7 +44,7 @@ first_line (t ∷ ts) ended = by_first (closes t.piece) refl (λ e. first_line t
           line = t ∷ more.line;
           beyond = more.beyond;
           split = ap (λ (xs : List Token). t ∷ xs) more.split;
-          one = longer_line t more.line is more.one;
+          one = longer_line t is more.line more.one;
           kind = refl;
           number = refl;
         }

@@ -1,5 +1,5 @@
 -- What stands on one line is read to its end and no further, whatever stands behind it.
-use Rattle.std.proofs.Common.{◌≡◌, ℕ, ℤ, pos, Bool, true, false, List, [], ◌∷◌, ◌++◌, Option, Some, None, refl, ap, sym, ◌∙◌, if◌then◌else◌}
+use Rattle.std.proofs.Common.{◌≡◌, ℕ, ℤ, pos, Bool, true, false, ◌||◌, List, [], ◌∷◌, ◌++◌, Option, Some, None, refl, ap, sym, ◌∙◌, if◌then◌else◌}
 use Rattle.std.proofs.lemmas.Bool.{false≢true}
 use Rattle.std.proofs.lemmas.List.{append_assoc, append-nil}
 use Rattle.std.proofs.lemmas.Option.{same_Some}
@@ -9,13 +9,14 @@ use Rattle.spmd_tree.specs.declared.tree.Statement.TheVariants as statement
 use Rattle.spmd_text.specs.declared.lines.Span.{Span}
 use Rattle.spmd_text.specs.declared.piece.Word.{Word}
 use Rattle.spmd_text.specs.declared.piece.Word.TheVariants as word
+use Rattle.spmd_text.specs.declared.piece.Piece.{Piece}
 use Rattle.spmd_text.specs.declared.piece.Piece.TheVariants as piece
 use Rattle.spmd_text.specs.declared.piece.Token.{Token}
 use Rattle.spmd_text.specs.declared.reading.Policy.{Policy}
 use Rattle.spmd_text.specs.Spelling.{Rest, after, after_end, after_gap, after_head, after_parameter, after_span, after_statement, after_variable, branch_word, call_word, is_piece, only, policy_word, same_number}
 use Rattle.spmd_text.specs.Statements.{first_word, is_one, is_simple}
-use Rattle.spmd_text.specs.Lines.{closes, is_line}
-use Rattle.spmd_text.proofs.Framing.{Framed, framed_arguments, framed_condition, framed_labels, framed_on, framed_optional, framed_piece, framed_start, framed_value, framed_word, one_before}
+use Rattle.spmd_text.specs.Lines.{closes, is_line, is_text_end}
+use Rattle.spmd_text.proofs.Framing.{Framed, IsFull, framed_arguments, framed_condition, framed_labels, framed_on, framed_optional, framed_piece, framed_start, framed_value, framed_word, one_before}
 use Rattle.spmd_text.proofs.LeftOut.{gap_strict}
 use Rattle.spmd_text.proofs.NoStar.{left_before, only_left}
 use Rattle.spmd_text.proofs.Parts.{none_some}
@@ -25,7 +26,7 @@ use Rattle.spmd_text.proofs.Pieces.{piece_is, taken}
 pub record Alone (f : Rest → Rest) (here rest : List Token) : Type 0 where
   pub line : List Token
   pub split : here ≡ line ++ rest
-  pub one : is_line line ≡ true
+  pub full : IsFull line
   pub spelled : f (Some line) ≡ Some []
 
 -- what takes one line: what stands behind the line doesn't matter
@@ -39,7 +40,7 @@ pub record IsLineTaker (f : Rest → Rest) : Type 0 where
 record Ended (f : Rest → Rest) (here rest : List Token) : Type 0 where
   line : List Token
   split : here ≡ line ++ rest
-  one : is_line line ≡ true
+  full : IsFull line
   alone : (other : List Token) → f (Some (line ++ other)) ≡ Some other
 
 record Ends (f : Rest → Rest) : Type 0 where
@@ -58,14 +59,15 @@ behind_held {f} {g} one other = record { strict = ap g one.strict ∙ other.stri
         record {
           line = a.read ++ c.line;
           split = a.split ∙ (ap (λ (xs : List Token). a.read ++ xs) c.split ∙ sym (append_assoc a.read c.line rest));
-          one = a.opens c.line c.one;
+          full = a.opens c.line c.full;
           alone = λ more.
               ap (λ (xs : List Token). g (f (Some xs))) (append_assoc a.read c.line more) ∙ (ap g (a.alone (c.line ++ more)) ∙ c.alone more);
         }
 
 -- the first piece ends the line
-first_closes : (t : Token) → is_piece piece.LineEnd t.piece ≡ true → closes t.piece ≡ true
-first_closes t e = ap closes (piece_is piece.LineEnd t.piece e)
+end_full : (t : Token) → is_piece piece.LineEnd t.piece ≡ true → IsFull (t ∷ [])
+end_full t e =
+    let is = piece_is piece.LineEnd t.piece e in record { one = ap closes is; inner = ap (λ (p : Piece). is_text_end p || false) is }
 
 line_ends : Ends (after piece.LineEnd)
 line_ends = record { strict = refl; ended = ended }
@@ -77,7 +79,7 @@ line_ends = record { strict = refl; ended = ended }
         record {
           line = t ∷ [];
           split = ap (λ (xs : List Token). t ∷ xs) (same_Some ts rest o.1);
-          one = first_closes t o.0;
+          full = end_full t o.0;
           alone = λ other. ap (λ (b : Bool). only b (Some other)) o.0;
         }
 
@@ -96,7 +98,7 @@ gap_first n true t ts rest is e =
     record {
       line = t ∷ c.line;
       split = ap (λ (xs : List Token). t ∷ xs) (same_Some ts b.0 o.1 ∙ c.split);
-      one = one_before t (ap closes (piece_is (piece.Word word.Step) t.piece o.0)) c.line c.one;
+      full = one_before t (ap closes (piece_is (piece.Word word.Step) t.piece o.0)) c.line c.full;
       alone = λ other.
           ap (λ (k : Bool). gap_by k n (Some (t ∷ (c.line ++ other)))) is
           ∙ (ap (λ (k : Bool). after piece.LineEnd (after (piece.Number n) (only k (Some (c.line ++ other))))) o.0 ∙ c.alone other);
@@ -108,7 +110,7 @@ gap_first n false t ts rest is e =
     record {
       line = t ∷ [];
       split = ap (λ (xs : List Token). t ∷ xs) (same_Some ts rest o.1);
-      one = first_closes t o.0;
+      full = end_full t o.0;
       alone = λ other.
           ap (λ (k : Bool). gap_by k n (Some (t ∷ other))) is
           ∙ (ap (λ (k : Bool). after piece.LineEnd (only k (Some (t ∷ other)))) s.0 ∙ ap (λ (k : Bool). only k (Some other)) o.0);
@@ -132,7 +134,7 @@ taker {f} ends = record { alone = alone; more = more }
     alone : (here rest : List Token) → f (Some here) ≡ Some rest → Alone f here rest
     alone here rest e =
         let a = ends.ended here rest e in
-        record { line = a.line; split = a.split; one = a.one; spelled = ap (λ (xs : List Token). f (Some xs)) (sym (append-nil a.line)) ∙ a.alone [] }
+        record { line = a.line; split = a.split; full = a.full; spelled = ap (λ (xs : List Token). f (Some xs)) (sym (append-nil a.line)) ∙ a.alone [] }
 
     more : (line rest : List Token) → f (Some line) ≡ Some [] → f (Some (line ++ rest)) ≡ Some rest
     more line rest e =

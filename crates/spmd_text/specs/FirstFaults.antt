@@ -6,17 +6,15 @@ use Rattle.spmd_text.specs.declared.piece.Piece.{Piece}
 use Rattle.spmd_text.specs.declared.piece.Piece.TheVariants as piece
 use Rattle.spmd_text.specs.declared.piece.Token.{Token}
 use Rattle.spmd_text.specs.declared.reading.Policy.{Policy}
-use Rattle.spmd_text.specs.Spelling.{after_text}
 use Rattle.spmd_text.specs.Statements.{line_at}
-use Rattle.spmd_text.specs.Programs.{ObeysText}
+use Rattle.spmd_text.specs.Programs.{Says}
 use Rattle.spmd_text.specs.Lines.{are_lines, is_line}
 
 -- some tree is written as these pieces, and keeps the rules and limits
 pub record IsReadable (names : List (Vec ℕ)) (tokens : List Token) : Type 0 where
   pub policy : Policy
   pub program : Statement
-  pub spelled : after_text policy program (Some tokens) ≡ Some []
-  pub obeys : ObeysText names program
+  pub says : Says names tokens policy program
 
 abbrev pub letters_of : Option (Vec ℕ) → Option (List ℕ)
 letters_of None = None

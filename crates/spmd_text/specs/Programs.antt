@@ -8,7 +8,6 @@ use Rattle.spmd_text.specs.declared.fault.ParseReason.TheVariants.{Memory}
 use Rattle.spmd_text.specs.declared.parser.Parser.{Parser}
 use Rattle.spmd_text.specs.declared.piece.Word.TheVariants as word
 use Rattle.spmd_text.specs.declared.piece.Piece.TheVariants as piece
-use Rattle.spmd_text.specs.declared.piece.Pieces.{Pieces}
 use Rattle.spmd_text.specs.declared.piece.Token.{Token}
 use Rattle.spmd_text.specs.declared.reading.Policy.{Policy}
 use Rattle.spmd_text.specs.Joints.{stops}
@@ -134,7 +133,8 @@ text_part names = record {
   ends = is_all_read;
 }
 
--- the pieces are written as this policy and these statements, which keep the rules and limits
-pub record Says (pieces : Pieces) (policy : Policy) (program : Statement) : Type 0 where
-  pub spelled : after_text policy program (Some pieces.tokens.items) ≡ Some []
-  pub obeys : ObeysText pieces.names.items program
+-- these pieces, of these names, are written as this policy and these statements, which keep the
+-- rules and limits
+pub record Says (names : List (Vec ℕ)) (tokens : List Token) (policy : Policy) (program : Statement) : Type 0 where
+  pub spelled : after_text policy program (Some tokens) ≡ Some []
+  pub obeys : ObeysText names program

@@ -1,9 +1,7 @@
 //! A text is read whole.
 
 ghost use Rattle.std.specs.Prelude.{◌≡◌, ◌++◌, IfErr, IfOk, IfSome, None, OnOk, Some, false};
-ghost use Rattle.spmd_tree.specs.declared.tree.Statement.{Statement};
-ghost use Rattle.spmd_text.specs.declared.reading.Policy.{Policy};
-ghost use Rattle.spmd_text.specs.FirstFaults.{IsFirstFault};
+ghost use Rattle.spmd_text.specs.FirstFaults.{IsFirstFault, IsReadable};
 ghost use Rattle.spmd_text.specs.Lines.{IsEnded};
 ghost use Rattle.spmd_text.specs.Programs.{Says, parameters_of};
 ghost use Rattle.spmd_text.specs.Statements.{held};
@@ -61,8 +59,8 @@ fn first_fault(parser: &Parser<'_>, line: u32) -> Option<ParseFault>
 /// Reads the pieces. Where a fault is told, other than want of memory, they say nothing that can be
 /// read.
 fn read(alloc: Global, found: &Pieces) -> Reading
-    ensures said { result.fault ≡ None → Says found.now result.policy (held result.statements) }
-    ensures told { IfSome result.fault (λ fault. is_memory fault.reason ≡ false → (policy : Policy) (statements : Statement) → Says found.now policy statements → ⊥) }
+    ensures said { result.fault ≡ None → Says found.now.names.items found.now.tokens.items result.policy (held result.statements) }
+    ensures told { IfSome result.fault (λ fault. is_memory fault.reason ≡ false → IsReadable found.now.names.items found.now.tokens.items → ⊥) }
     ensures first { IfSome result.fault (λ fault. is_memory fault.reason ≡ false → IsEnded found.now.tokens.items
         → IsFirstFault found.now.names.items found.now.tokens.items fault.line) }
 {
