@@ -9,7 +9,7 @@ use Rattle.semantics.specs.declared.state.Step.{Step}
 use Rattle.semantics.specs.declared.state.Step.TheVariants.{Issue, Match, See}
 use Rattle.semantics.specs.Machine.{Configuration, opening, after, after_all, IsEnabled, IsRun, IsStuckRun, may_be, can_issue, can_issue_next, can_issue_call, has_next, is_rank_finished, has_returned_before}
 use Rattle.semantics.proofs.Lengths.{Issues, issues}
-use Rattle.histories.specs.Laws.{IsInRankOrder}
+use Rattle.run_laws.specs.Laws.{IsInRankOrder}
 use Rattle.always.specs.Always.{HasEnded, IsEndedRun, SticksInEveryRun}
 use Rattle.races.proofs.Steps.{not_true, is_or_not, next_is, allowed, returned_first}
 use Rattle.races.proofs.Kept.{Kept}

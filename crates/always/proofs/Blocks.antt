@@ -18,8 +18,8 @@ use Rattle.callorder.specs.Calls.{pattern_of, receive_of, is_probe_kind}
 use Rattle.semantics.specs.declared.state.Step.{Step}
 use Rattle.semantics.specs.declared.state.Step.TheVariants.{Issue, Match, See}
 use Rattle.semantics.specs.Machine.{is_returned_call, is_returned_kind, is_done_call, is_done_kind, Configuration, opening, after, after_all, IsEnabled, IsRun, IsStuckRun, CanFind, is_issued, is_matched, partner_of, fetches, fetches_call, fetches_partner, is_fetched, is_returned, may_be, can_issue_next, can_issue_call, has_returned_before}
-use Rattle.histories.specs.Laws.{IsInRankOrder}
-use Rattle.histories.proofs.Matched.{no_send_is_taker}
+use Rattle.run_laws.specs.Laws.{IsInRankOrder}
+use Rattle.run_laws.proofs.Matched.{no_send_is_taker}
 use Rattle.races.specs.Tells.{Table, IsJustified}
 use Rattle.races.specs.Blocks.{IsSure, HasFellow, IsPrompt, Blocks, is_finder, is_finder_call, AreBlocks, IsLike, IsLooseCut, HasNoRaceOfBlocks}
 use Rattle.always.specs.Always.{ShowsNoRaceOfBlocksBefore, HasEnded, BuffersAllItMay, IsEndedRun, SticksInEveryRun}

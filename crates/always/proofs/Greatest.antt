@@ -5,7 +5,7 @@ use Rattle.callorder.specs.Programs.{MpiProgram}
 use Rattle.semantics.specs.declared.state.Step.{Step}
 use Rattle.semantics.specs.declared.state.Step.TheVariants.{Issue, Match, See}
 use Rattle.semantics.specs.Machine.{Configuration, opening, after, after_all, IsEnabled, IsRun, is_buffered}
-use Rattle.histories.specs.Laws.{IsInRankOrder}
+use Rattle.run_laws.specs.Laws.{IsInRankOrder}
 use Rattle.races.specs.Races.{MatchesWithin}
 use Rattle.always.specs.Always.{HasEnded, IsPartOf}
 use Rattle.always.specs.Laws.{OneWayIsGreatest, UnfinishedInEveryRun, GreatestSticksAlways, OneWaySticksAlways}

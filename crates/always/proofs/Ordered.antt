@@ -12,10 +12,10 @@ use Rattle.callorder.specs.Calls.{message_of, pattern_of, fits_between, covers}
 use Rattle.callorder.specs.Programs.{MpiProgram, call_at, are_fit, fit_calls, is_probe, are_of_one_rank, are_of_one_rank_calls}
 use Rattle.semantics.specs.declared.state.Step.{Step}
 use Rattle.semantics.specs.Machine.{Configuration, opening, after, after_all, IsEnabled, IsRun, CanFind, is_issued, is_matched, partner_of}
-use Rattle.histories.specs.Laws.{IsInRankOrder}
-use Rattle.histories.specs.Places.{find_step}
-use Rattle.histories.proofs.Matched.{no_send_is_taker}
-use Rattle.histories.proofs.Descent.{some_match_or_see_is_enabled}
+use Rattle.run_laws.specs.Laws.{IsInRankOrder}
+use Rattle.run_laws.specs.Places.{find_step}
+use Rattle.run_laws.proofs.Matched.{no_send_is_taker}
+use Rattle.run_laws.proofs.Descent.{some_match_or_see_is_enabled}
 use Rattle.races.specs.Races.{IsCut, MatchesWithin, NamesSources, names_source}
 use Rattle.races.specs.Tells.{Table, IsJustified}
 use Rattle.always.specs.Always.{HasNoRaceBefore, ShowsNoRaceBefore, HasEnded, BuffersAllItMay, IsEndedRun}

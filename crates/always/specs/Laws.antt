@@ -5,7 +5,7 @@ use Rattle.calltext.specs.declared.call.Policy.TheVariants.{Any}
 use Rattle.callorder.specs.Programs.{MpiProgram}
 use Rattle.semantics.specs.declared.state.Step.{Step}
 use Rattle.semantics.specs.Machine.{Configuration, opening, after_all, is_rank_finished, IsRun, IsFinishedRun, IsStuckRun}
-use Rattle.histories.specs.Laws.{IsInRankOrder}
+use Rattle.run_laws.specs.Laws.{IsInRankOrder}
 use Rattle.races.specs.Races.{StartsAreWaitedFor, BuffersNoneByChoice, NamesSources, IsTheOneWay}
 use Rattle.races.specs.Blocks.{Blocks, AreBlocks, IsSure, HasNoRaceOfBlocks}
 use Rattle.races.specs.Tells.{Table, IsJustified}

@@ -6,7 +6,7 @@ use Rattle.calltext.proofs.Conjunctions.{and_true, and_both}
 use Rattle.races.proofs.Steps.{is_or_not, same_some}
 use Rattle.std.proofs.lemmas.Bool.{cases_lt, eqb-true, eq-eqb}
 use Rattle.std.proofs.lemmas.Option.{slice_get_within, slice_get-get_or}
-use Rattle.naming.specs.Places.{IsNumbering}
+use Rattle.interning.specs.Places.{IsNumbering}
 use Rattle.callorder.specs.declared.calls.Call.{Call}
 use Rattle.callorder.specs.Programs.{MpiProgram, call_at}
 use Rattle.balance.specs.declared.channels.Channel.{Channel}

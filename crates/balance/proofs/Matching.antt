@@ -17,7 +17,7 @@ use Rattle.callorder.specs.Programs.{MpiProgram, call_at, is_of_rank, fit_calls,
 use Rattle.semantics.specs.declared.state.Step.{Step}
 use Rattle.semantics.specs.Machine.{Configuration, opening, after_all, first_call, IsFinishedRun, is_issued, is_matched, partner_of, has_next, has_returned_before}
 use Rattle.semantics.proofs.MachineLaws.{next_counts_issues}
-use Rattle.histories.specs.Laws.{IsInRankOrder}
+use Rattle.run_laws.specs.Laws.{IsInRankOrder}
 use Rattle.races.proofs.Steps.{same_some, partner_from, within_issued}
 use Rattle.races.proofs.Kept.{Kept, takes_fit, takes_made}
 use Rattle.races.proofs.Passing.{kept_run}

@@ -3,7 +3,7 @@ use Rattle.std.proofs.Common.{◌≡◌, ℕ, ◌+◌, ◌<◌, inl, inr, true, 
 use Rattle.std.proofs.lemmas.Bool.{cases_eq}
 use Rattle.std.proofs.lemmas.List.{take_more}
 use Rattle.std.proofs.lemmas.Option.{slice_get_within, slice_get-get_or, get_or_from_slice_get}
-use Rattle.naming.specs.Places.{AreBelow}
+use Rattle.interning.specs.Places.{AreBelow}
 use Rattle.callorder.specs.Programs.{MpiProgram}
 use Rattle.balance.specs.declared.counting.Imbalance.{Imbalance}
 use Rattle.balance.specs.Balance.{is_send_at, ArePlaces, Rise}

@@ -6,7 +6,7 @@ use Rattle.callorder.specs.Programs.{MpiProgram, IsProgramWithin, call_at, takes
 use Rattle.semantics.specs.declared.state.Step.{Step}
 use Rattle.semantics.specs.Machine.{IsFinishedRun, after_all, is_matched, opening}
 use Rattle.races.specs.Races.{StartsAreWaitedFor}
-use Rattle.histories.specs.Laws.{IsInRankOrder}
+use Rattle.run_laws.specs.Laws.{IsInRankOrder}
 use Rattle.balance.specs.declared.counting.Imbalance.{Imbalance}
 use Rattle.balance.specs.Balance.{channel_at, IsImbalance}
 

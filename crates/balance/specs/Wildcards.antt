@@ -1,7 +1,7 @@
 -- Addresses, and what takers at an address leave open, as it is kept in a table.
 use Rattle.std.specs.Prelude.{◌≡◌, ◌↔◌, ℕ, Bool, true, Option, Some, None, List, length, slice_get}
 use Rattle.std.specs.List.{list_any}
-use Rattle.naming.specs.Places.{IsNumbering}
+use Rattle.interning.specs.Places.{IsNumbering}
 use Rattle.callorder.specs.declared.calls.Call.{Call}
 use Rattle.callorder.specs.declared.calls.Message.{Message}
 use Rattle.callorder.specs.declared.calls.Pattern.{Pattern}

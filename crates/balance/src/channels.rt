@@ -6,7 +6,7 @@ ghost use Rattle.balance.specs.Balance.{channel_at, channel_of, channel_to, take
 ghost use Rattle.balance.specs.Wildcards.{address_of, AreLoose, AreNumbers, IsLoose};
 
 use callorder::{Call, LongProgram, Pattern};
-use naming::number;
+use interning::number;
 use std::alloc::{AllocError, Global};
 
 /// What the sends and the takers have in common that can match with one another alone.

@@ -1,13 +1,13 @@
 //! Channels whose sends and takers differ in number.
 
 ghost use Rattle.std.specs.Prelude.{◌≡◌, ◌++◌, ◌∷◌, ℕ, List, [], IfOk, OnOk, Option, length, slice_get};
-ghost use Rattle.naming.specs.Places.{AreBelow};
+ghost use Rattle.interning.specs.Places.{AreBelow};
 ghost use Rattle.balance.specs.Balance.{AreImbalances, is_send_at};
 ghost use Rattle.balance.specs.Sides.{AreAllSides, AreNumberedSides};
 
 use crate::channels::channels_of;
 use callorder::LongProgram;
-use naming::number;
+use interning::number;
 use std::alloc::{AllocError, Global};
 
 /// The sends and the takers of a channel, by their places in rising order.

@@ -5,10 +5,10 @@ use Rattle.callorder.specs.Resolving.{IsTextOf}
 use Rattle.callorder.proofs.FirstFaults.{one_program_of_bytes}
 use Rattle.calltext.specs.Limits.{short}
 use Rattle.callorder.proofs.ProgramsMade.{expansion_is_program}
-use Rattle.formulas.specs.Numbering.{formula_of}
+use Rattle.formula.specs.Numbering.{formula_of}
 use Rattle.semantics.specs.Machine.{IsStuckRun}
 use Rattle.refutations.proofs.Covers.{accepted-refute}
-use Rattle.worlds.proofs.Assignments.{unsatisfiable_have_no_stuck_run}
+use Rattle.formula_from_run.proofs.Assignments.{unsatisfiable_have_no_stuck_run}
 use Rattle.checker.specs.declared.reason.Verdict.{Verdict}
 use Rattle.checker.specs.declared.reason.Verdict.TheVariants as verdicts
 use Rattle.checker.specs.Verdicts.{IsVerdict, Judges, NeverBoth, RefutedAreNeverStuck}

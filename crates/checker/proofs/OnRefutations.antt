@@ -6,8 +6,8 @@ use Rattle.candidates.specs.Pairs.{pairs_of}
 use Rattle.candidates.specs.declared.fault.PairFault.TheVariants as pairing
 use Rattle.clauses.specs.Clauses.{Conjunction}
 use Rattle.encode.specs.declared.fault.EncodeFault.TheVariants as encoding
-use Rattle.formulas.specs.Families.{events}
-use Rattle.formulas.specs.Numbering.{formula_of}
+use Rattle.formula.specs.Families.{events}
+use Rattle.formula.specs.Numbering.{formula_of}
 use Rattle.refutations.specs.declared.refutation.FaultyLine.{FaultyLine}
 use Rattle.refutations.specs.declared.tree.Node.{Node}
 use Rattle.refutations.specs.declared.tree_check.TreeFault.{TreeFault}

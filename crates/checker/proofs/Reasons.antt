@@ -3,7 +3,7 @@ use Rattle.std.proofs.Common.{◌≡◌, ◌⊎◌, ℕ, true, List, length, Res
 use Rattle.std.proofs.lemmas.Bool.{and_parts, eqb-true}
 use Rattle.callorder.specs.Programs.{MpiProgram}
 use Rattle.clauses.specs.Clauses.{Conjunction}
-use Rattle.formulas.specs.Numbering.{formula_of}
+use Rattle.formula.specs.Numbering.{formula_of}
 use Rattle.prooflog.specs.Refutations.{ClaimedRefutation}
 use Rattle.refutations.specs.declared.tree.Node.{Node}
 use Rattle.refutations.specs.declared.tree_check.TreeFault.{TreeFault}

@@ -1,7 +1,7 @@
 -- What refutes a program refutes it without the lines that are not needed.
 use Rattle.std.proofs.Common.{sym}
 use Rattle.callorder.specs.Programs.{MpiProgram}
-use Rattle.formulas.specs.Numbering.{formula_of}
+use Rattle.formula.specs.Numbering.{formula_of}
 use Rattle.prooflog.specs.Refutations.{ClaimedRefutation}
 use Rattle.prooflog.specs.Trims.{trimmed_of}
 use Rattle.prooflog.proofs.TrimLaws.{keeps_accepted}

@@ -9,8 +9,8 @@ use Rattle.callorder.specs.declared.fault.ResolveFault.TheVariants as resolving
 use Rattle.candidates.specs.Pairs.{pairs_of}
 use Rattle.candidates.specs.declared.fault.PairFault.TheVariants as pairing
 use Rattle.clauses.specs.Clauses.{Conjunction}
-use Rattle.formulas.specs.Families.{events}
-use Rattle.formulas.specs.Numbering.{formula_of}
+use Rattle.formula.specs.Families.{events}
+use Rattle.formula.specs.Numbering.{formula_of}
 use Rattle.encode.specs.declared.fault.EncodeFault.TheVariants as encoding
 use Rattle.semantics.specs.declared.state.Step.{Step}
 use Rattle.semantics.specs.declared.schedule.End.TheVariants as ends

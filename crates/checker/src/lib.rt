@@ -3,14 +3,14 @@
 //! The checks of proof lines and trees are passed on here.
 #![tactic(auto)]
 
-mod formula;
+mod encoding;
 mod judging;
 mod laws;
 mod reason;
 mod refuting;
 mod texts;
 
-pub use formula::formula_of;
+pub use encoding::formula_of;
 pub use judging::{Judged, judge, refuted_in, verdict, verdict_in};
 pub use laws::{never_both, one_verdict, refuted_are_never_stuck};
 pub use pieces::PieceGate;

@@ -1,12 +1,12 @@
 //! Refutations of a program.
 
 ghost use Rattle.std.specs.Prelude.{◌≡◌, ◌⊎◌, ◌<◌, ◌≤◌, ℕ, IfOk, IfErr};
-ghost use Rattle.formulas.specs.Numbering.{formula_of};
+ghost use Rattle.formula.specs.Numbering.{formula_of};
 ghost use Rattle.refutations.specs.Refutations.{Accepts};
 ghost use Rattle.checker.specs.Parts.{AreNeeded, has_counts};
 ghost use Rattle.checker.specs.Verdicts.{IsRefutedBy, IsUnaccepted, IsUnneeded, IsUnrefuted};
 
-use crate::formula::formula_of;
+use crate::encoding::formula_of;
 use crate::reason::Reason;
 use callorder::Program;
 use clauses::Formula;

@@ -1,7 +1,7 @@
 //! Choices of a run, and what is known of them.
 
 use narrowing::Taken;
-use settings::Options;
+use options::Options;
 
 /// A choice of a run.
 #[derive(Drop)]

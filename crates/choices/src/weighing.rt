@@ -14,7 +14,7 @@ use callorder::LongProgram;
 use checker::{NoRun, Reason, stuck_run_of};
 use narrowing::Taken;
 use semantics::Step;
-use settings::Options;
+use options::Options;
 use std::alloc::{AllocError, Global};
 use std::sync::Wait;
 use std::thread::Threads;

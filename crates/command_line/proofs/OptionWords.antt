@@ -2,7 +2,7 @@
 use Rattle.std.proofs.Common.{◌∙◌, refl, true, false, List, [], ◌∷◌, Some, None, codes}
 use Rattle.clap.specs.Words.{Text}
 use Rattle.clap.proofs.OnLiterals.{clap_on_literals}
-use Rattle.settings.specs.declared.form.Form.TheVariants.{Graph}
+use Rattle.options.specs.declared.form.Form.TheVariants.{Graph}
 use Rattle.command_line.specs.Requests.{number_of, to_check, to_explain, to_prove}
 use Rattle.command_line.specs.UsualWords.{IsFree, OptionWordsAreRead, check_json_between, check_json_first, check_pieces, explain_options_last, prove_options_first, prove_options_last}
 use Rattle.command_line.proofs.CommandNames.{check_is, explain_is, prove_is}

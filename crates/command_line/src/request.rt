@@ -12,7 +12,7 @@ use crate::arguments::{
 use crate::commands::command;
 use clap::error::ErrorKind;
 use clap::{ArgMatches, Error};
-use settings::{Form, Options, Pieces};
+use options::{Form, Options, Pieces};
 use std::alloc::{AllocError, Global};
 use std::mem;
 

@@ -6,7 +6,7 @@ use Rattle.std.proofs.lemmas.List.FromFn.{length-range_with_len, get_or-range_wi
 use Rattle.std.proofs.lemmas.List.Sorted.{All-permutation}
 use Rattle.callorder.specs.Programs.{MpiProgram}
 use Rattle.candidates.specs.Pairs.{matching_pairs, seeing_pairs, pairs_of}
-use Rattle.formulas.specs.Numbering.{formula_of}
+use Rattle.formula.specs.Numbering.{formula_of}
 use Rattle.std.proofs.lemmas.List.{length-append, take_min, map_more}
 use Rattle.encode.specs.Encodings.{EncodedProgram}
 use Rattle.trees.specs.Trees.{TreeState}

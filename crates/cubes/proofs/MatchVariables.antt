@@ -7,12 +7,12 @@ use Rattle.std.proofs.lemmas.Option.{slice_get-get_or, get_or_from_slice_get}
 use Rattle.std.proofs.lemmas.List.Elements.{Contains-append_left, Contains-append_right, Contains-append_cases}
 use Rattle.std.proofs.lemmas.List.Sums.{fails_before_first}
 use Rattle.candidates.specs.Pairs.{places, matching_pairs, seeing_pairs, pairs_of, pair_at}
-use Rattle.formulas.specs.declared.facts.Fact.{Fact}
-use Rattle.formulas.specs.declared.facts.Fact.TheVariants.{Issued as issued, Buffered as buffered, Matched as matched, Unfinished as unfinished}
-use Rattle.formulas.specs.declared.facts.Meaning.TheVariants.{OfFact as fact}
-use Rattle.formulas.specs.Families.{standard_sends, last_calls, rank_of}
-use Rattle.formulas.specs.Orders.{order_meanings}
-use Rattle.formulas.specs.Numbering.{facts, meanings, is_same_meaning}
+use Rattle.formula.specs.declared.facts.Fact.{Fact}
+use Rattle.formula.specs.declared.facts.Fact.TheVariants.{Issued as issued, Buffered as buffered, Matched as matched, Unfinished as unfinished}
+use Rattle.formula.specs.declared.facts.Meaning.TheVariants.{OfFact as fact}
+use Rattle.formula.specs.Families.{standard_sends, last_calls, rank_of}
+use Rattle.formula.specs.Orders.{order_meanings}
+use Rattle.formula.specs.Numbering.{facts, meanings, is_same_meaning}
 use Rattle.cubes.specs.Laws.{MatchVariablesAreWithin}
 
 Contains-map : {X Y : Type 0} (f : X → Y) (xs : List X) (x : X) → Contains xs x → Contains (map f xs) (f x)

@@ -4,9 +4,9 @@ use Rattle.std.specs.List.{range_with_len}
 use Rattle.std.specs.List.Sorted.{IsPermutation, IsSortedBy}
 use Rattle.callorder.specs.Programs.{MpiProgram}
 use Rattle.candidates.specs.Pairs.{matching_pairs, pairs_of, pair_at, with_taker}
-use Rattle.formulas.specs.declared.facts.Fact.TheVariants.{Matched as matched}
-use Rattle.formulas.specs.declared.facts.Meaning.TheVariants.{OfFact as fact}
-use Rattle.formulas.specs.Numbering.{variable_of}
+use Rattle.formula.specs.declared.facts.Fact.TheVariants.{Matched as matched}
+use Rattle.formula.specs.declared.facts.Meaning.TheVariants.{OfFact as fact}
+use Rattle.formula.specs.Numbering.{variable_of}
 
 -- how many pairs have the finder of this one
 abbrev pub choices : List (ℕ × ℕ) → ℕ → ℕ

@@ -4,7 +4,7 @@ ghost use Rattle.std.specs.Prelude.{◌≡◌, ◌<◌, ◌≤◌, ◌↔◌, If
 ghost use Rattle.std.specs.List.{All, filter};
 ghost use Rattle.callorder.specs.Programs.{is_probe};
 ghost use Rattle.candidates.specs.Pairs.{matching_pairs, pairs_of};
-ghost use Rattle.formulas.specs.Numbering.{formula_of};
+ghost use Rattle.formula.specs.Numbering.{formula_of};
 ghost use Rattle.cubes.specs.Order.{match_variable, AreBranchingVariables, IsBranchingOrder};
 ghost use Rattle.cubes.specs.Cubes.{IsCubeTree};
 
@@ -14,9 +14,9 @@ use crate::order::branching_order;
 use callorder::Program;
 use candidates::Pairs;
 use encode::Encoded;
-use formulas::{Fact, Meaning};
+use formula::{Fact, Meaning};
 use std::alloc::{AllocError, Global};
-use tables::Variables;
+use formula_tables::Variables;
 use trees::Tree;
 
 /// The greatest depth of a tree of cubes.

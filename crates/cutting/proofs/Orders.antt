@@ -1,7 +1,7 @@
 -- One more number in an order.
 use Rattle.std.proofs.Common.{◌≡◌, ◌≢◌, ℕ, ◌+◌, ◌<◌, ◌≤◌, List, [], ◌∷◌, ◌++◌, Some, length, slice_get, inl, inr, refl, sym, subst, arith}
 use Rattle.std.proofs.lemmas.Bool.{cases_lt}
-use Rattle.naming.proofs.Numbering.{in_pushed, pushed_front, pushed_last}
+use Rattle.interning.proofs.Numbering.{in_pushed, pushed_front, pushed_last}
 use Rattle.cutting.specs.Orders.{IsOrder}
 
 pub no_order : IsOrder 0 []

@@ -2,7 +2,7 @@
 
 use callorder::{Call, Kind, LongProgram, Message, Pattern};
 use calltext::Mode;
-use naming::number;
+use interning::number;
 use std::alloc::{AllocError, Global};
 
 /// How many numbers stand for a call.

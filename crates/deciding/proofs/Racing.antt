@@ -7,7 +7,7 @@ use Rattle.callorder.specs.declared.calls.Message.{Message}
 use Rattle.callorder.specs.declared.calls.Pattern.{Pattern}
 use Rattle.callorder.specs.Calls.{covers, fits_between, message_of, pattern_of}
 use Rattle.callorder.specs.Programs.{MpiProgram, are_fit, are_of_one_rank, are_of_one_rank_calls, call_at, fit_calls, takes}
-use Rattle.histories.proofs.Matched.{no_send_is_taker}
+use Rattle.run_laws.proofs.Matched.{no_send_is_taker}
 use Rattle.races.proofs.Kept.{takes_fit}
 use Rattle.races.proofs.Steps.{same_some}
 use Rattle.races.specs.Races.{names_source}

@@ -9,9 +9,9 @@ use Rattle.callorder.specs.Programs.{MpiProgram}
 use Rattle.plaintext.specs.Plain.{line_of, spaced}
 use Rattle.plaintext.proofs.Spaced.{spaced-append, spaced-join}
 use Rattle.clauses.specs.Clauses.{Literal}
-use Rattle.formulas.specs.declared.facts.Meaning.{Meaning}
-use Rattle.formulas.specs.Numbering.{meanings}
-use Rattle.tables.specs.Meanings.{meaning_of}
+use Rattle.formula.specs.declared.facts.Meaning.{Meaning}
+use Rattle.formula.specs.Numbering.{meanings}
+use Rattle.formula_tables.specs.Meanings.{meaning_of}
 use Rattle.prooflog.specs.Refutations.{literal_word}
 use Rattle.exports.specs.Dimacs.{comment_line, comment_lines, dimacs_clause}
 

@@ -4,14 +4,14 @@ use Rattle.std.specs.List.{flat_map}
 use Rattle.callorder.specs.Programs.{MpiProgram, is_probe}
 use Rattle.plaintext.specs.Plain.{numeral, line_of}
 use Rattle.clauses.specs.Clauses.{Literal, Conjunction}
-use Rattle.formulas.specs.declared.facts.Event.{Event}
-use Rattle.formulas.specs.declared.facts.Event.TheVariants.{Issue as issue_of, Match as match_of}
-use Rattle.formulas.specs.declared.facts.Fact.{Fact}
-use Rattle.formulas.specs.declared.facts.Fact.TheVariants.{Issued as issued, Buffered as buffered, Matched as matched, Unfinished as unfinished}
-use Rattle.formulas.specs.declared.facts.Meaning.{Meaning}
-use Rattle.formulas.specs.declared.facts.Meaning.TheVariants.{OfFact as fact, ClockBit as clock_bit, Before as before, SameBits as same_bits}
-use Rattle.formulas.specs.Families.{event_at}
-use Rattle.formulas.specs.Numbering.{meanings, formula_of}
+use Rattle.formula.specs.declared.facts.Event.{Event}
+use Rattle.formula.specs.declared.facts.Event.TheVariants.{Issue as issue_of, Match as match_of}
+use Rattle.formula.specs.declared.facts.Fact.{Fact}
+use Rattle.formula.specs.declared.facts.Fact.TheVariants.{Issued as issued, Buffered as buffered, Matched as matched, Unfinished as unfinished}
+use Rattle.formula.specs.declared.facts.Meaning.{Meaning}
+use Rattle.formula.specs.declared.facts.Meaning.TheVariants.{OfFact as fact, ClockBit as clock_bit, Before as before, SameBits as same_bits}
+use Rattle.formula.specs.Families.{event_at}
+use Rattle.formula.specs.Numbering.{meanings, formula_of}
 use Rattle.prooflog.specs.Refutations.{literal_word}
 use Rattle.prooflog.specs.Steps.{find_word}
 

@@ -3,16 +3,16 @@
 ghost use Rattle.std.specs.Prelude.{◌≡◌, ◌+◌, ◌++◌, ◌∷◌, [], codes, get_or, OnOk};
 ghost use Rattle.callorder.specs.Programs.{is_probe};
 ghost use Rattle.plaintext.specs.Plain.{numeral, spaced};
-ghost use Rattle.formulas.specs.declared.facts.Event.TheVariants.{Issue as issue_of};
-ghost use Rattle.formulas.specs.Families.{events as events_of};
-ghost use Rattle.formulas.specs.Numbering.{meanings};
+ghost use Rattle.formula.specs.declared.facts.Event.TheVariants.{Issue as issue_of};
+ghost use Rattle.formula.specs.Families.{events as events_of};
+ghost use Rattle.formula.specs.Numbering.{meanings};
 ghost use Rattle.exports.specs.Dimacs.{event_words, found_word, fact_words, meaning_words, comment_line, comment_lines};
 
 use crate::events::event_at;
 use crate::words::{put_number, put_word};
 use callorder::Program;
 use encode::Encoded;
-use formulas::{Event, Fact, Meaning};
+use formula::{Event, Fact, Meaning};
 use prooflog::find_word;
 use std::alloc::AllocError;
 

@@ -3,13 +3,13 @@
 ghost use Rattle.std.specs.Prelude.{◌≡◌, IfOk, get_or, map};
 ghost use Rattle.std.specs.List.{filter};
 ghost use Rattle.candidates.specs.Pairs.{places};
-ghost use Rattle.formulas.specs.declared.facts.Event.TheVariants.{Issue as issue_of, Match as match_of};
-ghost use Rattle.formulas.specs.Families.{events as events_of, is_finder};
+ghost use Rattle.formula.specs.declared.facts.Event.TheVariants.{Issue as issue_of, Match as match_of};
+ghost use Rattle.formula.specs.Families.{events as events_of, is_finder};
 
 use callorder::Program;
-use formulas::Event;
+use formula::Event;
 use std::alloc::{AllocError, Global};
-use tables::is_finder;
+use formula_tables::is_finder;
 
 fn issues(alloc: Global, program: &Program) -> Result<Vec<Event>, AllocError>
     ensures { IfOk result (λ events. events.items ≡ map issue_of (places program.now)) }

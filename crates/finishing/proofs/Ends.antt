@@ -11,7 +11,7 @@ use Rattle.semantics.specs.Machine.{Configuration, opening, after_all, IsFinishe
 use Rattle.races.proofs.Steps.{before_returned}
 use Rattle.races.proofs.Passing.{kept_run}
 use Rattle.always.specs.Always.{IsEndedRun}
-use Rattle.worlds.proofs.Starts.{there_within, one_rank, very_first, first_one}
+use Rattle.formula_from_run.proofs.Starts.{there_within, one_rank, very_first, first_one}
 
 -- a finished rank has no next call, and what stands before its next place has returned
 rank_done : (p : MpiProgram) (m : Configuration) (rank : ℕ) → IsFinished p m → rank < p.ranks → (not (has_next p m rank) ≡ true) × (has_returned_before p m rank (slice_index m.next rank) ≡ true)

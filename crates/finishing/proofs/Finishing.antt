@@ -12,24 +12,24 @@ use Rattle.callorder.specs.Calls.{receive_of, pattern_of, is_probe_kind}
 use Rattle.callorder.specs.Programs.{MpiProgram, IsProgram, call_at, is_of_rank, are_of_one_rank, are_of_one_rank_calls, are_fit, takes, is_probe, is_probe_call, fit_calls}
 use Rattle.candidates.specs.Pairs.{places, takers_of}
 use Rattle.semantics.specs.Machine.{Configuration, IsFinished, is_issued, is_issued_call, is_buffered, is_fetched, is_returned, has_returned_before, fetches, fetches_call, fetches_partner}
-use Rattle.histories.proofs.Descent.{takes_fit}
-use Rattle.formulas.specs.declared.facts.Fact.TheVariants.{Issued as issued, Buffered as buffered, Matched as matched}
-use Rattle.formulas.specs.declared.facts.Statement.TheVariants.{Holds as is_true}
-use Rattle.formulas.specs.declared.facts.Condition.{Condition}
-use Rattle.formulas.specs.declared.facts.Condition.TheVariants.{AtOnce as at_once, IfMatched as if_matched, IfFetched as if_fetched, IfBufferedOrFetched as if_buffered_or_fetched}
-use Rattle.formulas.specs.Families.{SymbolicClause, sends_of, is_standard, last_calls, when_returned}
-use Rattle.formulas.proofs.Elements.{and_both, or_left, or_right, each_from_all, each_range_at}
-use Rattle.worlds.specs.Worlds.{World, is_right, clause_holds}
-use Rattle.worlds.proofs.Matches.{fit_within, no_probe}
-use Rattle.worlds.proofs.Ranks.{not_false}
-use Rattle.worlds.proofs.Returns.{condition_holds, returned_is, no_pattern}
-use Rattle.worlds.proofs.Starts.{there_within}
-use Rattle.worlds.proofs.Waits.{names_issued}
-use Rattle.models.proofs.Along.{or_only, each_passes, each_of_mapped, kept_at, found_mapped, takers_take, sends_fit}
-use Rattle.models.proofs.Consequences.{Hold, Consequences, split_hold, either_of}
-use Rattle.models.proofs.Ends.{issued_said, sent_said, received_said}
-use Rattle.models.proofs.Returning.{names_standard}
-use Rattle.models.proofs.Stages.{IsStage}
+use Rattle.run_laws.proofs.Descent.{takes_fit}
+use Rattle.formula.specs.declared.facts.Fact.TheVariants.{Issued as issued, Buffered as buffered, Matched as matched}
+use Rattle.formula.specs.declared.facts.Statement.TheVariants.{Holds as is_true}
+use Rattle.formula.specs.declared.facts.Condition.{Condition}
+use Rattle.formula.specs.declared.facts.Condition.TheVariants.{AtOnce as at_once, IfMatched as if_matched, IfFetched as if_fetched, IfBufferedOrFetched as if_buffered_or_fetched}
+use Rattle.formula.specs.Families.{SymbolicClause, sends_of, is_standard, last_calls, when_returned}
+use Rattle.formula.proofs.Elements.{and_both, or_left, or_right, each_from_all, each_range_at}
+use Rattle.formula_from_run.specs.Worlds.{World, is_right, clause_holds}
+use Rattle.formula_from_run.proofs.Matches.{fit_within, no_probe}
+use Rattle.formula_from_run.proofs.Ranks.{not_false}
+use Rattle.formula_from_run.proofs.Returns.{condition_holds, returned_is, no_pattern}
+use Rattle.formula_from_run.proofs.Starts.{there_within}
+use Rattle.formula_from_run.proofs.Waits.{names_issued}
+use Rattle.run_from_formula.proofs.Along.{or_only, each_passes, each_of_mapped, kept_at, found_mapped, takers_take, sends_fit}
+use Rattle.run_from_formula.proofs.Consequences.{Hold, Consequences, split_hold, either_of}
+use Rattle.run_from_formula.proofs.Ends.{issued_said, sent_said, received_said}
+use Rattle.run_from_formula.proofs.Returning.{names_standard}
+use Rattle.run_from_formula.proofs.Stages.{IsStage}
 use Rattle.finishing.specs.Formula.{is_met, all_calls_are_issued, last_calls_have_returned, all_ranks_finish}
 
 module _ (p : MpiProgram) (world : World) (is : IsProgram p) (says : Consequences p world) (m : Configuration) (stage : IsStage p world m []) (finish : Hold world (all_ranks_finish p)) where

@@ -7,21 +7,21 @@ use Rattle.std.proofs.lemmas.List.Sums.{passes_at_first}
 use Rattle.std.proofs.lemmas.Option.{slice_get_within, slice_get-get_or}
 use Rattle.callorder.specs.Programs.{MpiProgram}
 use Rattle.clauses.specs.Clauses.{Literal, TruthAssignment, signed, holds, satisfies, satisfies_clause}
-use Rattle.formulas.specs.declared.facts.Fact.TheVariants.{Issued as issued, Buffered as buffered, Matched as matched, Unfinished as unfinished}
-use Rattle.formulas.specs.declared.facts.Meaning.{Meaning}
-use Rattle.formulas.specs.declared.facts.Meaning.TheVariants.{OfFact as fact, ClockBit as clock_bit, Before as before, SameBits as same_bits}
-use Rattle.formulas.specs.declared.facts.Statement.{Statement}
-use Rattle.formulas.specs.declared.facts.Statement.TheVariants.{Holds as is_true, Fails as is_false, Earlier as is_earlier}
-use Rattle.formulas.specs.Families.{SymbolicClause, events, place_of}
-use Rattle.formulas.specs.Orders.{clock_size, is_so_by, rank_in_time}
-use Rattle.formulas.specs.Numbering.{meanings, is_same_meaning, variable_of, literal, literal_of, normal_form, numbered, numbered_order}
-use Rattle.formulas.specs.Laws.{holds_if_any, assignment_by}
-use Rattle.formulas.proofs.Elements.{Each, each_flat_map, each_mono, or_left, or_right}
-use Rattle.formulas.proofs.Meanings.{same_meaning}
-use Rattle.formulas.proofs.NormalForms.{in_normal_form_means}
-use Rattle.formulas.proofs.Times.{times_have_assignments}
-use Rattle.worlds.proofs.Ranks.{true_from_not}
-use Rattle.models.proofs.Along.{each_passes}
+use Rattle.formula.specs.declared.facts.Fact.TheVariants.{Issued as issued, Buffered as buffered, Matched as matched, Unfinished as unfinished}
+use Rattle.formula.specs.declared.facts.Meaning.{Meaning}
+use Rattle.formula.specs.declared.facts.Meaning.TheVariants.{OfFact as fact, ClockBit as clock_bit, Before as before, SameBits as same_bits}
+use Rattle.formula.specs.declared.facts.Statement.{Statement}
+use Rattle.formula.specs.declared.facts.Statement.TheVariants.{Holds as is_true, Fails as is_false, Earlier as is_earlier}
+use Rattle.formula.specs.Families.{SymbolicClause, events, place_of}
+use Rattle.formula.specs.Orders.{clock_size, is_so_by, rank_in_time}
+use Rattle.formula.specs.Numbering.{meanings, is_same_meaning, variable_of, literal, literal_of, normal_form, numbered, numbered_order}
+use Rattle.formula.specs.Laws.{holds_if_any, assignment_by}
+use Rattle.formula.proofs.Elements.{Each, each_flat_map, each_mono, or_left, or_right}
+use Rattle.formula.proofs.Meanings.{same_meaning}
+use Rattle.formula.proofs.NormalForms.{in_normal_form_means}
+use Rattle.formula.proofs.Times.{times_have_assignments}
+use Rattle.formula_from_run.proofs.Ranks.{true_from_not}
+use Rattle.run_from_formula.proofs.Along.{each_passes}
 use Rattle.finishing.specs.Formula.{is_unfinished_fact, is_unfinished_meaning, says_unfinished, says_more}
 
 -- ---- a clause that is satisfied although no variable says that a rank is unfinished

@@ -7,25 +7,25 @@ use Rattle.callorder.specs.Programs.{MpiProgram, IsProgram}
 use Rattle.candidates.specs.Pairs.{places, takers_of}
 use Rattle.semantics.specs.declared.state.Step.{Step}
 use Rattle.clauses.specs.Clauses.{TruthAssignment, satisfies}
-use Rattle.formulas.specs.declared.facts.Fact.{Fact}
-use Rattle.formulas.specs.declared.facts.Fact.TheVariants.{Issued as issued, Buffered as buffered, Matched as matched, Unfinished as unfinished}
-use Rattle.formulas.specs.declared.facts.Meaning.{Meaning}
-use Rattle.formulas.specs.declared.facts.Meaning.TheVariants.{OfFact as fact}
-use Rattle.formulas.specs.declared.facts.Statement.{Statement}
-use Rattle.formulas.specs.declared.facts.Statement.TheVariants.{Holds as is_true, Fails as is_false, Earlier as is_earlier}
-use Rattle.formulas.specs.declared.facts.Condition.{Condition}
-use Rattle.formulas.specs.declared.facts.Condition.TheVariants.{AtOnce as at_once, IfMatched as if_matched, IfFetched as if_fetched, IfBufferedOrFetched as if_buffered_or_fetched}
-use Rattle.formulas.specs.Families.{SymbolicClause, sends_of, last_calls, rank_of, events, event_at, receive_on_handle, unless_issued, when_returned, where_fetched, where_returned, where_returned_under, some_rank_is_unfinished}
-use Rattle.formulas.specs.Orders.{clock_size, rank_in_time, is_so_by}
-use Rattle.formulas.specs.Numbering.{meanings, is_same_meaning, variable_of, numbered}
-use Rattle.formulas.specs.Laws.{Agrees, Means}
-use Rattle.formulas.proofs.Elements.{Each, each_append, each_parts, each_mono, each_map, each_flat_map, each_range, each_at_test, each_of_all, all_from_each}
-use Rattle.formulas.proofs.Meanings.{same_meaning, assignments_mean_all}
-use Rattle.formulas.proofs.Named.{IsVariable, NamesFact, Clauses, issued_named, end_named}
-use Rattle.formulas.proofs.NormalForms.{numbered_clauses_mean_symbolic}
-use Rattle.worlds.specs.Worlds.{is_right, clauses_hold, world_of}
-use Rattle.worlds.specs.Laws.{assignment_of}
-use Rattle.models.proofs.Along.{each_of_mapped, each_of_made}
+use Rattle.formula.specs.declared.facts.Fact.{Fact}
+use Rattle.formula.specs.declared.facts.Fact.TheVariants.{Issued as issued, Buffered as buffered, Matched as matched, Unfinished as unfinished}
+use Rattle.formula.specs.declared.facts.Meaning.{Meaning}
+use Rattle.formula.specs.declared.facts.Meaning.TheVariants.{OfFact as fact}
+use Rattle.formula.specs.declared.facts.Statement.{Statement}
+use Rattle.formula.specs.declared.facts.Statement.TheVariants.{Holds as is_true, Fails as is_false, Earlier as is_earlier}
+use Rattle.formula.specs.declared.facts.Condition.{Condition}
+use Rattle.formula.specs.declared.facts.Condition.TheVariants.{AtOnce as at_once, IfMatched as if_matched, IfFetched as if_fetched, IfBufferedOrFetched as if_buffered_or_fetched}
+use Rattle.formula.specs.Families.{SymbolicClause, sends_of, last_calls, rank_of, events, event_at, receive_on_handle, unless_issued, when_returned, where_fetched, where_returned, where_returned_under, some_rank_is_unfinished}
+use Rattle.formula.specs.Orders.{clock_size, rank_in_time, is_so_by}
+use Rattle.formula.specs.Numbering.{meanings, is_same_meaning, variable_of, numbered}
+use Rattle.formula.specs.Laws.{Agrees, Means}
+use Rattle.formula.proofs.Elements.{Each, each_append, each_parts, each_mono, each_map, each_flat_map, each_range, each_at_test, each_of_all, all_from_each}
+use Rattle.formula.proofs.Meanings.{same_meaning, assignments_mean_all}
+use Rattle.formula.proofs.Named.{IsVariable, NamesFact, Clauses, issued_named, end_named}
+use Rattle.formula.proofs.NormalForms.{numbered_clauses_mean_symbolic}
+use Rattle.formula_from_run.specs.Worlds.{is_right, clauses_hold, world_of}
+use Rattle.formula_from_run.specs.Laws.{assignment_of}
+use Rattle.run_from_formula.proofs.Along.{each_of_mapped, each_of_made}
 use Rattle.finishing.specs.Formula.{is_met, all_calls_are_issued, last_calls_have_returned, all_ranks_finish}
 
 -- ---- facts that the formula has a variable for

@@ -8,17 +8,17 @@ use Rattle.calltext.specs.declared.call.Policy.TheVariants.{Any, Never, Always}
 use Rattle.callorder.specs.Programs.{MpiProgram, are_of_one_rank, are_fit, takes}
 use Rattle.candidates.specs.Pairs.{places, takers_of}
 use Rattle.nonovertake.specs.Earlier.{earlier_sends, earlier_takers}
-use Rattle.formulas.specs.declared.facts.Event.TheVariants.{Issue as issue_of, Match as match_of}
-use Rattle.formulas.specs.declared.facts.Fact.TheVariants.{Issued as issued, Buffered as buffered, Matched as matched}
-use Rattle.formulas.specs.declared.facts.Statement.TheVariants.{Holds as is_true, Fails as is_false, Earlier as is_earlier}
-use Rattle.formulas.specs.declared.facts.Condition.{Condition}
-use Rattle.formulas.specs.declared.facts.Condition.TheVariants.{AtOnce as at_once, IfMatched as if_matched, IfFetched as if_fetched, IfBufferedOrFetched as if_buffered_or_fetched}
-use Rattle.formulas.specs.Families.{SymbolicClause, sends_of, standard_sends, previous, place_of, when_returned, receive_on_handle, unless_issued, where_fetched, where_returned_under, issued_after, handle_is_received_on, fetch_of, is_fetched_before, is_returned_before, issued_after_return_of, issued_before_match, without_later_sends, without_later_pairs, send_is_matched_before, taker_is_matched_before, pair_does_not_wait, issue_does_not_wait, buffered_under, seen_before_taken, see_clauses}
-use Rattle.formulas.specs.Numbering.{numbered}
-use Rattle.formulas.proofs.Elements.{Each, each_mono, and_both, all_append}
-use Rattle.worlds.proofs.Events.{place_of_issue}
-use Rattle.worlds.proofs.Lists.{all_made, all_made_range, all_mapped_where, pairs_hold, seeing_pairs_hold, or_last}
-use Rattle.models.proofs.Consequences.{families_of_ended_runs}
+use Rattle.formula.specs.declared.facts.Event.TheVariants.{Issue as issue_of, Match as match_of}
+use Rattle.formula.specs.declared.facts.Fact.TheVariants.{Issued as issued, Buffered as buffered, Matched as matched}
+use Rattle.formula.specs.declared.facts.Statement.TheVariants.{Holds as is_true, Fails as is_false, Earlier as is_earlier}
+use Rattle.formula.specs.declared.facts.Condition.{Condition}
+use Rattle.formula.specs.declared.facts.Condition.TheVariants.{AtOnce as at_once, IfMatched as if_matched, IfFetched as if_fetched, IfBufferedOrFetched as if_buffered_or_fetched}
+use Rattle.formula.specs.Families.{SymbolicClause, sends_of, standard_sends, previous, place_of, when_returned, receive_on_handle, unless_issued, where_fetched, where_returned_under, issued_after, handle_is_received_on, fetch_of, is_fetched_before, is_returned_before, issued_after_return_of, issued_before_match, without_later_sends, without_later_pairs, send_is_matched_before, taker_is_matched_before, pair_does_not_wait, issue_does_not_wait, buffered_under, seen_before_taken, see_clauses}
+use Rattle.formula.specs.Numbering.{numbered}
+use Rattle.formula.proofs.Elements.{Each, each_mono, and_both, all_append}
+use Rattle.formula_from_run.proofs.Events.{place_of_issue}
+use Rattle.formula_from_run.proofs.Lists.{all_made, all_made_range, all_mapped_where, pairs_hold, seeing_pairs_hold, or_last}
+use Rattle.run_from_formula.proofs.Consequences.{families_of_ended_runs}
 use Rattle.finishing.proofs.Kept.{has_else, AreKept, clauses_kept}
 
 -- each of the clauses says something else

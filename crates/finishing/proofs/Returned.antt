@@ -6,22 +6,22 @@ use Rattle.callorder.specs.Programs.{MpiProgram, IsProgram, are_of_one_rank}
 use Rattle.candidates.specs.Pairs.{places, takers_of}
 use Rattle.semantics.specs.declared.state.Step.{Step}
 use Rattle.semantics.specs.Machine.{opening, after_all, IsRun, IsFinishedRun, is_buffered, is_matched, is_fetched}
-use Rattle.histories.proofs.Matched.{found_before}
-use Rattle.formulas.specs.declared.facts.Fact.TheVariants.{Issued as issued, Buffered as buffered, Matched as matched}
-use Rattle.formulas.specs.declared.facts.Statement.TheVariants.{Holds as is_true}
-use Rattle.formulas.specs.declared.facts.Condition.{Condition}
-use Rattle.formulas.specs.declared.facts.Condition.TheVariants.{AtOnce as at_once, IfMatched as if_matched, IfFetched as if_fetched, IfBufferedOrFetched as if_buffered_or_fetched}
-use Rattle.formulas.specs.Families.{SymbolicClause, sends_of, when_returned}
-use Rattle.formulas.proofs.Elements.{and_both, or_left, all_append, any_append_left, any_append_right, each_map, each_range}
+use Rattle.run_laws.proofs.Matched.{found_before}
+use Rattle.formula.specs.declared.facts.Fact.TheVariants.{Issued as issued, Buffered as buffered, Matched as matched}
+use Rattle.formula.specs.declared.facts.Statement.TheVariants.{Holds as is_true}
+use Rattle.formula.specs.declared.facts.Condition.{Condition}
+use Rattle.formula.specs.declared.facts.Condition.TheVariants.{AtOnce as at_once, IfMatched as if_matched, IfFetched as if_fetched, IfBufferedOrFetched as if_buffered_or_fetched}
+use Rattle.formula.specs.Families.{SymbolicClause, sends_of, when_returned}
+use Rattle.formula.proofs.Elements.{and_both, or_left, all_append, any_append_left, any_append_right, each_map, each_range}
 use Rattle.always.specs.Always.{IsEndedRun}
-use Rattle.worlds.specs.Worlds.{is_right, clause_holds, clauses_hold, world_of}
-use Rattle.worlds.proofs.Lists.{or_last, any_mapped, all_made_within}
-use Rattle.worlds.proofs.Pairings.{finding, take_all}
-use Rattle.worlds.proofs.Matches.{has_send, has_taker, is_that-from}
-use Rattle.worlds.proofs.Returns.{condition_holds, returned_is, NamesRightly, names_rightly}
-use Rattle.worlds.proofs.Starts.{there_within}
-use Rattle.worlds.proofs.AfterReturns.{fetched}
-use Rattle.models.proofs.Along.{all_pass}
+use Rattle.formula_from_run.specs.Worlds.{is_right, clause_holds, clauses_hold, world_of}
+use Rattle.formula_from_run.proofs.Lists.{or_last, any_mapped, all_made_within}
+use Rattle.formula_from_run.proofs.Pairings.{finding, take_all}
+use Rattle.formula_from_run.proofs.Matches.{has_send, has_taker, is_that-from}
+use Rattle.formula_from_run.proofs.Returns.{condition_holds, returned_is, NamesRightly, names_rightly}
+use Rattle.formula_from_run.proofs.Starts.{there_within}
+use Rattle.formula_from_run.proofs.AfterReturns.{fetched}
+use Rattle.run_from_formula.proofs.Along.{all_pass}
 use Rattle.finishing.specs.Formula.{is_met, all_calls_are_issued, last_calls_have_returned, all_ranks_finish}
 use Rattle.finishing.proofs.Ends.{all_issued, all_returned}
 

@@ -8,26 +8,26 @@ use Rattle.callorder.specs.Programs.{MpiProgram, IsProgram}
 use Rattle.semantics.specs.declared.state.Step.{Step}
 use Rattle.semantics.specs.Machine.{IsFinishedRun}
 use Rattle.clauses.specs.Clauses.{Literal, TruthAssignment, satisfies, satisfies_clause}
-use Rattle.formulas.specs.declared.facts.Fact.TheVariants.{Unfinished as unfinished}
-use Rattle.formulas.specs.declared.facts.Statement.TheVariants.{Holds as is_true, Fails as is_false}
-use Rattle.formulas.specs.Families.{SymbolicClause, last_calls, rank_of, where_returned, some_rank_is_unfinished, families_of_order, families_of_end, last_families, families}
-use Rattle.formulas.specs.Numbering.{normal_form, numbered, numbered_order, formula_of}
-use Rattle.formulas.specs.Laws.{Agrees}
-use Rattle.formulas.proofs.Elements.{Each, each_append, each_parts, each_mono, each_both, each_flat_map, each_filter, each_of_all, all_from_each, all_append}
-use Rattle.formulas.proofs.NormalForms.{numbered_clauses_mean_symbolic}
+use Rattle.formula.specs.declared.facts.Fact.TheVariants.{Unfinished as unfinished}
+use Rattle.formula.specs.declared.facts.Statement.TheVariants.{Holds as is_true, Fails as is_false}
+use Rattle.formula.specs.Families.{SymbolicClause, last_calls, rank_of, where_returned, some_rank_is_unfinished, families_of_order, families_of_end, last_families, families}
+use Rattle.formula.specs.Numbering.{normal_form, numbered, numbered_order, formula_of}
+use Rattle.formula.specs.Laws.{Agrees}
+use Rattle.formula.proofs.Elements.{Each, each_append, each_parts, each_mono, each_both, each_flat_map, each_filter, each_of_all, all_from_each, all_append}
+use Rattle.formula.proofs.NormalForms.{numbered_clauses_mean_symbolic}
 use Rattle.always.specs.Always.{IsEndedRun}
-use Rattle.worlds.specs.Worlds.{is_right, clauses_hold, world_of}
-use Rattle.worlds.specs.Laws.{assignment_of}
-use Rattle.worlds.proofs.IssueOrder.{calls_are_issued_in_order}
-use Rattle.worlds.proofs.AfterReturns.{calls_are_issued_after_returns}
-use Rattle.worlds.proofs.Matches.{matches_come_after_issues, sends_do_not_overtake, no_pair_waits}
-use Rattle.worlds.proofs.Takers.{calls_are_matched_once, takers_do_not_overtake}
-use Rattle.worlds.proofs.Starts.{no_issue_waits}
-use Rattle.worlds.proofs.Ranks.{last_calls_hold}
-use Rattle.worlds.proofs.Buffers.{sends_are_buffered_as_allowed as policy_holds}
-use Rattle.worlds.proofs.Sees.{probes_see_messages}
-use Rattle.worlds.proofs.Assignments.{statements_agree, order_satisfied}
-use Rattle.models.proofs.Along.{all_pass, each_passes}
+use Rattle.formula_from_run.specs.Worlds.{is_right, clauses_hold, world_of}
+use Rattle.formula_from_run.specs.Laws.{assignment_of}
+use Rattle.formula_from_run.proofs.IssueOrder.{calls_are_issued_in_order}
+use Rattle.formula_from_run.proofs.AfterReturns.{calls_are_issued_after_returns}
+use Rattle.formula_from_run.proofs.Matches.{matches_come_after_issues, sends_do_not_overtake, no_pair_waits}
+use Rattle.formula_from_run.proofs.Takers.{calls_are_matched_once, takers_do_not_overtake}
+use Rattle.formula_from_run.proofs.Starts.{no_issue_waits}
+use Rattle.formula_from_run.proofs.Ranks.{last_calls_hold}
+use Rattle.formula_from_run.proofs.Buffers.{sends_are_buffered_as_allowed as policy_holds}
+use Rattle.formula_from_run.proofs.Sees.{probes_see_messages}
+use Rattle.formula_from_run.proofs.Assignments.{statements_agree, order_satisfied}
+use Rattle.run_from_formula.proofs.Along.{all_pass, each_passes}
 use Rattle.finishing.specs.Formula.{says_more, all_ranks_finish}
 use Rattle.finishing.specs.Laws.{FinishedRunsSatisfyFormula}
 use Rattle.finishing.proofs.Returned.{all_finish}

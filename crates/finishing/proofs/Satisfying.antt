@@ -7,22 +7,22 @@ use Rattle.std.proofs.lemmas.List.Folds.{list_all-append}
 use Rattle.callorder.specs.Programs.{MpiProgram, IsProgram}
 use Rattle.semantics.specs.Machine.{opening, after_all}
 use Rattle.clauses.specs.Clauses.{Literal, TruthAssignment, satisfies, satisfies_clause}
-use Rattle.formulas.specs.declared.facts.Statement.{Statement}
-use Rattle.formulas.specs.declared.facts.Statement.TheVariants.{Holds as is_true, Fails as is_false, Earlier as is_earlier}
-use Rattle.formulas.specs.Families.{SymbolicClause, families_of_order, families_of_end, last_families, families}
-use Rattle.formulas.specs.Numbering.{numbered, numbered_order, formula_of}
-use Rattle.formulas.specs.Laws.{Agrees}
-use Rattle.formulas.proofs.Elements.{Each, each_append, each_parts, each_mono, each_both}
-use Rattle.formulas.proofs.Named.{NamesFact}
-use Rattle.formulas.proofs.NormalForms.{numbered_clauses_mean_symbolic}
+use Rattle.formula.specs.declared.facts.Statement.{Statement}
+use Rattle.formula.specs.declared.facts.Statement.TheVariants.{Holds as is_true, Fails as is_false, Earlier as is_earlier}
+use Rattle.formula.specs.Families.{SymbolicClause, families_of_order, families_of_end, last_families, families}
+use Rattle.formula.specs.Numbering.{numbered, numbered_order, formula_of}
+use Rattle.formula.specs.Laws.{Agrees}
+use Rattle.formula.proofs.Elements.{Each, each_append, each_parts, each_mono, each_both}
+use Rattle.formula.proofs.Named.{NamesFact}
+use Rattle.formula.proofs.NormalForms.{numbered_clauses_mean_symbolic}
 use Rattle.always.proofs.Ending.{each_run_ends}
-use Rattle.worlds.specs.Worlds.{is_right}
-use Rattle.worlds.specs.Laws.{assignment_of}
-use Rattle.models.specs.Schedules.{schedule_of, world_in}
-use Rattle.models.proofs.Along.{all_pass, each_passes, each_of_kept, each_of_made}
-use Rattle.models.proofs.Consequences.{Hold, families_of_ended_runs, without_unfinished, consequences}
-use Rattle.models.proofs.Schedules.{schedule_runs}
-use Rattle.models.proofs.Assignments.{Satisfied, satisfied_families_hold, each_made_so}
+use Rattle.formula_from_run.specs.Worlds.{is_right}
+use Rattle.formula_from_run.specs.Laws.{assignment_of}
+use Rattle.run_from_formula.specs.Schedules.{schedule_of, world_in}
+use Rattle.run_from_formula.proofs.Along.{all_pass, each_passes, each_of_kept, each_of_made}
+use Rattle.run_from_formula.proofs.Consequences.{Hold, families_of_ended_runs, without_unfinished, consequences}
+use Rattle.run_from_formula.proofs.Schedules.{schedule_runs}
+use Rattle.run_from_formula.proofs.Assignments.{Satisfied, satisfied_families_hold, each_made_so}
 use Rattle.finishing.specs.Formula.{says_more, all_ranks_finish, finishing_formula_of}
 use Rattle.finishing.specs.Laws.{SatisfyingGiveFinishedRuns, SatisfiableWhereFinished}
 use Rattle.finishing.proofs.Named.{facts_agree, finish_named}

@@ -9,7 +9,7 @@ use Rattle.races.proofs.Passing.{kept_run, part_all}
 use Rattle.races.proofs.Climb.{no_more, finished_too}
 use Rattle.always.specs.Always.{IsEndedRun}
 use Rattle.always.proofs.Ending.{each_run_ends}
-use Rattle.worlds.specs.Laws.{assignment_of}
+use Rattle.formula_from_run.specs.Laws.{assignment_of}
 use Rattle.finishing.specs.Laws.{UnsatisfiableGetStuck}
 use Rattle.finishing.proofs.Satisfied.{finished_runs_satisfy_formula}
 

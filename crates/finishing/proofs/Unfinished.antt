@@ -6,15 +6,15 @@ use Rattle.std.proofs.lemmas.List.Sums.{passes_at_first}
 use Rattle.std.proofs.lemmas.Option.{slice_get-get_or}
 use Rattle.callorder.specs.Programs.{MpiProgram, IsProgram}
 use Rattle.clauses.specs.Clauses.{Literal}
-use Rattle.formulas.specs.declared.facts.Fact.TheVariants.{Unfinished as unfinished}
-use Rattle.formulas.specs.declared.facts.Meaning.{Meaning}
-use Rattle.formulas.specs.declared.facts.Meaning.TheVariants.{OfFact as fact}
-use Rattle.formulas.specs.declared.facts.Statement.TheVariants.{Holds as is_true}
-use Rattle.formulas.specs.Families.{last_calls, rank_of}
-use Rattle.formulas.specs.Numbering.{meanings, is_same_meaning, variable_of, literal, comes_first, put, sorted, has_both_signs, literal_of, normal_form}
-use Rattle.formulas.proofs.Elements.{and_both, Each, position_within}
-use Rattle.formulas.proofs.Meanings.{same_meaning}
-use Rattle.formulas.proofs.Named.{IsVariable}
+use Rattle.formula.specs.declared.facts.Fact.TheVariants.{Unfinished as unfinished}
+use Rattle.formula.specs.declared.facts.Meaning.{Meaning}
+use Rattle.formula.specs.declared.facts.Meaning.TheVariants.{OfFact as fact}
+use Rattle.formula.specs.declared.facts.Statement.TheVariants.{Holds as is_true}
+use Rattle.formula.specs.Families.{last_calls, rank_of}
+use Rattle.formula.specs.Numbering.{meanings, is_same_meaning, variable_of, literal, comes_first, put, sorted, has_both_signs, literal_of, normal_form}
+use Rattle.formula.proofs.Elements.{and_both, Each, position_within}
+use Rattle.formula.proofs.Meanings.{same_meaning}
+use Rattle.formula.proofs.Named.{IsVariable}
 use Rattle.finishing.specs.Formula.{is_unfinished_meaning, says_unfinished, says_more}
 use Rattle.finishing.proofs.Named.{unfinished_named}
 

@@ -5,15 +5,15 @@ use Rattle.std.specs.List.{flat_map, list_all}
 use Rattle.callorder.specs.Programs.{MpiProgram}
 use Rattle.candidates.specs.Pairs.{places, takers_of}
 use Rattle.clauses.specs.Clauses.{Literal, Conjunction}
-use Rattle.formulas.specs.declared.facts.Fact.{Fact}
-use Rattle.formulas.specs.declared.facts.Fact.TheVariants.{Issued as issued, Buffered as buffered, Matched as matched, Unfinished as unfinished}
-use Rattle.formulas.specs.declared.facts.Meaning.{Meaning}
-use Rattle.formulas.specs.declared.facts.Meaning.TheVariants.{OfFact as fact, ClockBit as clock_bit, Before as before, SameBits as same_bits}
-use Rattle.formulas.specs.declared.facts.Statement.TheVariants.{Holds as is_true}
-use Rattle.formulas.specs.declared.facts.Condition.{Condition}
-use Rattle.formulas.specs.declared.facts.Condition.TheVariants.{AtOnce as at_once, IfMatched as if_matched, IfFetched as if_fetched, IfBufferedOrFetched as if_buffered_or_fetched}
-use Rattle.formulas.specs.Families.{SymbolicClause, sends_of, last_calls, when_returned}
-use Rattle.formulas.specs.Numbering.{meanings, numbered, formula_of}
+use Rattle.formula.specs.declared.facts.Fact.{Fact}
+use Rattle.formula.specs.declared.facts.Fact.TheVariants.{Issued as issued, Buffered as buffered, Matched as matched, Unfinished as unfinished}
+use Rattle.formula.specs.declared.facts.Meaning.{Meaning}
+use Rattle.formula.specs.declared.facts.Meaning.TheVariants.{OfFact as fact, ClockBit as clock_bit, Before as before, SameBits as same_bits}
+use Rattle.formula.specs.declared.facts.Statement.TheVariants.{Holds as is_true}
+use Rattle.formula.specs.declared.facts.Condition.{Condition}
+use Rattle.formula.specs.declared.facts.Condition.TheVariants.{AtOnce as at_once, IfMatched as if_matched, IfFetched as if_fetched, IfBufferedOrFetched as if_buffered_or_fetched}
+use Rattle.formula.specs.Families.{SymbolicClause, sends_of, last_calls, when_returned}
+use Rattle.formula.specs.Numbering.{meanings, numbered, formula_of}
 
 -- ---- all ranks finish
 

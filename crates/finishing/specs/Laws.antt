@@ -5,8 +5,8 @@ use Rattle.semantics.specs.declared.state.Step.{Step}
 use Rattle.semantics.specs.Machine.{IsFinishedRun}
 use Rattle.clauses.specs.Clauses.{TruthAssignment, satisfies, IsUnsatisfiable}
 use Rattle.always.specs.Always.{IsEndedRun}
-use Rattle.worlds.specs.Laws.{assignment_of}
-use Rattle.models.specs.Schedules.{schedule_of, world_in}
+use Rattle.formula_from_run.specs.Laws.{assignment_of}
+use Rattle.run_from_formula.specs.Schedules.{schedule_of, world_in}
 use Rattle.frequency.specs.Frequencies.{EachRunSticks}
 use Rattle.finishing.specs.Formula.{finishing_formula_of}
 

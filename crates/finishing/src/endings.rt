@@ -3,16 +3,16 @@
 ghost use Rattle.std.specs.Prelude.{◌≡◌, ◌++◌, [], map, IfOk, OnOk};
 ghost use Rattle.std.specs.List.{flat_map};
 ghost use Rattle.candidates.specs.Pairs.{takers_of};
-ghost use Rattle.formulas.specs.declared.facts.Fact.TheVariants.{Matched as matched};
-ghost use Rattle.formulas.specs.declared.facts.Statement.TheVariants.{Holds as is_true};
-ghost use Rattle.formulas.specs.Families.{sends_of, last_calls};
+ghost use Rattle.formula.specs.declared.facts.Fact.TheVariants.{Matched as matched};
+ghost use Rattle.formula.specs.declared.facts.Statement.TheVariants.{Holds as is_true};
+ghost use Rattle.formula.specs.Families.{sends_of, last_calls};
 ghost use Rattle.finishing.specs.Formula.{is_met, all_calls_are_issued, last_calls_have_returned, all_ranks_finish};
 
 use callorder::Program;
-use families::Symbolic;
-use formulas::{Condition, Fact, Statement};
+use formula_families::Symbolic;
+use formula::{Condition, Fact, Statement};
 use std::alloc::{AllocError, Global};
-use tables::{is_last, when_returned};
+use formula_tables::{is_last, when_returned};
 
 /// The send is matched with some taker.
 fn is_taken(alloc: Global, program: &Program, send: usize) -> Result<Vec<Statement>, AllocError>

@@ -7,7 +7,7 @@ mod asking;
 mod checking;
 mod endings;
 mod following;
-mod formula;
+mod finishing_formula;
 mod laws;
 mod searching;
 

@@ -6,7 +6,7 @@ ghost use Rattle.finishing.specs.Formula.{finishing_formula_of};
 
 use crate::checking::is_refuted;
 use crate::following::finished_run;
-use crate::formula::finishing_formula;
+use crate::finishing_formula::finishing_formula;
 use cdcl::{Found, SolveFault, Solver};
 use clauses::Formula;
 use encode::Encoded;

@@ -7,7 +7,7 @@ use Rattle.semantics.specs.Machine.{Configuration, IsConfigurationOf, opening, a
 use Rattle.races.specs.Races.{NamesSources}
 use Rattle.races.proofs.Telling.{programs_are_in_order}
 use Rattle.races.proofs.Passing.{kept_run}
-use Rattle.histories.specs.Laws.{IsInRankOrder}
+use Rattle.run_laws.specs.Laws.{IsInRankOrder}
 use Rattle.always.specs.Always.{SticksInEveryRun}
 use Rattle.always.proofs.Blocks.{table_of_blocks_sticks_always}
 use Rattle.always.proofs.Ordered.{named_sources_stick_always}

@@ -5,8 +5,8 @@ use Rattle.callorder.specs.Programs.{MpiProgram, are_fit, is_probe, are_of_one_r
 use Rattle.semantics.specs.declared.state.Step.{Step}
 use Rattle.semantics.specs.declared.state.Step.TheVariants.{Issue}
 use Rattle.semantics.specs.Machine.{Configuration, is_issued, is_matched, is_open, CanFind, IsEnabled}
-use Rattle.histories.specs.Laws.{IsOpenPair}
-use Rattle.histories.specs.Places.{find_step}
+use Rattle.run_laws.specs.Laws.{IsOpenPair}
+use Rattle.run_laws.specs.Places.{find_step}
 use Rattle.races.proofs.Steps.{not_true, is_or_not, issued_within, within_issued, one_rank, same_some}
 use Rattle.leastrun.specs.declared.walk.Buffering.{Buffering}
 use Rattle.leastrun.specs.declared.walk.Buffering.TheVariants.{Least, Most}

@@ -6,8 +6,8 @@ use Rattle.callorder.specs.Programs.{MpiProgram, call_at, are_fit, are_of_one_ra
 use Rattle.semantics.specs.declared.state.Step.{Step}
 use Rattle.semantics.specs.declared.state.Step.TheVariants.{Issue, Match, See}
 use Rattle.semantics.specs.Machine.{Configuration, IsEnabled, is_issued, is_open, can_issue}
-use Rattle.histories.specs.Laws.{IsOpenPair}
-use Rattle.histories.specs.Places.{find_step}
+use Rattle.run_laws.specs.Laws.{IsOpenPair}
+use Rattle.run_laws.specs.Places.{find_step}
 use Rattle.leastrun.specs.declared.walk.Buffering.{Buffering}
 use Rattle.leastrun.specs.declared.walk.Buffering.TheVariants.{Least, Most}
 use Rattle.leastrun.specs.declared.slot.Form.{Form}

@@ -17,9 +17,9 @@ use Rattle.semantics.specs.declared.state.Step.{Step}
 use Rattle.semantics.specs.declared.state.Step.TheVariants.{Issue, Match, See}
 use Rattle.semantics.specs.Machine.{Configuration, CanFind, IsEnabled, IsRun, IsStuck, IsStuckRun, opening, after_all, is_issued, is_buffered, partner_of, fetches, fetches_call, fetches_partner, is_fetched, is_done, is_done_call, is_done_kind, is_returned, is_returned_call, is_returned_kind, has_returned_before, may_be, can_issue, can_issue_next, can_issue_call, has_next, is_rank_finished}
 use Rattle.semantics.proofs.Runs.{IsRun-at}
-use Rattle.histories.specs.Laws.{IsOpenPair}
-use Rattle.histories.proofs.Descent.{some_match_or_see_is_enabled}
-use Rattle.worlds.proofs.Pairings.{finding}
+use Rattle.run_laws.specs.Laws.{IsOpenPair}
+use Rattle.run_laws.proofs.Descent.{some_match_or_see_is_enabled}
+use Rattle.formula_from_run.proofs.Pairings.{finding}
 use Rattle.narrowing.specs.declared.taken.Taken.TheVariants as taken
 use Rattle.narrowing.specs.Narrowed.{named, named_pattern, narrowed_kind, narrowed_call, IsNarrowed}
 use Rattle.narrowing.specs.Ways.{way_to, way_to_call}

@@ -10,7 +10,7 @@ use Rattle.callorder.specs.Calls.{message_of, pattern_of, fits_between}
 use Rattle.callorder.specs.Programs.{MpiProgram, IsProgram, call_at, are_fit, fit_calls}
 use Rattle.semantics.specs.declared.state.Step.{Step}
 use Rattle.semantics.specs.Machine.{IsStuckRun, opening, after_all, is_issued, is_buffered, is_matched, partner_of}
-use Rattle.worlds.proofs.Pairings.{received, take_all}
+use Rattle.formula_from_run.proofs.Pairings.{received, take_all}
 use Rattle.narrowing.specs.declared.taken.Taken.{Taken}
 use Rattle.narrowing.specs.declared.taken.Taken.TheVariants as taken
 use Rattle.narrowing.specs.Ways.{way_to, way_to_call, AreOtherMessages, IsOtherMessage}

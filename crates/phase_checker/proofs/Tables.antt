@@ -5,7 +5,7 @@ use Rattle.std.specs.Global.{Vec}
 use Rattle.std.proofs.lemmas.Bool.{cases_eq, cases_lt}
 use Rattle.std.proofs.lemmas.List.{get_or-take, length-take-le}
 use Rattle.std.proofs.lemmas.Option.{same_Some, slice_get_read, slice_get_within, slice_get-get_or, get_or_from_slice_get}
-use Rattle.naming.proofs.Numbering.{pushed_front, pushed_last}
+use Rattle.interning.proofs.Numbering.{pushed_front, pushed_last}
 use Rattle.sealing.specs.declared.loose.Loose.{Loose}
 use Rattle.sealing.specs.Loose.{AreLoose}
 use Rattle.phase_checker.specs.declared.phase.Phase.{Phase}

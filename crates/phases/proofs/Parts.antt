@@ -19,7 +19,7 @@ use Rattle.semantics.specs.declared.state.Step.TheVariants.{Issue, Match, See}
 use Rattle.callorder.proofs.Lookups.{slice_get-none_past}
 use Rattle.semantics.specs.Machine.{Configuration, IsConfigurationOf, after, CanFind, is_issued, is_matched, is_buffered, is_fetched, is_done, is_done_call, is_done_kind, is_returned, is_returned_call, is_returned_kind, fetches, fetches_call, fetches_partner, has_returned_before, may_be, can_issue, can_issue_next, can_issue_call}
 use Rattle.semantics.proofs.Lengths.{matched_is}
-use Rattle.histories.specs.Laws.{IsOpenPair}
+use Rattle.run_laws.specs.Laws.{IsOpenPair}
 use Rattle.phases.specs.Parts.{IsPart, IsFrom, IsWellFormed, moved_kind, moved_call}
 
 -- ---- calls of a rank

@@ -11,8 +11,8 @@ use Rattle.semantics.specs.declared.state.Step.{Step}
 use Rattle.semantics.specs.declared.state.Step.TheVariants.{Issue, Match, See}
 use Rattle.semantics.specs.Machine.{Configuration, IsConfigurationOf, first_call, opening, after, after_all, CanFind, CanMatch, CanSee, IsEnabled, IsRun, IsStuck, is_issued_call, is_rank_finished, has_next, has_returned_before, is_returned, can_issue}
 use Rattle.semantics.proofs.Runs.{IsConfigurationOf-opening}
-use Rattle.histories.specs.Laws.{IsOpenPair}
-use Rattle.histories.proofs.Descent.{some_match_or_see_is_enabled}
+use Rattle.run_laws.specs.Laws.{IsOpenPair}
+use Rattle.run_laws.proofs.Descent.{some_match_or_see_is_enabled}
 use Rattle.phases.specs.Parts.{IsFrom, IsWellFormed, moved_call}
 use Rattle.phases.specs.Cuts.{Cut, IsCut, StayInParts, StaysInPart, AreOfOnePart}
 use Rattle.phases.specs.Laws.{WholeIsNeverStuck}

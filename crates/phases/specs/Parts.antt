@@ -5,7 +5,7 @@ use Rattle.callorder.specs.declared.calls.Kind.{Kind}
 use Rattle.callorder.specs.declared.calls.Kind.TheVariants.{Send, Receive, MatchedProbe, Probe, MatchedReceive, Wait}
 use Rattle.callorder.specs.Calls.{operation_of, is_start, receive_of, is_matched_receive}
 use Rattle.callorder.specs.Programs.{MpiProgram, HasRanksBelow, IsPairing, call_at}
-use Rattle.histories.specs.Laws.{IsInRankOrder}
+use Rattle.run_laws.specs.Laws.{IsInRankOrder}
 
 -- What each program keeps, but for the limits on its ranks and calls, and for the order of a
 -- matched probe and its receive.

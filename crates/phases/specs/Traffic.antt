@@ -1,7 +1,7 @@
 -- Where messages are sent to and taken, and how many are, as it is counted in one pass.
 use Rattle.std.specs.Prelude.{◌≡◌, ◌↔◌, ℕ, Bool, true, ◌==◌, if◌then◌else◌, List, length, Option, Some, None, slice_get}
 use Rattle.std.specs.List.{count_by}
-use Rattle.naming.specs.Places.{IsNumbering}
+use Rattle.interning.specs.Places.{IsNumbering}
 use Rattle.callorder.specs.declared.calls.Call.{Call}
 use Rattle.callorder.specs.declared.calls.Kind.{Kind}
 use Rattle.callorder.specs.declared.calls.Message.{Message}

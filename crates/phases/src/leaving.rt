@@ -6,7 +6,7 @@ ghost use Rattle.phases.specs.Conditions.{LeavesNothing};
 ghost use Rattle.phases.specs.Traffic.{address_of, address_taken, is_even_at, AreNumbers, AreTraffic, IsTraffic};
 
 use callorder::{Call, LongProgram};
-use naming::number;
+use interning::number;
 use std::alloc::{AllocError, Global};
 
 /// A rank and a communicator on which messages are sent to it.

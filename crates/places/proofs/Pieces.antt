@@ -3,7 +3,7 @@ use Rattle.std.proofs.Common.{◌≡◌, ◌∙◌, ◌+◌, ◌<◌, ℕ, List,
 use Rattle.std.specs.List.{flat_map}
 use Rattle.std.proofs.lemmas.List.{take_more}
 use Rattle.std.proofs.lemmas.List.Concat.{flat_map-append}
-use Rattle.settings.specs.declared.form.Form.{Form}
+use Rattle.options.specs.declared.form.Form.{Form}
 use Rattle.places.specs.Maps.{AreDigits}
 use Rattle.places.specs.Marks.{BeginsWithNoDigit, IsAround}
 use Rattle.places.specs.Woven.{AreCut, IsNamed, IsPlaced, Piece, kept_of, marker, told_of}

@@ -1,8 +1,8 @@
 -- A text with the places of the lines that it names.
 use Rattle.std.specs.Prelude.{◌≡◌, ◌⊎◌, ◌≤◌, ◌==◌, ◌||◌, ℕ, length, nat_lt, if◌then◌else◌, Bool, true, false, List, [], ◌∷◌, ◌++◌, Option, Some, None, codes}
 use Rattle.std.specs.List.{flat_map}
-use Rattle.settings.specs.declared.form.Form.{Form}
-use Rattle.settings.specs.declared.form.Form.TheVariants as forms
+use Rattle.options.specs.declared.form.Form.{Form}
+use Rattle.options.specs.declared.form.Form.TheVariants as forms
 use Rattle.places.specs.Maps.{AreDigits, HasEntry}
 use Rattle.places.specs.Marks.{BeginsWithNoDigit, IsAround, Lacks}
 use Rattle.places.specs.Sources.{source_of}

@@ -8,7 +8,7 @@ ghost use Rattle.places.specs.Woven.{HasPlaces, IsAtSource, IsNamed, IsSaid, IsT
 use crate::map::Places;
 use crate::marks::{around, digits_of};
 use crate::sources::source_of;
-use settings::Form;
+use options::Form;
 use std::alloc::{AllocError, Global};
 
 /// What stands before the number of a line that a text of this form names.

@@ -5,8 +5,8 @@ use Rattle.std.proofs.lemmas.List.{length-append, length-set, length-map, length
 use Rattle.callorder.proofs.Lookups.{slice_get_of_append}
 use Rattle.clauses.specs.Clauses.{Literal, Conjunction}
 use Rattle.encode.specs.Encodings.{EncodedProgram}
-use Rattle.formulas.specs.Families.{events}
-use Rattle.formulas.specs.Numbering.{formula_of}
+use Rattle.formula.specs.Families.{events}
+use Rattle.formula.specs.Numbering.{formula_of}
 use Rattle.refutations.specs.Derivations.{clauses_before}
 use Rattle.refutations.specs.Proofs.{ProofLine}
 use Rattle.refutations.specs.Trees.{branch, IsRefuted}

@@ -4,7 +4,7 @@ use Rattle.callorder.specs.Programs.{MpiProgram}
 use Rattle.callorder.specs.Resolving.{IsTextOf}
 use Rattle.semantics.specs.declared.state.Step.{Step}
 use Rattle.semantics.specs.Machine.{IsStuckRun, IsFinishedRun}
-use Rattle.formulas.specs.Numbering.{formula_of}
+use Rattle.formula.specs.Numbering.{formula_of}
 use Rattle.encode.specs.Encodings.{EncodedProgram}
 use Rattle.prooflog.specs.declared.evidence.Evidence.{Evidence}
 use Rattle.prooflog.specs.declared.evidence.Evidence.TheVariants.{Schedule, Refutation}

@@ -7,7 +7,7 @@ use Rattle.callorder.specs.Programs.{MpiProgram, call_at}
 use Rattle.semantics.specs.declared.state.Step.{Step}
 use Rattle.semantics.specs.Machine.{Configuration, opening, after_all, is_open, can_issue, IsEnabled, IsRun}
 use Rattle.semantics.specs.StuckParts.{NoIssue}
-use Rattle.histories.specs.Places.{find_step}
+use Rattle.run_laws.specs.Places.{find_step}
 
 -- no step is enabled
 abbrev pub NothingEnabled : MpiProgram → Configuration → Type 0

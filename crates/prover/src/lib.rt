@@ -15,5 +15,5 @@ pub use ends::{Until, WalkEnds, walk_ends};
 pub use explore::{finished_walk, run_that_parts_last};
 pub use pool::Why;
 pub use proving::prove;
-pub use settings::{Options, Pieces, Searches};
+pub use options::{Options, Pieces, Searches};
 pub use workers::Gate;

@@ -5,7 +5,7 @@ ghost use Rattle.callorder.specs.Programs.{MpiProgram};
 ghost use Rattle.callorder.specs.Resolving.{IsTextOf};
 ghost use Rattle.checker.specs.Verdicts.{HasFormula};
 ghost use Rattle.prover.specs.Answers.{Answers, FinishesIfUnknown, HasNoFormulaText};
-ghost use Rattle.formulas.specs.Numbering.{formula_of};
+ghost use Rattle.formula.specs.Numbering.{formula_of};
 ghost use Rattle.pool.specs.States.{IsUndecided};
 ghost use Rattle.prover.specs.Searches.{HasFinishedRun, IsEvidenceOn, IsOver, IsUnknownFor, unnoted};
 
@@ -17,7 +17,7 @@ use checker::{Reason, formula_of, program_of};
 use encode::Encoded;
 use pool::{AssembleFault, Pool, Why, schedule_of_run};
 use prooflog::{Evidence, Refutation, Schedule, TrimFault, trim_in_place, write_evidence_in};
-use settings::Options;
+use options::Options;
 use std::alloc::{AllocError, Global};
 use std::sync::Wait;
 use std::thread::Threads;

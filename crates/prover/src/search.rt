@@ -9,7 +9,7 @@ ghost use Rattle.prover.specs.Searches.{smallest_with};
 use cubes::{CubeFault, split};
 use encode::Encoded;
 use pool::{Pool, Share, Why, smaller};
-use settings::{Options, Searches};
+use options::{Options, Searches};
 use sharedpool::{Cell, FinishFault, Room, Seat, SharedPool, Token, open_room};
 use std::alloc::{AllocError, Global};
 use std::marker::Brand;

@@ -3,7 +3,7 @@
 ghost use Rattle.std.specs.Prelude.{◌≡◌, ℕ, Contains, IfSome, IfNone, IfOk, IsPermutation, filter, length};
 ghost use Rattle.std.specs.List.{range_with_len};
 ghost use Rattle.semantics.specs.Machine.{IsConfigurationOf, IsEnabled};
-ghost use Rattle.histories.specs.Places.{find_step};
+ghost use Rattle.run_laws.specs.Places.{find_step};
 ghost use Rattle.prover.specs.Walks.{IsWalk, NothingButSees, NothingEnabled, NoFindBy, NoIssueOf, finds, is_open_finder, is_open_send, is_other};
 
 use crate::manner::{Manner, next_chance};

@@ -9,8 +9,8 @@ use Rattle.callorder.specs.Programs.{MpiProgram}
 use Rattle.callorder.specs.Resolving.{IsTextOfWithin}
 use Rattle.semantics.specs.Machine.{IsFinishedRun, IsStuckRun}
 use Rattle.semantics.specs.declared.state.Step.{Step}
-use Rattle.settings.specs.declared.form.Form.{Form}
-use Rattle.settings.specs.declared.form.Form.TheVariants as forms
+use Rattle.options.specs.declared.form.Form.{Form}
+use Rattle.options.specs.declared.form.Form.TheVariants as forms
 use Rattle.explain.specs.Often.{BeginsWith, often_line}
 use Rattle.frequency.specs.declared.judging.Frequency.{Frequency}
 use Rattle.frequency.specs.declared.judging.Frequency.TheVariants as frequency

@@ -1,8 +1,8 @@
 -- What the explanation of an answer says.
 use Rattle.std.specs.Prelude.{◌≡◌, ℕ, List, [], ◌++◌, codes, decimal, length, nat_lt, Bool, true, false, if◌then◌else◌, Option, Some, None}
 use Rattle.std.specs.List.{filter}
-use Rattle.settings.specs.declared.form.Form.{Form}
-use Rattle.settings.specs.declared.form.Form.TheVariants as forms
+use Rattle.options.specs.declared.form.Form.{Form}
+use Rattle.options.specs.declared.form.Form.TheVariants as forms
 use Rattle.calltext.specs.Grammar.{IsTextWithin, ProgramText}
 use Rattle.calltext.specs.Limits.{long, short}
 use Rattle.calltext.specs.declared.limits.Limits.{Limits}

@@ -2,7 +2,7 @@
 use Rattle.std.specs.Prelude.{◌≡◌, ℕ, ◌+◌, List, ◌++◌, length}
 use Rattle.clauses.specs.Clauses.{Conjunction}
 use Rattle.refutations.specs.Proofs.{ProofLine}
-use Rattle.joining.specs.Joining.{Joins}
+use Rattle.tree_lines.specs.Joining.{Joins}
 use Rattle.prooflog.specs.Refutations.{ClaimedRefutation}
 use Rattle.exports.specs.Lrat.{lrat_text}
 use Rattle.checker.specs.Verdicts.{AreRefuted}

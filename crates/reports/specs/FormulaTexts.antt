@@ -2,7 +2,7 @@
 use Rattle.std.specs.Prelude.{◌≡◌, ℕ, List}
 use Rattle.callorder.specs.Programs.{MpiProgram}
 use Rattle.callorder.specs.Resolving.{IsTextOf}
-use Rattle.formulas.specs.Numbering.{formula_of}
+use Rattle.formula.specs.Numbering.{formula_of}
 use Rattle.prooflog.specs.FormulaText.{formula_text}
 use Rattle.exports.specs.Dimacs.{dimacs_text}
 use Rattle.checker.specs.Verdicts.{HasFormula}

@@ -7,7 +7,7 @@ ghost use Rattle.reports.specs.Explanations.{IsAdded, IsNumbered};
 use crate::decided::source_of;
 use callorder::LongProgram;
 use explain::{losing, lost_messages};
-use settings::Form;
+use options::Form;
 use std::alloc::{AllocError, Global};
 
 /// The text on the messages of a program that no receive takes; empty where there are none. Only where

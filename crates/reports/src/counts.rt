@@ -9,7 +9,7 @@ use crate::sizes::{choices, messages, open_sends, wildcards};
 use callorder::{Call, LongProgram, Program};
 use prooflog::Refutation;
 use refutations::Node;
-use settings::Form;
+use options::Form;
 use std::alloc::{AllocError, Global};
 use writing::{Part, put_parts, put_text};
 

@@ -13,7 +13,7 @@ use crate::telling::{ask_if_short, run_text};
 use callorder::LongProgram;
 use calltext::{LongSource, read_long};
 use semantics::Step;
-use settings::Form;
+use options::Form;
 use std::alloc::{AllocError, Global};
 use std::sync::Wait;
 use std::thread::Threads;

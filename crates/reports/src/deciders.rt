@@ -2,7 +2,7 @@
 
 use crate::telling::Asked;
 use choices::{Decided, Extent, Need, Taken, Weighed};
-use objects::{Decider, Deciders};
+use explain_json::{Decider, Deciders};
 use std::alloc::{AllocError, Global};
 
 /// What is told of all choices together.

@@ -11,7 +11,7 @@ use crate::counts::counts_text;
 use crate::telling::{ask, run_text};
 use callorder::LongProgram;
 use checker::{Judged, PieceGate, Reason, Refuted, StuckRun, judge};
-use settings::Form;
+use options::Form;
 use std::alloc::{AllocError, Global};
 use std::sync::Wait;
 use std::thread::Threads;

@@ -8,7 +8,7 @@ ghost use Rattle.reports.specs.Exports.{Exports, IsProofOf};
 use checker::{PieceGate, Reason, Refuted, Verdict, refuted_in};
 use clauses::Formula;
 use exports::lrat_text;
-use joining::joining_lines;
+use tree_lines::joining_lines;
 use prooflog::Refutation;
 use std::alloc::{AllocError, Global};
 use std::thread::Threads;

@@ -11,7 +11,7 @@ use Rattle.callorder.specs.Calls.{message_of, pattern_of, is_probe_kind}
 use Rattle.callorder.specs.Programs.{MpiProgram, call_at, are_fit, is_probe, is_probe_call}
 use Rattle.semantics.specs.declared.state.Step.{Step}
 use Rattle.semantics.specs.Machine.{Configuration, opening, after, after_all, CanFind, IsEnabled, IsRun, is_matched, partner_of}
-use Rattle.histories.specs.Laws.{IsInRankOrder}
+use Rattle.run_laws.specs.Laws.{IsInRankOrder}
 use Rattle.races.proofs.Steps.{one_rank_made, partner_from}
 use Rattle.races.proofs.Kept.{Kept, New, new_or_old, takes_fit, takes_made, takes_no_probe}
 use Rattle.races.proofs.Passing.{kept_run, no_partner}

@@ -4,15 +4,15 @@ use Rattle.std.specs.Option.{option_map}
 use Rattle.std.proofs.lemmas.Bool.{cases_eq, eqb-true, eq-eqb}
 use Rattle.std.proofs.lemmas.List.{length-map}
 use Rattle.std.proofs.lemmas.Option.{same_Some, slice_get_within, slice_get-map, get_or_from_slice_get}
-use Rattle.naming.specs.Places.{holds, holds_at, last_below, AreBelow, IsTable}
-use Rattle.naming.proofs.Places.{last_below_is_last}
+use Rattle.interning.specs.Places.{holds, holds_at, last_below, AreBelow, IsTable}
+use Rattle.interning.proofs.Places.{last_below_is_last}
 use Rattle.callorder.specs.declared.calls.Call.{Call}
 use Rattle.callorder.specs.declared.calls.Pattern.{Pattern}
 use Rattle.callorder.specs.Calls.{pattern_of}
 use Rattle.callorder.specs.Programs.{MpiProgram, call_at, is_of_rank}
 use Rattle.callorder.proofs.Lookups.{slice_get_of_append}
 use Rattle.semantics.specs.Machine.{Configuration}
-use Rattle.histories.specs.Laws.{IsInRankOrder}
+use Rattle.run_laws.specs.Laws.{IsInRankOrder}
 use Rattle.races.specs.Races.{MatchesWithin}
 use Rattle.races.specs.Tells.{Table, tells_return_call, IsJustified}
 use Rattle.knowledge.specs.Knowledge.{column_table, with_partners}

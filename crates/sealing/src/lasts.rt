@@ -4,7 +4,7 @@ ghost use Rattle.std.specs.Prelude.{◌≡◌, IfOk, Some, map};
 ghost use Rattle.sealing.specs.Ends.{AreLasts};
 
 use callorder::LongProgram;
-use naming::last_places;
+use interning::last_places;
 use std::alloc::{AllocError, Global};
 
 /// The rank of each call.

@@ -2,7 +2,7 @@
 use Rattle.std.proofs.Common.{◌≡◌, arith, inl, inr, subst, ℕ, List, Bool, true, false, Some, None, Option}
 use Rattle.clap.specs.Words.{Text}
 use Rattle.clap.specs.declared.error.kind.ErrorKind.{ErrorKind}
-use Rattle.formulas.specs.Numbering.{formula_of}
+use Rattle.formula.specs.Numbering.{formula_of}
 use Rattle.command_line.specs.CommandLine.{version_line}
 use Rattle.command_line.specs.Requests.{AskFor, Task, to_check, to_decide, to_decide_each, to_decide_phases, to_decide_unrolled, to_encode, to_explain, to_explain_each, to_explain_unrolled, to_export, to_join, to_phases, to_prove, to_replay, to_shrink, to_trim, to_unroll}
 use Rattle.session.specs.AnyLaws.{IsRightlyTold, ToldDeadlockIsShown}

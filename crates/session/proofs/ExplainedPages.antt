@@ -16,7 +16,7 @@ use Rattle.checker.specs.declared.reason.Reason.{Reason}
 use Rattle.prover.specs.Answers.{Answers, CanFinish, FinishesIfUnknown}
 use Rattle.prover.specs.declared.answer.Answer.{Answer}
 use Rattle.prover.specs.declared.answer.Answer.TheVariants as answers
-use Rattle.settings.specs.declared.form.Form.{Form}
+use Rattle.options.specs.declared.form.Form.{Form}
 use Rattle.session.specs.declared.told.Told.TheVariants as told
 use Rattle.session.specs.Explaining.{IsAnswerPage, IsDecidedFirst, IsDecisionExplained, IsExplainPage, is_object}
 use Rattle.session.proofs.DeadlockLines.{PageTells, line_tells, line_tells_safety, race_untold, sizes_untold}

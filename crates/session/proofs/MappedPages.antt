@@ -1,7 +1,7 @@
 -- What a page with the places of a map tells.
 use Rattle.std.proofs.Common.{◌∙◌, ◌<◌, ℕ, Bool, true, false, List, ◌++◌, Option, Some, None, inl, inr, refl, sym, arith, codes, decimal}
-use Rattle.settings.specs.declared.form.Form.{Form}
-use Rattle.settings.specs.declared.form.Form.TheVariants as forms
+use Rattle.options.specs.declared.form.Form.{Form}
+use Rattle.options.specs.declared.form.Form.TheVariants as forms
 use Rattle.places.specs.Woven.{HasPlaces, IsWoven}
 use Rattle.places.specs.declared.map.MapFault.{MapFault}
 use Rattle.places.specs.declared.map.MapFault.TheVariants as faults

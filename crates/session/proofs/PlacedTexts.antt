@@ -9,8 +9,8 @@ use Rattle.std.proofs.lemmas.Slice.Eq.{ends_is}
 use Rattle.std.proofs.Math.Nat.{add-suc}
 use Rattle.std.proofs.Math.Seq.{get_or-append_seam}
 use Rattle.calltext.proofs.Conjunctions.{and_true}
-use Rattle.settings.specs.declared.form.Form.{Form}
-use Rattle.settings.specs.declared.form.Form.TheVariants as forms
+use Rattle.options.specs.declared.form.Form.{Form}
+use Rattle.options.specs.declared.form.Form.TheVariants as forms
 use Rattle.places.specs.Sources.{is_gap, is_name, is_source, last_digits, source_of}
 use Rattle.places.specs.Woven.{AreCut, IsAtSource, IsNamedIf, Piece, is_in_place, kept_of, marker, plain_byte, source_text, told_of}
 

@@ -1,7 +1,7 @@
 -- The laws of runs of `prove`, `explain` and `decide`.
 use Rattle.std.proofs.Common.{◌≡◌, ◌<◌, arith, inl, inr, sym, subst, ℕ, List, Bool, Some, None, Option}
 use Rattle.clap.specs.Words.{Text}
-use Rattle.settings.specs.declared.form.Form.{Form}
+use Rattle.options.specs.declared.form.Form.{Form}
 use Rattle.session.specs.Asking.{AskToExplain, AskToProve, TellsDeadlock}
 use Rattle.session.specs.Endings.{IsFollowed, SessionEnds}
 use Rattle.session.specs.Explaining.{IsExplainPage}

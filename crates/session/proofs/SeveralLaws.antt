@@ -2,7 +2,7 @@
 use Rattle.std.proofs.Common.{◌≡◌, ◌≢◌, ◌⊎◌, ◌<◌, arith, ap, inl, inr, refl, map, ℕ, List, Bool, Some, Option}
 use Rattle.std.specs.Prelude.{IsTrue}
 use Rattle.clap.specs.Words.{Text}
-use Rattle.settings.specs.declared.form.Form.{Form}
+use Rattle.options.specs.declared.form.Form.{Form}
 use Rattle.junit.specs.Report.{Case, report_text}
 use Rattle.session.specs.Endings.{EndsSeveral, FailsEarly}
 use Rattle.session.specs.Pages.{ChangesAtMost}

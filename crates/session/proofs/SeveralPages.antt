@@ -7,8 +7,8 @@ use Rattle.std.proofs.lemmas.List.Sums.{fold-append}
 use Rattle.calltext.specs.Limits.{long}
 use Rattle.semantics.specs.Headline.{IsNeverStuckWithin, IsStuckRunWithin}
 use Rattle.semantics.specs.declared.state.Step.{Step}
-use Rattle.settings.specs.declared.form.Form.{Form}
-use Rattle.settings.specs.declared.form.Form.TheVariants as forms
+use Rattle.options.specs.declared.form.Form.{Form}
+use Rattle.options.specs.declared.form.Form.TheVariants as forms
 use Rattle.junit.specs.Report.{Case, IsOf, report_text}
 use Rattle.session.specs.Pages.{IsWritten}
 use Rattle.session.specs.Several.{AreAnswered, AreRowsOf, IsDecidedIn, IsExplainedIn, IsOfEach, cases_of, file_row, file_rows, outcome_of}

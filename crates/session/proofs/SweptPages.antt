@@ -12,7 +12,7 @@ use Rattle.deciding.specs.declared.decision.Decision.{Decision}
 use Rattle.deciding.specs.declared.decision.Decision.TheVariants as decisions
 use Rattle.deciding.specs.declared.texts.Undecided.{Undecided}
 use Rattle.semantics.specs.declared.state.Step.{Step}
-use Rattle.settings.specs.declared.form.Form.{Form}
+use Rattle.options.specs.declared.form.Form.{Form}
 use Rattle.session.specs.Explaining.{is_object}
 use Rattle.session.specs.Lines.{deadlock_line}
 use Rattle.session.specs.Pages.{IsScheduled}

@@ -1,6 +1,6 @@
 -- Answers, replays, formulas, explanations, proofs and smaller programs of texts as far as they were read are those of the whole texts.
 use Rattle.std.proofs.Common.{ℕ, Bool, true, false, List, inl, inr}
-use Rattle.settings.specs.declared.form.Form.{Form}
+use Rattle.options.specs.declared.form.Form.{Form}
 use Rattle.checker.specs.declared.reason.Reason.{Reason}
 use Rattle.prover.specs.Answers.{Answers, CanFinish, FinishesIfUnknown, HasNoFormulaText}
 use Rattle.reports.specs.Replays.{Replays}

@@ -5,7 +5,7 @@ use Rattle.clap.specs.Words.{Text}
 use Rattle.calltext.specs.Limits.{long}
 use Rattle.semantics.specs.Headline.{IsStuckRunWithin}
 use Rattle.semantics.specs.declared.state.Step.{Step}
-use Rattle.settings.specs.declared.form.Form.{Form}
+use Rattle.options.specs.declared.form.Form.{Form}
 use Rattle.checker.specs.Verdicts.{Shows}
 use Rattle.command_line.specs.Requests.{AskFor, Task, to_decide, to_export, to_phases, to_shrink}
 use Rattle.command_line.specs.UsualWords.{PlainForm}

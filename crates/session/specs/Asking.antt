@@ -1,7 +1,7 @@
 -- What words ask for, and what a run of them told.
 use Rattle.std.specs.Prelude.{◌≡◌, ◌≢◌, ◌⊎◌, ℕ, Bool, List, ◌++◌, Option, Some}
 use Rattle.clap.specs.Words.{Text}
-use Rattle.settings.specs.declared.form.Form.{Form}
+use Rattle.options.specs.declared.form.Form.{Form}
 use Rattle.checker.specs.Verdicts.{Shows}
 use Rattle.pool.specs.declared.why.Why.{Why}
 use Rattle.pool.specs.declared.why.Why.TheVariants as whys

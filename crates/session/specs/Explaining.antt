@@ -13,8 +13,8 @@ use Rattle.checker.specs.declared.reason.Reason.TheVariants as reasons
 use Rattle.prover.specs.Answers.{Answers, FinishesIfUnknown}
 use Rattle.prover.specs.declared.answer.Answer.{Answer}
 use Rattle.prover.specs.declared.answer.Answer.TheVariants as answers
-use Rattle.settings.specs.declared.form.Form.{Form}
-use Rattle.settings.specs.declared.form.Form.TheVariants as forms
+use Rattle.options.specs.declared.form.Form.{Form}
+use Rattle.options.specs.declared.form.Form.TheVariants as forms
 use Rattle.reports.specs.Explanations.{Explains, IsRunDrawn, TellsSizes}
 use Rattle.reports.specs.declared.explained.Explained.{Explained}
 use Rattle.reports.specs.declared.explained.Explained.TheVariants as explanations

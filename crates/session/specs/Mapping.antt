@@ -1,7 +1,7 @@
 -- The page of `explain` with a map.
 use Rattle.std.specs.Prelude.{◌≡◌, ◌≢◌, ◌⊎◌, ℕ, Bool, List, ◌++◌, codes, decimal, Option, Some, None}
 use Rattle.files.specs.Contents.{AreAll}
-use Rattle.settings.specs.declared.form.Form.{Form}
+use Rattle.options.specs.declared.form.Form.{Form}
 use Rattle.places.specs.Maps.{IsMapFault, IsMapOf}
 use Rattle.places.specs.Woven.{HasPlaces}
 use Rattle.places.specs.declared.map.MapFault.{MapFault}

@@ -7,7 +7,7 @@ use Rattle.semantics.specs.declared.state.Step.{Step}
 use Rattle.deciding.specs.Decisions.{HasRace}
 use Rattle.deciding.specs.Schedules.{schedule_text}
 use Rattle.deciding.specs.declared.decision.Race.{Race}
-use Rattle.settings.specs.declared.form.Form.{Form}
+use Rattle.options.specs.declared.form.Form.{Form}
 use Rattle.checker.specs.Verdicts.{IsNeverStuck, Refutes, Shows}
 use Rattle.checker.specs.declared.reason.Reason.{Reason}
 use Rattle.prover.specs.Answers.{Answers, CanFinish}

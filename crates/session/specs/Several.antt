@@ -7,8 +7,8 @@ use Rattle.files.specs.Contents.{AreAll}
 use Rattle.deciding.specs.Decisions.{IsDecided}
 use Rattle.deciding.specs.declared.decision.Decision.{Decision}
 use Rattle.deciding.specs.declared.texts.Undecided.{Undecided}
-use Rattle.settings.specs.declared.form.Form.{Form}
-use Rattle.settings.specs.declared.form.Form.TheVariants as forms
+use Rattle.options.specs.declared.form.Form.{Form}
+use Rattle.options.specs.declared.form.Form.TheVariants as forms
 use Rattle.junit.specs.Report.{Case, IsOf, report_text}
 use Rattle.junit.specs.declared.report.Outcome.{Outcome}
 use Rattle.junit.specs.declared.report.Outcome.TheVariants.{Passed, Failed, Broken}

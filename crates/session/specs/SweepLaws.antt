@@ -5,7 +5,7 @@ use Rattle.clap.specs.Words.{Text}
 use Rattle.calltext.specs.Limits.{long}
 use Rattle.semantics.specs.Headline.{IsNeverStuckWithin, IsStuckRunWithin}
 use Rattle.semantics.specs.declared.state.Step.{Step}
-use Rattle.settings.specs.declared.form.Form.{Form}
+use Rattle.options.specs.declared.form.Form.{Form}
 use Rattle.spmd_program.specs.Ranges.{IsRange}
 use Rattle.spmd_program.specs.Unrolling.{IsUnrolling}
 use Rattle.junit.specs.Report.{Case, report_text}

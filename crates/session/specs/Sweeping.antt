@@ -7,8 +7,8 @@ use Rattle.plaintext.specs.Plain.{numeral}
 use Rattle.deciding.specs.Decisions.{IsDecided}
 use Rattle.deciding.specs.declared.decision.Decision.{Decision}
 use Rattle.deciding.specs.declared.texts.Undecided.{Undecided}
-use Rattle.settings.specs.declared.form.Form.{Form}
-use Rattle.settings.specs.declared.form.Form.TheVariants.{Brief, Object}
+use Rattle.options.specs.declared.form.Form.{Form}
+use Rattle.options.specs.declared.form.Form.TheVariants.{Brief, Object}
 use Rattle.places.specs.Woven.{HasPlaces}
 use Rattle.spmd_program.specs.Ranges.{IsRange}
 use Rattle.spmd_program.specs.Unrolling.{IsRefusal, IsUnrolling}

@@ -6,7 +6,7 @@ ghost use Rattle.session.specs.Advice.{IsAdvisedOn, advice_line, next_line};
 
 use calltext::Limits;
 use files::store;
-use helping::help;
+use refusal_help::help;
 use prover::{Answer, Reason, Why};
 use std::alloc::{AllocError, Global};
 use std::io::Write;

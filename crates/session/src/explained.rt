@@ -20,7 +20,7 @@ use prooflog::Text;
 use prover::{Answer, Options, Reason, prove};
 use reports::{Explained, explain_evidence, explain_run, explain_sizes};
 use semantics::Step;
-use settings::Form;
+use options::Form;
 use std::alloc::{AllocError, Global};
 use std::sync::Wait;
 use std::thread::Threads;

@@ -15,7 +15,7 @@ use crate::status::REFUSED;
 use command_line::ToExplain;
 use files::FileSet;
 use places::{MapFault, Places, read_map, with_places};
-use settings::Form;
+use options::Form;
 use std::alloc::{AllocError, Global};
 use std::sync::Wait;
 use std::thread::Threads;

@@ -18,7 +18,7 @@ use deciding::decide;
 use files::FileSet;
 use junit::{Outcome, Report};
 use prooflog::Text;
-use settings::Form;
+use options::Form;
 use std::alloc::{AllocError, Global};
 use std::sync::Wait;
 use std::thread::Threads;

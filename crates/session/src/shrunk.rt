@@ -19,7 +19,7 @@ use deciding::Undecided;
 use files::FileSet;
 use prooflog::Text;
 use prover::Reason;
-use settings::Form;
+use options::Form;
 use shrinking::{NotShrunk, NotShrunkLong, Shrunk, left_line, left_map, shrink, shrink_long};
 use std::alloc::{AllocError, Global};
 

@@ -20,7 +20,7 @@ use files::FileSet;
 use places::read_map;
 use plaintext::put_number;
 use prover::Options;
-use settings::Form;
+use options::Form;
 use spmd_program::{NotUnrolled, Ranks, Unrolling, ranks_of, unrolled};
 use std::alloc::{AllocError, Global};
 use std::sync::Wait;

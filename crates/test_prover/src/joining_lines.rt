@@ -1,6 +1,6 @@
 //! Lines that join the leaves of a tree that code makes.
 use clauses::{Clause, Formula, Lit};
-use joining::joining_lines;
+use tree_lines::joining_lines;
 use pieces::check_all;
 use refutations::{Line, Node, ProofTree, check_tree};
 use std::alloc::Global;

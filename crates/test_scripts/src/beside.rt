@@ -7,7 +7,7 @@ use cdcl::{Found, SolveFault};
 use encode::Encoded;
 use pages::Lines;
 use refutations::Line;
-use statesearch::{Claims, Closing, SHORT, StateSearch};
+use matchset_search::{Claims, Closing, SHORT, StateSearch};
 use std::alloc::{AllocError, Global};
 use std::mem;
 use std::ops::Range;

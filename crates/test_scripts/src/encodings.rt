@@ -10,12 +10,12 @@ use clauses::Assignment;
 use cubes::{branching_variables, split};
 use encode::{Encoded, encode};
 use extract::schedule_of;
-use formulas::{Event, Fact, Meaning};
+use formula::{Event, Fact, Meaning};
 use nonovertake::earlier;
 use std::alloc::Global;
 use std::mem;
 use std::thread::Threads;
-use tables::Variables;
+use formula_tables::Variables;
 
 pub fn judge<R: Threads + Sync>(
     rt: &R,

@@ -10,7 +10,7 @@ use cdcl::{Found, SolveFault, Solver};
 use clauses::{Assignment, Clause, Formula, Lit};
 use encode::Encoded;
 use refutations::{Line, LineFault, check_line, clause_at};
-use statesearch::StateSearch;
+use matchset_search::StateSearch;
 use std::alloc::Global;
 use std::mem;
 use std::thread::Threads;

@@ -6,7 +6,7 @@ use Rattle.callorder.specs.declared.calls.Call.{Call}
 use Rattle.callorder.specs.Calls.{operation_of}
 use Rattle.callorder.specs.Programs.{MpiProgram, IsProgramWithin, call_at, is_of_rank}
 use Rattle.semantics.specs.Machine.{Configuration, is_issued, is_issued_call, is_matched, is_open, partner_of}
-use Rattle.histories.proofs.Descent.{no_open_pair_where_stuck}
+use Rattle.run_laws.proofs.Descent.{no_open_pair_where_stuck}
 use Rattle.waits.specs.declared.fates.Fate.TheVariants.{Open}
 use Rattle.waits.specs.Waiting.{WaitsIn, operation_of_call, operation_at, fate_from}
 use Rattle.waits.specs.Laws.{FitCallsAreNotBothOpen, NeededCallsAreNotOpen}

@@ -1,6 +1,6 @@
 //! Which states the searches over sets of matched calls have closed, and which lemmas they made.
 
-use statesearch::{Claims, Closing};
+use matchset_search::{Claims, Closing};
 use std::alloc::{AllocError, Global};
 use std::sync::{Mutex, Wait};
 

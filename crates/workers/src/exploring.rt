@@ -11,7 +11,7 @@ use cdcl::Found;
 use clauses::Clause;
 use pages::Lines;
 use pool::{MOST_LINES, Share, Why};
-use statesearch::{SHORT, StateSearch};
+use matchset_search::{SHORT, StateSearch};
 use std::alloc::{AllocError, Global};
 use std::mem;
 use std::ops::Range;

@@ -21,7 +21,7 @@ use encode::Encoded;
 use extract::schedule_of;
 use pages::Lines;
 use pool::{Share, SplitFault, Status, Why};
-use statesearch::SHORT;
+use matchset_search::SHORT;
 use std::alloc::{AllocError, Global};
 use std::mem;
 use std::ops::Range;

@@ -1,7 +1,7 @@
 use Rattle.std.proofs.Common.{arith, ap, length}
 use Rattle.clauses.specs.Clauses.{Conjunction}
 use Rattle.callorder.specs.Programs.{MpiProgram}
-use Rattle.formulas.specs.Numbering.{meanings}
+use Rattle.formula.specs.Numbering.{meanings}
 use Rattle.cubes.proofs.splitting.count_variables.Goals as goal
 
 pub returns-clause-most : goal.returns-clause-most

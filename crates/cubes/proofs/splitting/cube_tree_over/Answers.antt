@@ -3,7 +3,7 @@ use Rattle.std.proofs.lemmas.Result.{IfOk-weaker}
 use Rattle.callorder.specs.Programs.{MpiProgram}
 use Rattle.candidates.specs.Pairs.{pairs_of}
 use Rattle.clauses.specs.Clauses.{Conjunction}
-use Rattle.formulas.specs.Numbering.{formula_of}
+use Rattle.formula.specs.Numbering.{formula_of}
 use Rattle.trees.specs.Trees.{TreeState}
 use Rattle.cubes.specs.Cubes.{IsCubeTree}
 use Rattle.cubes.specs.Levels.{full_tree}

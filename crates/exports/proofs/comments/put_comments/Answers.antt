@@ -1,6 +1,6 @@
 use Rattle.std.proofs.Common.{◌++◌, ◌+◌, sym, ap, ◌∙◌}
 use Rattle.callorder.specs.Programs.{MpiProgram}
-use Rattle.formulas.specs.Families.{events}
+use Rattle.formula.specs.Families.{events}
 use Rattle.exports.specs.Dimacs.{comment_line}
 use Rattle.exports.proofs.Texts.{next_comment}
 use Rattle.exports.proofs.comments.put_comments.Goals as goal

@@ -1,5 +1,5 @@
 use Rattle.std.proofs.Common.{◌≡◌, ◌++◌, take}
-use Rattle.formulas.specs.Numbering.{meanings}
+use Rattle.formula.specs.Numbering.{meanings}
 use Rattle.exports.specs.Dimacs.{comment_lines}
 use Rattle.exports.proofs.comments.put_comments.Given as goal
 

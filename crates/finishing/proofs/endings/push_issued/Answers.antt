@@ -2,9 +2,9 @@ use Rattle.std.proofs.Common.{◌≡◌, ℕ, ◌+◌, List, [], ◌∷◌, ◌+
 use Rattle.std.specs.List.{range_with_len}
 use Rattle.std.proofs.lemmas.List.{map-append}
 use Rattle.candidates.proofs.Ranges.{range_more}
-use Rattle.formulas.specs.declared.facts.Fact.TheVariants.{Issued as issued}
-use Rattle.formulas.specs.declared.facts.Statement.TheVariants.{Holds as is_true}
-use Rattle.formulas.specs.Families.{SymbolicClause}
+use Rattle.formula.specs.declared.facts.Fact.TheVariants.{Issued as issued}
+use Rattle.formula.specs.declared.facts.Statement.TheVariants.{Holds as is_true}
+use Rattle.formula.specs.Families.{SymbolicClause}
 use Rattle.finishing.proofs.endings.push_issued.Goals as goal
 
 pub loop-call-preserved : goal.loop-call-preserved

@@ -1,6 +1,6 @@
 use Rattle.std.proofs.Common.{◌≡◌, ◌++◌, take}
 use Rattle.std.specs.List.{flat_map}
-use Rattle.formulas.specs.Families.{when_returned}
+use Rattle.formula.specs.Families.{when_returned}
 use Rattle.finishing.specs.Formula.{is_met}
 use Rattle.finishing.proofs.endings.push_returned.Given as goal
 

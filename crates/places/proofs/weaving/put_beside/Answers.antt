@@ -1,6 +1,6 @@
 -- What is added behind the number is the place of its line.
 use Rattle.std.proofs.Common.{◌≡◌, ◌∙◌, ℕ, List, [], ◌++◌, OnOk, Result, Ok, Err, ap, inl, inr, refl, sym, append-nil, append_assoc}
-use Rattle.settings.specs.declared.form.Form.{Form}
+use Rattle.options.specs.declared.form.Form.{Form}
 use Rattle.places.specs.Maps.{AreFrom, HasEntry}
 use Rattle.places.specs.Woven.{IsSaid, IsTold, marker, place_text}
 use Rattle.places.specs.declared.map.Places.{Places}

@@ -1,7 +1,7 @@
 use Rattle.std.proofs.Common.{◌∙◌, ap, subst, sym}
 use Rattle.callorder.specs.Resolving.{IsTextOf}
 use Rattle.checker.specs.Verdicts.{HasFormula}
-use Rattle.formulas.specs.Numbering.{formula_of}
+use Rattle.formula.specs.Numbering.{formula_of}
 use Rattle.prover.proofs.proving.searched.Goals as goal
 
 pub answer_over-requires-clause-formula : goal.answer_over-requires-clause-formula

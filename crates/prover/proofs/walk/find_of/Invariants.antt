@@ -1,7 +1,7 @@
 use Rattle.std.proofs.Common.{ℕ, ◌<◌, get_or}
 use Rattle.std.specs.List.{Contains}
 use Rattle.semantics.specs.Machine.{IsEnabled}
-use Rattle.histories.specs.Places.{find_step}
+use Rattle.run_laws.specs.Places.{find_step}
 use Rattle.prover.proofs.walk.find_of.Given as goal
 
 abbrev pub invariant-loop-send : goal.invariant-loop-send

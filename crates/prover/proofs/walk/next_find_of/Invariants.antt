@@ -1,6 +1,6 @@
 use Rattle.std.proofs.Common.{ℕ, ◌<◌, get_or}
 use Rattle.semantics.specs.Machine.{IsEnabled}
-use Rattle.histories.specs.Places.{find_step}
+use Rattle.run_laws.specs.Places.{find_step}
 use Rattle.prover.proofs.walk.next_find_of.Given as goal
 
 abbrev pub invariant-loop-finder : goal.invariant-loop-finder

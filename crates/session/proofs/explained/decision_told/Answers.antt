@@ -6,7 +6,7 @@ use Rattle.semantics.specs.declared.state.Step.{Step}
 use Rattle.deciding.specs.declared.decision.Decision.{Decision}
 use Rattle.deciding.specs.declared.decision.Decision.TheVariants as decisions
 use Rattle.deciding.specs.declared.texts.Undecided.{Undecided}
-use Rattle.settings.specs.declared.form.Form.{Form}
+use Rattle.options.specs.declared.form.Form.{Form}
 use Rattle.reports.specs.Explanations.{IsRunDrawn}
 use Rattle.session.specs.Explaining.{IsDecisionExplained}
 use Rattle.session.specs.declared.page.Page.{Page}

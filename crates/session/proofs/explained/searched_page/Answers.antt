@@ -4,7 +4,7 @@ use Rattle.std.specs.declared.alloc.AllocError.{AllocError}
 use Rattle.deciding.specs.declared.decision.Race.{Race}
 use Rattle.prover.specs.Answers.{Answers, FinishesIfUnknown}
 use Rattle.prover.specs.declared.answer.Answer.{Answer}
-use Rattle.settings.specs.declared.form.Form.{Form}
+use Rattle.options.specs.declared.form.Form.{Form}
 use Rattle.session.specs.Explaining.{IsAnswerPage, IsSearched}
 use Rattle.session.specs.declared.page.Page.{Page}
 use Rattle.session.proofs.explained.searched_page.Goals as goal

@@ -3,7 +3,7 @@ use Rattle.std.proofs.Common.{◌∙◌, ◌+◌, ◌≤◌, ◌++◌, [], ap, g
 use Rattle.std.specs.Prelude.{OnOk}
 use Rattle.std.proofs.lemmas.List.{take_all}
 use Rattle.std.specs.Borrow.{Bor}
-use Rattle.settings.specs.declared.form.Form.{Form}
+use Rattle.options.specs.declared.form.Form.{Form}
 use Rattle.session.specs.Several.{AreAnswered, IsDecidedIn, cases_of, file_row}
 use Rattle.session.specs.Sweeping.{form_of_answer}
 use Rattle.junit.specs.Report.{report_text}

@@ -1,7 +1,7 @@
 use Rattle.std.proofs.Common.{◌≡◌, ◌≤◌, length, replicate, arith, ap, sym, subst, ◌∙◌}
 use Rattle.std.specs.Arc.{arc_value}
-use Rattle.formulas.specs.Numbering.{formula_of}
-use Rattle.formulas.specs.Families.{events}
+use Rattle.formula.specs.Numbering.{formula_of}
+use Rattle.formula.specs.Families.{events}
 use Rattle.encode.specs.Encodings.{EncodedProgram}
 use Rattle.pool.specs.Counts.{open_count}
 use Rattle.pool.proofs.Soundness.{sound_opening, sound_opened}

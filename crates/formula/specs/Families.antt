@@ -1,0 +1,375 @@
+-- The clauses of a program, family by family, before their variables are numbered. Together they say of the end of a
+-- run, and of the order of its events, that the run follows the program and is stuck.
+use Rattle.std.specs.Prelude.{ℕ, zero, suc, ◌+◌, Bool, true, false, not, ◌==◌, nat_lt, if◌then◌else◌, is_some, List, [], ◌∷◌, ◌++◌, map, filter, get_or, Option, Some, None}
+use Rattle.std.specs.List.{flat_map, position_or_len}
+use Rattle.calltext.specs.declared.call.Mode.TheVariants.{Standard, Synchronous, Buffered}
+use Rattle.calltext.specs.declared.call.Policy.{Policy}
+use Rattle.calltext.specs.declared.call.Policy.TheVariants.{Any, Never, Always}
+use Rattle.callorder.specs.declared.calls.Call.{Call}
+use Rattle.callorder.specs.declared.calls.Kind.{Kind}
+use Rattle.callorder.specs.declared.calls.Kind.TheVariants.{Send, Receive, MatchedProbe, Probe, MatchedReceive, Wait}
+use Rattle.callorder.specs.Calls.{pattern_of, receive_of}
+use Rattle.callorder.specs.Programs.{MpiProgram, call_at, are_of_one_rank, are_fit}
+use Rattle.candidates.specs.Pairs.{places, takers_of, matching_pairs, seeing_pairs}
+use Rattle.nonovertake.specs.Earlier.{earlier_sends, earlier_takers}
+pub use Rattle.formula.specs.declared.facts.Condition.{Condition}
+pub use Rattle.formula.specs.declared.facts.Condition.TheVariants.{AtOnce as at_once, IfMatched as if_matched, IfFetched as if_fetched, IfBufferedOrFetched as if_buffered_or_fetched}
+use Rattle.formula.specs.Facts.{Event, issue_of, match_of, issued, buffered, matched, unfinished, Statement, is_true, is_false, is_earlier, is_same_event}
+
+-- ---- calls
+
+-- the sends that fit a taker, rising
+abbrev pub sends_of : MpiProgram → ℕ → List ℕ
+sends_of p taker = filter (λ send. are_fit p send taker) (places p)
+
+-- the call exists and is a receive or a matched probe
+abbrev pub is_finder_call : Option Call → Bool
+is_finder_call None = false
+is_finder_call (Some call) = is_some (pattern_of call.kind)
+
+-- the call is a receive or a matched probe
+abbrev pub is_finder : MpiProgram → ℕ → Bool
+is_finder p c = is_finder_call (call_at p c)
+
+-- a send in standard mode
+abbrev pub is_standard_kind : Kind → Bool
+is_standard_kind (Send Standard blocking message) = true
+is_standard_kind (Send Synchronous blocking message) = false
+is_standard_kind (Send Buffered blocking message) = false
+is_standard_kind (Receive blocking pattern) = false
+is_standard_kind (MatchedProbe pattern receive) = false
+is_standard_kind (Probe pattern) = false
+is_standard_kind (MatchedReceive blocking) = false
+is_standard_kind (Wait operation) = false
+
+-- the call exists and is a send in standard mode
+abbrev pub is_standard_call : Option Call → Bool
+is_standard_call None = false
+is_standard_call (Some call) = is_standard_kind call.kind
+
+-- the call is a send in standard mode
+abbrev pub is_standard : MpiProgram → ℕ → Bool
+is_standard p c = is_standard_call (call_at p c)
+
+-- the sends in standard mode, rising
+abbrev pub standard_sends : MpiProgram → List ℕ
+standard_sends p = filter (is_standard p) (places p)
+
+-- the receive on the handle of a call that exists and is a matched probe
+abbrev pub receive_of_call : Option Call → Option ℕ
+receive_of_call None = None
+receive_of_call (Some call) = receive_of call.kind
+
+-- the receive on the handle of a call that is a matched probe
+abbrev pub receive_on_handle : MpiProgram → ℕ → Option ℕ
+receive_on_handle p c = receive_of_call (call_at p c)
+
+-- the call directly before this one, if it is of the same rank
+abbrev pub previous : MpiProgram → ℕ → Option ℕ
+previous p zero = None
+previous p (suc c) = if are_of_one_rank p c (suc c) then Some c else None
+
+-- the last calls of the ranks that have a call, rising: those with no call of their rank directly after them
+abbrev pub last_calls : MpiProgram → List ℕ
+last_calls p = filter (λ c. not (are_of_one_rank p c (c + 1))) (places p)
+
+-- the rank of a call that exists
+abbrev pub rank_of_call : Option Call → ℕ
+rank_of_call None = 0
+rank_of_call (Some call) = call.rank
+
+-- the rank of a call
+abbrev pub rank_of : MpiProgram → ℕ → ℕ
+rank_of p c = rank_of_call (call_at p c)
+
+-- ---- events
+
+-- the events that a run may have: the issue of each call, and then the match of each taker
+abbrev pub events : MpiProgram → List Event
+events p = map issue_of (places p) ++ map match_of (filter (is_finder p) (places p))
+
+-- the event at a place of the list
+abbrev pub event_at : MpiProgram → ℕ → Event
+event_at p place = get_or (events p) place (issue_of 0)
+
+-- the place of an event in the list
+abbrev pub place_of : MpiProgram → Event → ℕ
+place_of p e = position_or_len (is_same_event e) (events p)
+
+-- the event by which a taker with this receive on its handle, or with none, fetches its message
+abbrev pub event_of_fetch : Option ℕ → ℕ → Event
+event_of_fetch None taker = match_of taker
+event_of_fetch (Some receive) taker = issue_of receive
+
+-- the event by which a taker fetches its message: its match, and for a matched probe the issue of the receive on its handle
+abbrev pub fetch_of : MpiProgram → ℕ → Event
+fetch_of p taker = event_of_fetch (receive_on_handle p taker) taker
+
+-- ---- when an issued call has returned
+
+-- the condition under which the operation of a call of this kind is done
+abbrev pub when_done_kind : Kind → ℕ → Condition
+when_done_kind (Send Standard blocking message) o = if_buffered_or_fetched o
+when_done_kind (Send Synchronous blocking message) o = if_fetched o
+when_done_kind (Send Buffered blocking message) o = at_once
+when_done_kind (Receive blocking pattern) o = if_matched o
+when_done_kind (MatchedProbe pattern receive) o = if_matched o
+when_done_kind (Probe pattern) o = if_matched o
+when_done_kind (MatchedReceive blocking) o = at_once
+when_done_kind (Wait operation) o = at_once
+
+-- the condition under which the operation of a call that exists is done
+abbrev pub when_done_call : Option Call → ℕ → Condition
+when_done_call None o = at_once
+when_done_call (Some call) o = when_done_kind call.kind o
+
+-- the condition under which the operation of a call is done
+abbrev pub when_done : MpiProgram → ℕ → Condition
+when_done p o = when_done_call (call_at p o) o
+
+-- a nonblocking call returns at once
+abbrev pub if_blocking : Bool → Condition → Condition
+if_blocking true condition = condition
+if_blocking false condition = at_once
+
+-- the condition under which an issued call of this kind has returned
+abbrev pub when_returned_kind : MpiProgram → Kind → ℕ → Condition
+when_returned_kind p (Send mode blocking message) c = if_blocking blocking (when_done p c)
+when_returned_kind p (Receive blocking pattern) c = if_blocking blocking (when_done p c)
+when_returned_kind p (MatchedProbe pattern receive) c = when_done p c
+when_returned_kind p (Probe pattern) c = when_done p c
+when_returned_kind p (MatchedReceive blocking) c = at_once
+when_returned_kind p (Wait operation) c = when_done p operation
+
+-- the condition under which an issued call that exists has returned
+abbrev pub when_returned_call : MpiProgram → Option Call → ℕ → Condition
+when_returned_call p None c = at_once
+when_returned_call p (Some call) c = when_returned_kind p call.kind c
+
+-- the condition under which an issued call has returned
+abbrev pub when_returned : MpiProgram → ℕ → Condition
+when_returned p c = when_returned_call p (call_at p c) c
+
+-- ---- what follows where a call has returned
+
+-- a clause says that one of its statements is right
+abbrev pub SymbolicClause : Type 0
+SymbolicClause = List Statement
+
+-- where there is a receive on a handle, it isn't issued
+abbrev pub unless_issued : Option ℕ → SymbolicClause
+unless_issued None = []
+unless_issued (Some receive) = is_false (issued receive) ∷ []
+
+-- where the call is issued and the send is fetched, the statement is right
+abbrev pub where_fetched : MpiProgram → ℕ → ℕ → Statement → List SymbolicClause
+where_fetched p c send x =
+    map (λ taker. is_false (issued c) ∷ is_false (matched send taker) ∷ x ∷ unless_issued (receive_on_handle p taker)) (takers_of p send)
+
+-- where the call is issued and the condition holds, the statement is right
+abbrev pub where_returned_under : MpiProgram → ℕ → Statement → Condition → List SymbolicClause
+where_returned_under p c x at_once = (is_false (issued c) ∷ x ∷ []) ∷ []
+where_returned_under p c x (if_matched taker) =
+    map (λ send. is_false (issued c) ∷ is_false (matched send taker) ∷ x ∷ []) (sends_of p taker)
+where_returned_under p c x (if_fetched send) = where_fetched p c send x
+where_returned_under p c x (if_buffered_or_fetched send) =
+    (is_false (issued c) ∷ is_false (buffered send) ∷ x ∷ []) ∷ where_fetched p c send x
+
+-- where the call is issued and has returned, the statement is right
+abbrev pub where_returned : MpiProgram → ℕ → Statement → List SymbolicClause
+where_returned p c x = where_returned_under p c x (when_returned p c)
+
+-- ---- the families
+
+-- the clauses of all calls, in call order
+abbrev pub for_each_call : MpiProgram → (ℕ → List SymbolicClause) → List SymbolicClause
+for_each_call p clauses = flat_map clauses (places p)
+
+-- the clauses of all pairs of a send and a taker that fit, by send, then by taker
+abbrev pub for_each_pair : MpiProgram → (ℕ → ℕ → List SymbolicClause) → List SymbolicClause
+for_each_pair p clauses = flat_map (λ pair. clauses pair.0 pair.1) (matching_pairs p)
+
+-- the clauses of all pairs of a send and a probe that fit, by send, then by probe
+abbrev pub for_each_seeing_pair : MpiProgram → (ℕ → ℕ → List SymbolicClause) → List SymbolicClause
+for_each_seeing_pair p clauses = flat_map (λ pair. clauses pair.0 pair.1) (seeing_pairs p)
+
+-- where the call is issued, the one before it is, and earlier
+abbrev pub issued_after : ℕ → Option ℕ → List SymbolicClause
+issued_after c None = []
+issued_after c (Some earlier) =
+    (is_false (issued c) ∷ is_true (issued earlier) ∷ []) ∷ (is_earlier (issue_of earlier) (issue_of c) ∷ []) ∷ []
+
+-- Calls are issued in order: where a call is issued, the one before it is issued. The issue of the one before it is earlier.
+abbrev pub calls_are_issued_in_order : MpiProgram → List SymbolicClause
+calls_are_issued_in_order p = for_each_call p (λ c. issued_after c (previous p c))
+
+-- where the call is issued and the send matched with a matched probe, the receive on its handle is issued, or the rest of the clause is right
+abbrev pub handle_is_received_on : ℕ → ℕ → ℕ → SymbolicClause → Option ℕ → List SymbolicClause
+handle_is_received_on c send taker otherwise None = []
+handle_is_received_on c send taker otherwise (Some receive) =
+    ((is_false (issued c) ∷ is_false (matched send taker) ∷ is_true (issued receive) ∷ []) ++ otherwise) ∷ []
+
+-- where the call is issued, the send is fetched before, or the rest of the clause is right
+abbrev pub is_fetched_before : MpiProgram → ℕ → ℕ → SymbolicClause → List SymbolicClause
+is_fetched_before p c send otherwise =
+    ((is_false (issued c) ∷ map (λ taker. is_true (matched send taker)) (takers_of p send)) ++ otherwise) ∷
+    flat_map
+    (λ taker.
+    ((is_false (issued c) ∷ is_false (matched send taker) ∷ is_earlier (fetch_of p taker) (issue_of c) ∷ []) ++ otherwise) ∷
+    handle_is_received_on c send taker otherwise (receive_on_handle p taker))
+    (takers_of p send)
+
+-- where the call is issued, the condition holds before
+abbrev pub is_returned_before : MpiProgram → ℕ → Condition → List SymbolicClause
+is_returned_before p c at_once = []
+is_returned_before p c (if_matched taker) =
+    (is_false (issued c) ∷ map (λ send. is_true (matched send taker)) (sends_of p taker)) ∷
+    (is_false (issued c) ∷ is_earlier (match_of taker) (issue_of c) ∷ []) ∷
+    []
+is_returned_before p c (if_fetched send) = is_fetched_before p c send []
+is_returned_before p c (if_buffered_or_fetched send) = is_fetched_before p c send (is_true (buffered send) ∷ [])
+
+-- where the call is issued, the one before it has returned before
+abbrev pub issued_after_return_of : MpiProgram → ℕ → Option ℕ → List SymbolicClause
+issued_after_return_of p c None = []
+issued_after_return_of p c (Some earlier) = is_returned_before p c (when_returned p earlier)
+
+-- Calls are issued after returns: where a call is issued, the one before it has returned, and what made it return is earlier.
+abbrev pub calls_are_issued_after_returns : MpiProgram → List SymbolicClause
+calls_are_issued_after_returns p = for_each_call p (λ c. issued_after_return_of p c (previous p c))
+
+-- where the pair is matched, both calls are issued, and before
+abbrev pub issued_before_match : ℕ → ℕ → List SymbolicClause
+issued_before_match send taker =
+    (is_false (matched send taker) ∷ is_true (issued send) ∷ []) ∷
+    (is_false (matched send taker) ∷ is_true (issued taker) ∷ []) ∷
+    (is_false (matched send taker) ∷ is_earlier (issue_of send) (match_of taker) ∷ []) ∷
+    (is_false (matched send taker) ∷ is_earlier (issue_of taker) (match_of taker) ∷ []) ∷
+    []
+
+-- Matches come after issues: what is matched is issued, and earlier than the match.
+abbrev pub matches_come_after_issues : MpiProgram → List SymbolicClause
+matches_come_after_issues p = for_each_pair p issued_before_match
+
+-- the finder doesn't find a later send too
+abbrev pub without_later_sends : MpiProgram → ℕ → ℕ → List SymbolicClause
+without_later_sends p send finder =
+    map (λ other. is_false (matched send finder) ∷ is_false (matched other finder) ∷ []) (filter (nat_lt send) (sends_of p finder))
+
+-- the pair isn't matched together with a later pair of the same send or taker
+abbrev pub without_later_pairs : MpiProgram → ℕ → ℕ → List SymbolicClause
+without_later_pairs p send taker =
+    map (λ other. is_false (matched send taker) ∷ is_false (matched send other) ∷ []) (filter (nat_lt taker) (takers_of p send)) ++
+    without_later_sends p send taker
+
+-- Calls are matched once: of two pairs that share a send or a taker, one isn't matched.
+abbrev pub calls_are_matched_once : MpiProgram → List SymbolicClause
+calls_are_matched_once p = for_each_pair p (without_later_pairs p)
+
+-- where the pair is matched, the earlier send is matched with another taker, and earlier
+abbrev pub send_is_matched_before : MpiProgram → ℕ → ℕ → ℕ → List SymbolicClause
+send_is_matched_before p send taker earlier =
+    let others = filter (λ other. not (other == taker)) (takers_of p earlier) in
+    (is_false (matched send taker) ∷ map (λ other. is_true (matched earlier other)) others) ∷
+    map (λ other. is_false (matched send taker) ∷ is_false (matched earlier other) ∷ is_earlier (match_of other) (match_of taker) ∷ []) others
+
+-- Sends don't overtake: where a pair is matched, each earlier send of the send's rank that fits the taker is matched
+-- with another taker, and earlier.
+abbrev pub sends_do_not_overtake : MpiProgram → List SymbolicClause
+sends_do_not_overtake p = for_each_pair p (λ send taker. flat_map (send_is_matched_before p send taker) (earlier_sends p send taker))
+
+-- where the pair is matched, the earlier taker is matched with another send, and earlier
+abbrev pub taker_is_matched_before : MpiProgram → ℕ → ℕ → ℕ → List SymbolicClause
+taker_is_matched_before p send taker earlier =
+    (is_false (matched send taker) ∷ map (λ other. is_true (matched other earlier)) (filter (λ other. not (other == send)) (sends_of p earlier))) ∷
+    (is_false (matched send taker) ∷ is_earlier (match_of earlier) (match_of taker) ∷ []) ∷
+    []
+
+-- Takers don't overtake: where a pair is matched, each earlier taker of the taker's rank that the send fits is matched
+-- with another send, and earlier.
+abbrev pub takers_do_not_overtake : MpiProgram → List SymbolicClause
+takers_do_not_overtake p = for_each_pair p (λ send taker. flat_map (taker_is_matched_before p send taker) (earlier_takers p send taker))
+
+-- where both calls are issued, the send or the taker is matched
+abbrev pub pair_does_not_wait : MpiProgram → ℕ → ℕ → List SymbolicClause
+pair_does_not_wait p send taker =
+    (is_false (issued send) ∷ is_false (issued taker) ∷
+    (map (λ other. is_true (matched send other)) (takers_of p send) ++ map (λ other. is_true (matched other taker)) (sends_of p taker))) ∷
+    []
+
+-- No pair waits: of a send and a taker that fit and are issued, one is matched.
+abbrev pub no_pair_waits : MpiProgram → List SymbolicClause
+no_pair_waits p = for_each_pair p (pair_does_not_wait p)
+
+-- the call is issued where there is none before it, or where the one before it has returned
+abbrev pub issue_does_not_wait : MpiProgram → ℕ → Option ℕ → List SymbolicClause
+issue_does_not_wait p c None = (is_true (issued c) ∷ []) ∷ []
+issue_does_not_wait p c (Some earlier) = where_returned p earlier (is_true (issued c))
+
+-- No issue waits: the first call of each rank is issued, and each call that stands after one that has returned.
+abbrev pub no_issue_waits : MpiProgram → List SymbolicClause
+no_issue_waits p = for_each_call p (λ c. issue_does_not_wait p c (previous p c))
+
+-- Some rank is unfinished, and none whose last call has returned.
+abbrev pub some_rank_is_unfinished : MpiProgram → List SymbolicClause
+some_rank_is_unfinished p =
+    flat_map (λ c. where_returned p c (is_false (unfinished (rank_of p c)))) (last_calls p) ++
+    (map (λ c. is_true (unfinished (rank_of p c))) (last_calls p) ∷ [])
+
+-- what the policy says of a standard send
+abbrev pub buffered_under : Policy → ℕ → List SymbolicClause
+buffered_under Any send = []
+buffered_under Never send = (is_false (buffered send) ∷ []) ∷ []
+buffered_under Always send = (is_true (buffered send) ∷ []) ∷ []
+
+-- Standard sends are buffered as the policy says: never, always, or freely.
+abbrev pub sends_are_buffered_as_allowed : MpiProgram → List SymbolicClause
+sends_are_buffered_as_allowed p = flat_map (buffered_under p.policy) (standard_sends p)
+
+-- the families that state which of two events is earlier, in the order of the formula
+abbrev pub families_of_order : MpiProgram → List (List SymbolicClause)
+families_of_order p =
+    calls_are_issued_in_order p ∷
+    calls_are_issued_after_returns p ∷
+    matches_come_after_issues p ∷
+    calls_are_matched_once p ∷
+    sends_do_not_overtake p ∷
+    takers_do_not_overtake p ∷
+    []
+
+-- where the probe has seen the send and the send is matched with a taker, the probe saw it before
+abbrev pub seen_before_taken : MpiProgram → ℕ → ℕ → List SymbolicClause
+seen_before_taken p send probe =
+    map (λ taker. is_false (matched send probe) ∷ is_false (matched send taker) ∷ is_earlier (match_of probe) (match_of taker) ∷ []) (takers_of p send)
+
+-- What is said of a send and a probe that fits it. Where the probe has seen the send, both are issued, and before; the send is matched
+-- with no taker before; no later send is seen too; each earlier send that fits the probe, and each earlier taker that the send fits, is
+-- matched before. And where both are issued, the send is matched, or the probe has seen one.
+abbrev pub see_clauses : MpiProgram → ℕ → ℕ → List SymbolicClause
+see_clauses p send probe =
+    issued_before_match send probe ++
+    (seen_before_taken p send probe ++
+    (without_later_sends p send probe ++
+    (flat_map (send_is_matched_before p send probe) (earlier_sends p send probe) ++
+    (flat_map (taker_is_matched_before p send probe) (earlier_takers p send probe) ++
+    pair_does_not_wait p send probe))))
+
+-- Probes see messages: each sees one that waits and doesn't overtake, and none waits where such a message is there.
+abbrev pub probes_see_messages : MpiProgram → List SymbolicClause
+probes_see_messages p = for_each_seeing_pair p (see_clauses p)
+
+-- the families that say that the run is stuck
+abbrev pub families_of_end : MpiProgram → List (List SymbolicClause)
+families_of_end p = no_pair_waits p ∷ no_issue_waits p ∷ some_rank_is_unfinished p ∷ []
+
+-- the families of which some clause states an order
+abbrev pub families_with_orders : MpiProgram → List (List SymbolicClause)
+families_with_orders p = families_of_order p ++ (probes_see_messages p ∷ [])
+
+-- the families that come after the clauses on the order of events
+abbrev pub last_families : MpiProgram → List (List SymbolicClause)
+last_families p = sends_are_buffered_as_allowed p ∷ probes_see_messages p ∷ []
+
+-- the families in the order of the formula
+abbrev pub families : MpiProgram → List (List SymbolicClause)
+families p = families_of_order p ++ families_of_end p ++ last_families p

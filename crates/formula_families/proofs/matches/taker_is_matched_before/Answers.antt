@@ -1,0 +1,16 @@
+use Rattle.std.proofs.Common.{◌∷◌, ◌++◌, map, ap, ◌∙◌, not, ◌==◌}
+use Rattle.std.specs.List.{filter}
+use Rattle.formula.specs.declared.facts.Fact.TheVariants.{Matched as matched}
+use Rattle.formula.specs.declared.facts.Statement.TheVariants.{Holds as is_true, Fails as is_false}
+use Rattle.formula_families.proofs.Adding.{clause_then}
+use Rattle.formula_families.proofs.matches.taker_is_matched_before.Goals as goal
+
+pub returns : goal.returns
+returns c =
+    let send = c.args.pair.0 in
+    let taker = c.args.pair.1 in
+    let earlier = c.args.earlier in
+    let others = c.as_slice.ensures.value ∙ (c.in_ok-others.ensures ∙ ap (λ l. filter (λ other. not (other == send)) l) c.sends_of.ensures) in
+    clause_then c.args.clauses.now c.add.new.self c.add-2.new.self _ _ _ c.in_ok-add.ensures
+    (c.as_slice-2.ensures.value ∙ (c.in_ok-push_sends.ensures ∙ (ap (λ l. l ++ map (λ other. is_true (matched other earlier)) c.as_slice.result.now) c.in_ok-clause.ensures.items ∙ ap (λ l. is_false (matched send taker) ∷ map (λ other. is_true (matched other earlier)) l) others)))
+    c.in_ok-add-2.ensures

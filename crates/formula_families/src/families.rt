@@ -1,0 +1,333 @@
+//! The families of clauses, call by call and pair by pair.
+
+ghost use Rattle.std.specs.Prelude.{◌≡◌, ◌∷◌, [], ◌++◌, ℕ, length, map, OnOk, IfOk};
+ghost use Rattle.formula.specs.declared.facts.Fact.TheVariants.{Unfinished as unfinished};
+ghost use Rattle.formula.specs.declared.facts.Statement.TheVariants.{Holds as is_true};
+ghost use Rattle.formula.specs.Families.{last_calls, rank_of, issued_after, issued_after_return_of, issue_does_not_wait, see_clauses};
+ghost use Rattle.formula_families.specs.Blocks.{finished_after, buffered_as_allowed, clauses_of, size_of, block, order_families, end_families, ordering_families, last_families, where_taken, where_seen, taken_at};
+ghost use Rattle.candidates.specs.Pairs.{pairs_of, pair_at};
+
+use crate::symbolic::Symbolic;
+use crate::{matches, returns};
+use callorder::Program;
+use calltext::Policy;
+use formula::{Event, Fact, Statement};
+use std::alloc::{AllocError, Global};
+use formula_tables::{Source, is_last, is_standard, previous, rank_of, when_returned};
+
+/// A family of clauses. Some have a block of clauses for each call, some for each pair, and one has one block in all.
+#[derive(Clone, Copy, PartialEq, Eq)]
+pub enum Family {
+    /// By call: where it is issued, the call directly before it in its rank is issued, and earlier.
+    IssueOrder,
+    /// By call: where it is issued, the call directly before it in its rank has returned, and before.
+    ReturnOrder,
+    /// By pair of a send and a taker, as the next four: where it is matched, both calls are issued, and before.
+    MatchOrder,
+    /// By pair: it isn't matched together with a later pair of the same send or taker.
+    MatchedOnce,
+    /// By pair: its match doesn't overtake that of an earlier send.
+    SendOrder,
+    /// By pair: its match doesn't overtake that of an earlier taker.
+    TakerOrder,
+    /// By pair: where both calls are issued, one of them is matched.
+    NoPairWaits,
+    /// By call: it is issued where the call directly before it in its rank has returned, or where there is none.
+    NoIssueWaits,
+    /// By call: where it is the last one of its rank and has returned, the rank isn't unfinished.
+    Finished,
+    /// One block: some rank is unfinished.
+    SomeUnfinished,
+    /// By call: whether a standard send is buffered, as the policy says.
+    Buffering,
+    /// By pair of a send and a probe: what is said of a see.
+    Sees,
+}
+
+/// The clauses of a family for one call or for one pair.
+#[derive(Clone, Copy, PartialEq, Eq)]
+pub struct Block {
+    /// The family.
+    pub family: Family,
+    /// The place of the call among those of the program, or of the pair among the pairs, from 0.
+    pub place: usize,
+}
+
+/// Where the call is issued, the one before it is, and earlier.
+fn issued_after(
+    clauses: &mut Symbolic<Statement>,
+    call: usize,
+    before: Option<usize>,
+) -> Result<(), AllocError>
+    ensures { OnOk result (clauses.new ≡ clauses.old ++ issued_after call before) }
+{
+    if let Some(before) = before {
+        let unissued = Statement::Fails(Fact::Issued(call));
+        let issued = Statement::Holds(Fact::Issued(before));
+        let earlier = Statement::Earlier(Event::Issue(before), Event::Issue(call));
+        clauses.add(&[unissued, issued])?;
+        clauses.add(&[earlier])?;
+    }
+    Ok(())
+}
+
+/// Where the call is issued, the one before it has returned before.
+fn issued_after_return_of(
+    clauses: &mut Symbolic<Statement>,
+    alloc: Global,
+    source: &Source<'_>,
+    call: usize,
+    before: Option<usize>,
+) -> Result<(), AllocError>
+    ensures { OnOk result (clauses.new ≡ clauses.old ++ issued_after_return_of source.now call before) }
+{
+    if let Some(before) = before {
+        let condition = when_returned(source.program(), before);
+        returns::is_returned_before(clauses, alloc, source, call, &condition)?;
+    }
+    Ok(())
+}
+
+/// The call is issued where there is none before it, or where the one before it has returned.
+fn issue_does_not_wait(
+    clauses: &mut Symbolic<Statement>,
+    source: &Source<'_>,
+    call: usize,
+    before: Option<usize>,
+) -> Result<(), AllocError>
+    ensures { OnOk result (clauses.new ≡ clauses.old ++ issue_does_not_wait source.now call before) }
+{
+    let issued = Statement::Holds(Fact::Issued(call));
+    match before {
+        None => clauses.add(&[issued])?,
+        Some(before) => returns::where_returned(clauses, source, before, &issued)?,
+    }
+    Ok(())
+}
+
+/// A rank whose last call has returned isn't unfinished. There is no clause for a call that isn't the last one of its rank.
+fn is_finished(
+    clauses: &mut Symbolic<Statement>,
+    source: &Source<'_>,
+    call: usize,
+) -> Result<(), AllocError>
+    ensures { OnOk result (clauses.new ≡ clauses.old ++ finished_after source.now call) }
+{
+    if is_last(source.program(), call) {
+        let rank = rank_of(source.program(), call);
+        let finished = Statement::Fails(Fact::Unfinished(rank));
+        returns::where_returned(clauses, source, call, &finished)?;
+    }
+    Ok(())
+}
+
+/// The last calls of the ranks that have a call, rising.
+fn last_calls(alloc: Global, program: &Program) -> Result<Vec<usize>, AllocError>
+    ensures { IfOk result (λ calls. calls.items ≡ last_calls program.now) }
+{
+    (0..program.calls().len())
+        .filter(|call| is_last(program, *call))
+        .collect(alloc)
+}
+
+/// Some rank is unfinished.
+fn some_is_unfinished(
+    clauses: &mut Symbolic<Statement>,
+    alloc: Global,
+    source: &Source<'_>,
+) -> Result<(), AllocError>
+    ensures { OnOk result (clauses.new ≡ clauses.old ++ (map (λ c. is_true (unfinished (rank_of source.now c))) (last_calls source.now)) ∷ []) }
+{
+    let calls = last_calls(alloc, source.program())?;
+    let mut clause = Vec::new(alloc);
+    for call in calls.as_slice() {
+        let rank = rank_of(source.program(), *call);
+        clause.push(Statement::Holds(Fact::Unfinished(rank)))?;
+    }
+    clauses.add(clause.as_slice())?;
+    Ok(())
+}
+
+/// What the policy says of a standard send. There is no clause for another call.
+fn buffered_as_allowed(
+    clauses: &mut Symbolic<Statement>,
+    source: &Source<'_>,
+    call: usize,
+) -> Result<(), AllocError>
+    ensures { OnOk result (clauses.new ≡ clauses.old ++ buffered_as_allowed source.now call) }
+{
+    if is_standard(source.program(), call) {
+        match source.program().policy() {
+            Policy::Any => {}
+            Policy::Never => clauses.add(&[Statement::Fails(Fact::Buffered(call))])?,
+            Policy::Always => clauses.add(&[Statement::Holds(Fact::Buffered(call))])?,
+        }
+    }
+    Ok(())
+}
+
+/// Adds the clauses of a family of pairs of a send and a taker, for the pair at a place, whatever it is.
+fn add_taken(
+    clauses: &mut Symbolic<Statement>,
+    alloc: Global,
+    source: &Source<'_>,
+    family: Family,
+    place: usize,
+) -> Result<(), AllocError>
+    ensures { OnOk result (clauses.new ≡ clauses.old ++ taken_at source.now family place) }
+{
+    let (send, taker) = source.pair(place);
+    match family {
+        Family::MatchOrder => matches::issued_before_match(clauses, send, taker)?,
+        Family::MatchedOnce => matches::without_later_pairs(clauses, source, send, taker)?,
+        Family::SendOrder => matches::sends_are_matched_before(clauses, alloc, source, place)?,
+        Family::TakerOrder => matches::takers_are_matched_before(clauses, alloc, source, place)?,
+        _ => matches::pair_does_not_wait(clauses, alloc, source, send, taker)?,
+    }
+    Ok(())
+}
+
+/// Adds the clauses of a family of pairs of a send and a taker, for the pair at a place, if it is one.
+fn add_where_taken(
+    clauses: &mut Symbolic<Statement>,
+    alloc: Global,
+    source: &Source<'_>,
+    family: Family,
+    place: usize,
+) -> Result<(), AllocError>
+    ensures { OnOk result (clauses.new ≡ clauses.old ++ where_taken source.now (pair_at (pairs_of source.now) place) (taken_at source.now family place)) }
+{
+    let (_send, finder) = source.pair(place);
+    if source.program().is_probe(finder) {
+        return Ok(());
+    }
+    add_taken(clauses, alloc, source, family, place)?;
+    Ok(())
+}
+
+/// Adds what is said of a see, for the pair at a place, if it is one of a send and a probe.
+fn add_where_seen(
+    clauses: &mut Symbolic<Statement>,
+    alloc: Global,
+    source: &Source<'_>,
+    place: usize,
+) -> Result<(), AllocError>
+    ensures { let pair = pair_at (pairs_of source.now) place in OnOk result (clauses.new ≡ clauses.old ++ where_seen source.now pair (see_clauses source.now pair.0 pair.1)) }
+{
+    let (_send, finder) = source.pair(place);
+    if !source.program().is_probe(finder) {
+        return Ok(());
+    }
+    matches::see_clauses(clauses, alloc, source, place)?;
+    Ok(())
+}
+
+/// Adds the clauses of a family for the call or the pair at a place.
+fn add_block(
+    clauses: &mut Symbolic<Statement>,
+    alloc: Global,
+    source: &Source<'_>,
+    family: Family,
+    place: usize,
+) -> Result<(), AllocError>
+    ensures { OnOk result (clauses.new ≡ clauses.old ++ clauses_of source.now (block family place)) }
+{
+    let before = previous(source.program(), place);
+    match family {
+        Family::IssueOrder => issued_after(clauses, place, before)?,
+        Family::ReturnOrder => issued_after_return_of(clauses, alloc, source, place, before)?,
+        Family::MatchOrder => add_where_taken(clauses, alloc, source, family, place)?,
+        Family::MatchedOnce => add_where_taken(clauses, alloc, source, family, place)?,
+        Family::SendOrder => add_where_taken(clauses, alloc, source, family, place)?,
+        Family::TakerOrder => add_where_taken(clauses, alloc, source, family, place)?,
+        Family::NoPairWaits => add_where_taken(clauses, alloc, source, family, place)?,
+        Family::NoIssueWaits => issue_does_not_wait(clauses, source, place, before)?,
+        Family::Finished => is_finished(clauses, source, place)?,
+        Family::SomeUnfinished => some_is_unfinished(clauses, alloc, source)?,
+        Family::Buffering => buffered_as_allowed(clauses, source, place)?,
+        Family::Sees => add_where_seen(clauses, alloc, source, place)?,
+    }
+    Ok(())
+}
+
+/// Puts the clauses of the block in place of those that stand there. The only error is want of memory.
+pub fn put_block(
+    clauses: &mut Symbolic<Statement>,
+    alloc: Global,
+    source: &Source<'_>,
+    of: &Block,
+) -> Result<(), AllocError>
+    ensures { OnOk result (clauses.new ≡ clauses_of source.now of.now) }
+{
+    clauses.clear();
+    add_block(clauses, alloc, source, of.family, of.place)?;
+    Ok(())
+}
+
+/// How many blocks the family has: their places are the numbers below.
+pub fn size_of(source: &Source<'_>, family: Family) -> usize
+    ensures { result ≡ size_of source.now family }
+{
+    match family {
+        Family::IssueOrder
+        | Family::ReturnOrder
+        | Family::NoIssueWaits
+        | Family::Finished
+        | Family::Buffering => source.len(),
+        Family::MatchOrder
+        | Family::MatchedOnce
+        | Family::SendOrder
+        | Family::TakerOrder
+        | Family::NoPairWaits
+        | Family::Sees => source.pair_count(),
+        Family::SomeUnfinished => 1,
+    }
+}
+
+/// The families that state which of two events is earlier.
+pub fn order_families() -> &'static [Family]
+    ensures { result.now ≡ order_families }
+{
+    &[
+        Family::IssueOrder,
+        Family::ReturnOrder,
+        Family::MatchOrder,
+        Family::MatchedOnce,
+        Family::SendOrder,
+        Family::TakerOrder,
+    ]
+}
+
+/// The families that say that the run is stuck.
+pub fn end_families() -> &'static [Family]
+    ensures { result.now ≡ end_families }
+{
+    &[
+        Family::NoPairWaits,
+        Family::NoIssueWaits,
+        Family::Finished,
+        Family::SomeUnfinished,
+    ]
+}
+
+/// All families that state which of two events is earlier.
+pub fn ordering_families() -> &'static [Family]
+    ensures { result.now ≡ ordering_families }
+{
+    &[
+        Family::IssueOrder,
+        Family::ReturnOrder,
+        Family::MatchOrder,
+        Family::MatchedOnce,
+        Family::SendOrder,
+        Family::TakerOrder,
+        Family::Sees,
+    ]
+}
+
+/// The families on the policy and on probes.
+pub fn last_families() -> &'static [Family]
+    ensures { result.now ≡ last_families }
+{
+    &[Family::Buffering, Family::Sees]
+}

@@ -1,0 +1,67 @@
+//! What is left to do.
+
+use matchsets::{Key, State};
+
+/// A literal on which a state is branched.
+#[derive(Drop)]
+pub(crate) struct Branch {
+    pub(crate) literal: u32,
+    /// What tells the state below it; none where there is none.
+    pub(crate) key: Option<Key>,
+    /// The clause against it, once there is one.
+    pub(crate) clause: Option<u32>,
+}
+
+/// A state and the literals on which it is branched, of which one is true.
+#[derive(Drop)]
+pub(crate) struct Branching {
+    pub(crate) key: Key,
+    pub(crate) assumptions: Vec<u32>,
+    pub(crate) branches: Vec<Branch>,
+}
+
+/// What a clause is looked for.
+#[derive(Drop)]
+pub(crate) enum Purpose {
+    /// It closes the state with this key.
+    State(Key),
+    /// It is against the literal at this place of the branching that is finished next.
+    Literal(usize),
+    /// It closes the search.
+    Formula,
+}
+
+/// Something to do.
+#[derive(Drop)]
+pub(crate) enum Task {
+    /// To begin.
+    Start,
+    /// To close this state.
+    Visit(State),
+    /// The same where another search was closing it, once nothing else is left to do below the same state.
+    VisitLast(State),
+    /// To close the first state by what closes the second.
+    Alias(Key, Key),
+    /// To close a state below whose literals all states are closed.
+    Finish(Branching),
+    /// To learn a clause of negations of these literals.
+    Learn(Vec<u32>, Purpose),
+    /// To close the search, now that this first state is closed.
+    End(State),
+}
+
+impl Task {
+    /// Whether it is to close a state that wasn't looked at.
+    pub(crate) fn is_visit(&self) -> bool {
+        matches!(self, Task::Visit(_) | Task::VisitLast(_))
+    }
+
+    /// The key of the state that it closes, and what is assumed of that, where it knows both.
+    pub(crate) fn closing(&self) -> Option<(Key, &[u32])> {
+        match self {
+            Task::Finish(branching) => { Some((branching.key, branching.assumptions.as_slice())) }
+            Task::Learn(codes, Purpose::State(key)) => Some((*key, codes.as_slice())),
+            _ => None,
+        }
+    }
+}

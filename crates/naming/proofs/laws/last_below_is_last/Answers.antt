@@ -1,5 +1,0 @@
-use Rattle.naming.proofs.Places as places
-use Rattle.naming.proofs.laws.last_below_is_last.Goals as goal
-
-pub returns : goal.returns
-returns c = places.last_below_is_last

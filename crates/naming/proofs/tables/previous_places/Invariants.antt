@@ -1,7 +1,0 @@
-use Rattle.std.proofs.Common.{length}
-use Rattle.naming.specs.Places.{IsTable, previous_of}
-use Rattle.naming.proofs.TableSteps.{IsLastTable}
-use Rattle.naming.proofs.tables.previous_places.Given as goal
-
-abbrev pub invariant-loop-place : goal.invariant-loop-place
-invariant-loop-place l = IsLastTable (length l.numbers) l.numbers l.place l.last.items × IsTable l.place (previous_of l.numbers) l.previous.items

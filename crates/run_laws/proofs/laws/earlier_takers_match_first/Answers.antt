@@ -1,0 +1,5 @@
+use Rattle.run_laws.proofs.Matched as matched
+use Rattle.run_laws.proofs.laws.earlier_takers_match_first.Goals as goal
+
+pub returns : goal.returns
+returns c = matched.earlier_takers_match_first
