@@ -1,23 +1,23 @@
 //! What the search knows, and how clauses come in.
 
 use crate::analysis::Learnt;
-use crate::order::Order;
+use crate::order::Scores;
 use crate::probing::most_in_vain;
 use crate::stamps::Stamps;
 use clauses::{Clause, Formula, Lit};
 use propagation::{
-    Marks, NONE, OWN, Store, Trail, Truth, Watches, bring_unset, code_of, propagate, variable_of,
+    Marks, NONE, OWN, ClauseArena, Trail, Truth, Watches, bring_unset, code_of, propagate, variable_of,
 };
 use std::alloc::{AllocError, Global};
 
 /// All that the search knows.
 #[derive(Drop)]
 pub(crate) struct Engine {
-    pub(crate) store: Store,
+    pub(crate) store: ClauseArena,
     pub(crate) trail: Trail,
     pub(crate) watches: Watches,
     pub(crate) marks: Marks,
-    pub(crate) order: Order,
+    pub(crate) order: Scores,
     /// The lists of the clause that was learnt last, and which levels it has.
     pub(crate) scratch: Learnt,
     pub(crate) stamps: Stamps,
@@ -69,11 +69,11 @@ impl Engine {
     fn empty(alloc: Global, variables: u32, probed: &[u32]) -> Result<Engine, AllocError> {
         let probes = positive_literals(alloc, variables, probed)?;
         Ok(Engine {
-            store: Store::new(alloc),
+            store: ClauseArena::new(alloc),
             trail: Trail::new(alloc, variables)?,
             watches: Watches::new(alloc, variables)?,
             marks: Marks::new(alloc, variables)?,
-            order: Order::new(alloc, variables)?,
+            order: Scores::new(alloc, variables)?,
             scratch: Learnt::new(alloc),
             stamps: Stamps::new(alloc, variables)?,
             refuted: None,

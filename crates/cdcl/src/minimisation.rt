@@ -1,7 +1,7 @@
 //! Leaving out literals of a learnt clause that follow from its other literals.
 
 use crate::analysis::{Literals, Resolved};
-use propagation::{Marks, NONE, Store, Trail, variable_of};
+use propagation::{Marks, NONE, ClauseArena, Trail, variable_of};
 use std::alloc::AllocError;
 
 /// The bit of a level, which it shares with each 64th.
@@ -21,7 +21,7 @@ fn level_bits(trail: &Trail, literals: &[u32]) -> u64 {
 /// Takes in the variables of a reason that aren't marked. False where one of them rests on a decision, or on a level that
 /// no literal of the clause has.
 fn take_reason(
-    store: &Store,
+    store: &ClauseArena,
     trail: &Trail,
     marks: &mut Marks,
     resolved: &mut Resolved,
@@ -50,7 +50,7 @@ fn take_reason(
 
 /// Resolves the variables from this place of the list on, and those that they rest on, down to marked ones.
 fn resolve_from(
-    store: &Store,
+    store: &ClauseArena,
     trail: &Trail,
     marks: &mut Marks,
     resolved: &mut Resolved,
@@ -71,7 +71,7 @@ fn resolve_from(
 
 /// Whether the literal follows from marked variables; then all that this rests on is resolved and marked.
 fn leave_out(
-    store: &Store,
+    store: &ClauseArena,
     trail: &Trail,
     marks: &mut Marks,
     resolved: &mut Resolved,
@@ -97,7 +97,7 @@ fn leave_out(
 
 /// Leaves out the literals that follow from the others.
 pub(crate) fn minimise(
-    store: &Store,
+    store: &ClauseArena,
     trail: &Trail,
     marks: &mut Marks,
     literals: &mut Literals,

@@ -1,7 +1,7 @@
 //! Dropping clauses between searches.
 
 use crate::engine::Engine;
-use propagation::{OWN, Store, Truth, variable_of};
+use propagation::{OWN, ClauseArena, Truth, variable_of};
 use std::alloc::{AllocError, Global};
 use std::mem;
 
@@ -9,7 +9,7 @@ use std::mem;
 const MORE: usize = 1_000;
 
 /// The places of the clauses from this one on.
-fn places_from(alloc: Global, store: &Store, first: u32) -> Result<Vec<u32>, AllocError> {
+fn places_from(alloc: Global, store: &ClauseArena, first: u32) -> Result<Vec<u32>, AllocError> {
     let mut places = Vec::new(alloc);
     let mut place = first;
     for _ in place as usize..store.size() {
@@ -23,7 +23,7 @@ fn places_from(alloc: Global, store: &Store, first: u32) -> Result<Vec<u32>, All
 }
 
 /// The places of the clauses that the formula doesn't have.
-fn learnt_places(alloc: Global, store: &Store) -> Result<Vec<u32>, AllocError> {
+fn learnt_places(alloc: Global, store: &ClauseArena) -> Result<Vec<u32>, AllocError> {
     match u32::try_from(store.fixed()) {
         Ok(first) => places_from(alloc, store, first),
         Err(_) => Ok(Vec::new(alloc)),
@@ -31,7 +31,7 @@ fn learnt_places(alloc: Global, store: &Store) -> Result<Vec<u32>, AllocError> {
 }
 
 /// The middle one of the ranks of these clauses.
-fn median_rank(alloc: Global, store: &Store, places: &[u32]) -> Result<u64, AllocError> {
+fn median_rank(alloc: Global, store: &ClauseArena, places: &[u32]) -> Result<u64, AllocError> {
     let mut ranks = Vec::new(alloc);
     for place in places {
         if let Some(rank) = store.rank(*place) {
@@ -98,7 +98,7 @@ impl Engine {
         Ok(numbered)
     }
 
-    fn take_over(&mut self, alloc: Global, old: &Store, places: &[u32]) -> Result<(), AllocError> {
+    fn take_over(&mut self, alloc: Global, old: &ClauseArena, places: &[u32]) -> Result<(), AllocError> {
         let mut codes = Vec::new(alloc);
         for place in places {
             codes.clear();
@@ -119,7 +119,7 @@ impl Engine {
         self.watches.clear();
         self.refuted = None;
         self.learnt = 0;
-        let old = mem::replace(&mut self.store, Store::new(alloc));
+        let old = mem::replace(&mut self.store, ClauseArena::new(alloc));
         self.take_over(alloc, &old, &all[..formula])?;
         self.store.fix();
         self.take_over(alloc, &old, &learnt)

@@ -6,7 +6,7 @@ use Rattle.std.proofs.lemmas.List.{append-nil, length-append, length-map, length
 use Rattle.std.proofs.lemmas.Option.{slice_get-get_or}
 use Rattle.clauses.specs.Clauses.{Literal}
 use Rattle.refutations.specs.Trees.{branch}
-use Rattle.trees.specs.declared.tree.Kind.TheVariants.{Split}
+use Rattle.trees.specs.declared.tree.NodeKind.TheVariants.{Split}
 use Rattle.trees.specs.Trees.{TreeNode, TreeState, leaf_with, path_at, IsLeaf, split_at}
 use Rattle.cubes.specs.Levels.{inner_nodes, doubled, paths_from, level_after}
 use Rattle.cubes.proofs.FullTrees.{length-inner_nodes, length-doubled}

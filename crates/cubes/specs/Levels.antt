@@ -3,7 +3,7 @@ use Rattle.std.specs.Prelude.{ℕ, ◌+◌, true, false, List, [], ◌∷◌, �
 use Rattle.clauses.specs.Clauses.{Literal}
 use Rattle.refutations.specs.Trees.{branch}
 use Rattle.trees.specs.Trees.{TreeNode, leaf_with}
-use Rattle.trees.specs.declared.tree.Kind.TheVariants.{Split}
+use Rattle.trees.specs.declared.tree.NodeKind.TheVariants.{Split}
 
 -- the nodes of a level with these paths, split on a variable, where this is the number of the first node below them
 abbrev pub inner_nodes : ℕ → ℕ → List (List Literal) → List TreeNode

@@ -3,7 +3,7 @@
 use crate::text::MOST_TOLD;
 use crate::wording::{put_call_of, put_line, put_number_of};
 use callorder::{LongProgram, Message, Pattern};
-use misses::{Part, misses_in};
+use misses::{Mismatch, misses_in};
 use scene::Scene;
 use std::alloc::{AllocError, Global};
 use waits::{Fate, Need, Standing, fate_of, fitting, need_of, operation_of};
@@ -207,18 +207,18 @@ fn put_candidates(
 }
 
 /// Tells what a send does, as far as a part is concerned.
-fn put_sent(out: &mut String, message: &Message, part: Part) -> Result<(), AllocError> {
+fn put_sent(out: &mut String, message: &Message, part: Mismatch) -> Result<(), AllocError> {
     match part {
-        Part::Destination => {
+        Mismatch::Destination => {
             let destination = message.destination;
             write!(out, "sends to rank {destination}")
         }
-        Part::Communicator => {
+        Mismatch::Communicator => {
             let communicator = message.communicator;
             write!(out, "sends on communicator {communicator}")
         }
-        Part::Source => out.push_str("sends"),
-        Part::Tag => {
+        Mismatch::Source => out.push_str("sends"),
+        Mismatch::Tag => {
             let tag = message.tag;
             write!(out, "sends tag {tag}")
         }
@@ -235,12 +235,12 @@ fn put_wanted(out: &mut String, front: &str, number: Option<u32>) -> Result<(), 
 }
 
 /// Tells what a receive, a matched probe or a probe does, as far as a part is concerned.
-fn put_looked_for(out: &mut String, pattern: &Pattern, part: Part) -> Result<(), AllocError> {
+fn put_looked_for(out: &mut String, pattern: &Pattern, part: Mismatch) -> Result<(), AllocError> {
     match part {
-        Part::Destination => out.push_str("waits"),
-        Part::Communicator => put_wanted(out, "waits on communicator ", Some(pattern.communicator)),
-        Part::Source => put_wanted(out, "waits for rank ", pattern.source),
-        Part::Tag => put_wanted(out, "waits for tag ", pattern.tag),
+        Mismatch::Destination => out.push_str("waits"),
+        Mismatch::Communicator => put_wanted(out, "waits on communicator ", Some(pattern.communicator)),
+        Mismatch::Source => put_wanted(out, "waits for rank ", pattern.source),
+        Mismatch::Tag => put_wanted(out, "waits for tag ", pattern.tag),
     }
 }
 
@@ -249,7 +249,7 @@ fn put_side(
     out: &mut String,
     scene: &Scene<'_>,
     call: usize,
-    part: Part,
+    part: Mismatch,
 ) -> Result<(), AllocError> {
     let (Some(known), Some(label)) = (scene.program.call(call), scene.labels.get(call)) else {
         return Ok(());

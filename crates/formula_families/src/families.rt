@@ -13,7 +13,7 @@ use callorder::Program;
 use calltext::Policy;
 use formula::{Event, Fact, Statement};
 use std::alloc::{AllocError, Global};
-use formula_tables::{Source, is_last, is_standard, previous, rank_of, when_returned};
+use formula_tables::{ProgramTables, is_last, is_standard, previous, rank_of, when_returned};
 
 /// A family of clauses. Some have a block of clauses for each call, some for each pair, and one has one block in all.
 #[derive(Clone, Copy, PartialEq, Eq)]
@@ -75,7 +75,7 @@ fn issued_after(
 fn issued_after_return_of(
     clauses: &mut Symbolic<Statement>,
     alloc: Global,
-    source: &Source<'_>,
+    source: &ProgramTables<'_>,
     call: usize,
     before: Option<usize>,
 ) -> Result<(), AllocError>
@@ -91,7 +91,7 @@ fn issued_after_return_of(
 /// The call is issued where there is none before it, or where the one before it has returned.
 fn issue_does_not_wait(
     clauses: &mut Symbolic<Statement>,
-    source: &Source<'_>,
+    source: &ProgramTables<'_>,
     call: usize,
     before: Option<usize>,
 ) -> Result<(), AllocError>
@@ -108,7 +108,7 @@ fn issue_does_not_wait(
 /// A rank whose last call has returned isn't unfinished. There is no clause for a call that isn't the last one of its rank.
 fn is_finished(
     clauses: &mut Symbolic<Statement>,
-    source: &Source<'_>,
+    source: &ProgramTables<'_>,
     call: usize,
 ) -> Result<(), AllocError>
     ensures { OnOk result (clauses.new ≡ clauses.old ++ finished_after source.now call) }
@@ -134,7 +134,7 @@ fn last_calls(alloc: Global, program: &Program) -> Result<Vec<usize>, AllocError
 fn some_is_unfinished(
     clauses: &mut Symbolic<Statement>,
     alloc: Global,
-    source: &Source<'_>,
+    source: &ProgramTables<'_>,
 ) -> Result<(), AllocError>
     ensures { OnOk result (clauses.new ≡ clauses.old ++ (map (λ c. is_true (unfinished (rank_of source.now c))) (last_calls source.now)) ∷ []) }
 {
@@ -151,7 +151,7 @@ fn some_is_unfinished(
 /// What the policy says of a standard send. There is no clause for another call.
 fn buffered_as_allowed(
     clauses: &mut Symbolic<Statement>,
-    source: &Source<'_>,
+    source: &ProgramTables<'_>,
     call: usize,
 ) -> Result<(), AllocError>
     ensures { OnOk result (clauses.new ≡ clauses.old ++ buffered_as_allowed source.now call) }
@@ -170,7 +170,7 @@ fn buffered_as_allowed(
 fn add_taken(
     clauses: &mut Symbolic<Statement>,
     alloc: Global,
-    source: &Source<'_>,
+    source: &ProgramTables<'_>,
     family: Family,
     place: usize,
 ) -> Result<(), AllocError>
@@ -191,7 +191,7 @@ fn add_taken(
 fn add_where_taken(
     clauses: &mut Symbolic<Statement>,
     alloc: Global,
-    source: &Source<'_>,
+    source: &ProgramTables<'_>,
     family: Family,
     place: usize,
 ) -> Result<(), AllocError>
@@ -209,7 +209,7 @@ fn add_where_taken(
 fn add_where_seen(
     clauses: &mut Symbolic<Statement>,
     alloc: Global,
-    source: &Source<'_>,
+    source: &ProgramTables<'_>,
     place: usize,
 ) -> Result<(), AllocError>
     ensures { let pair = pair_at (pairs_of source.now) place in OnOk result (clauses.new ≡ clauses.old ++ where_seen source.now pair (see_clauses source.now pair.0 pair.1)) }
@@ -226,7 +226,7 @@ fn add_where_seen(
 fn add_block(
     clauses: &mut Symbolic<Statement>,
     alloc: Global,
-    source: &Source<'_>,
+    source: &ProgramTables<'_>,
     family: Family,
     place: usize,
 ) -> Result<(), AllocError>
@@ -254,7 +254,7 @@ fn add_block(
 pub fn put_block(
     clauses: &mut Symbolic<Statement>,
     alloc: Global,
-    source: &Source<'_>,
+    source: &ProgramTables<'_>,
     of: &Block,
 ) -> Result<(), AllocError>
     ensures { OnOk result (clauses.new ≡ clauses_of source.now of.now) }
@@ -265,7 +265,7 @@ pub fn put_block(
 }
 
 /// How many blocks the family has: their places are the numbers below.
-pub fn size_of(source: &Source<'_>, family: Family) -> usize
+pub fn size_of(source: &ProgramTables<'_>, family: Family) -> usize
     ensures { result ≡ size_of source.now family }
 {
     match family {

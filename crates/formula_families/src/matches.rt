@@ -13,7 +13,7 @@ use crate::lists::{push_sends, push_takers};
 use crate::symbolic::Symbolic;
 use formula::{Event, Fact, Statement};
 use std::alloc::{AllocError, Global};
-use formula_tables::Source;
+use formula_tables::ProgramTables;
 
 /// Adds the clauses that say: where the pair is matched, or seen, both calls are issued, and before. The only error is want of
 /// memory.
@@ -98,7 +98,7 @@ fn seen_before_taken(
 pub fn see_clauses(
     clauses: &mut Symbolic<Statement>,
     alloc: Global,
-    source: &Source<'_>,
+    source: &ProgramTables<'_>,
     place: usize,
 ) -> Result<(), AllocError>
     ensures { let pair = pair_at (pairs_of source.now) place in OnOk result (clauses.new ≡ clauses.old ++ see_clauses source.now pair.0 pair.1) }
@@ -117,7 +117,7 @@ pub fn see_clauses(
 /// is want of memory.
 pub fn without_later_pairs(
     clauses: &mut Symbolic<Statement>,
-    source: &Source<'_>,
+    source: &ProgramTables<'_>,
     send: usize,
     taker: usize,
 ) -> Result<(), AllocError>
@@ -161,7 +161,7 @@ fn matched_earlier(
 fn send_is_matched_before(
     clauses: &mut Symbolic<Statement>,
     alloc: Global,
-    source: &Source<'_>,
+    source: &ProgramTables<'_>,
     pair: (usize, usize),
     earlier: usize,
 ) -> Result<(), AllocError>
@@ -181,7 +181,7 @@ fn send_is_matched_before(
 pub fn sends_are_matched_before(
     clauses: &mut Symbolic<Statement>,
     alloc: Global,
-    source: &Source<'_>,
+    source: &ProgramTables<'_>,
     place: usize,
 ) -> Result<(), AllocError>
     ensures { let pair = pair_at (pairs_of source.now) place in OnOk result (clauses.new ≡ clauses.old ++ flat_map (send_is_matched_before source.now pair.0 pair.1) (earlier_sends source.now pair.0 pair.1)) }
@@ -197,7 +197,7 @@ pub fn sends_are_matched_before(
 fn taker_is_matched_before(
     clauses: &mut Symbolic<Statement>,
     alloc: Global,
-    source: &Source<'_>,
+    source: &ProgramTables<'_>,
     pair: (usize, usize),
     earlier: usize,
 ) -> Result<(), AllocError>
@@ -218,7 +218,7 @@ fn taker_is_matched_before(
 pub fn takers_are_matched_before(
     clauses: &mut Symbolic<Statement>,
     alloc: Global,
-    source: &Source<'_>,
+    source: &ProgramTables<'_>,
     place: usize,
 ) -> Result<(), AllocError>
     ensures { let pair = pair_at (pairs_of source.now) place in OnOk result (clauses.new ≡ clauses.old ++ flat_map (taker_is_matched_before source.now pair.0 pair.1) (earlier_takers source.now pair.0 pair.1)) }
@@ -235,7 +235,7 @@ pub fn takers_are_matched_before(
 pub fn pair_does_not_wait(
     clauses: &mut Symbolic<Statement>,
     alloc: Global,
-    source: &Source<'_>,
+    source: &ProgramTables<'_>,
     send: usize,
     taker: usize,
 ) -> Result<(), AllocError>

@@ -13,12 +13,12 @@ use crate::lists::{push_sends, push_takers};
 use crate::symbolic::Symbolic;
 use formula::{Condition, Event, Fact, Statement};
 use std::alloc::{AllocError, Global};
-use formula_tables::{Source, fetch_of, receive_on_handle, when_returned};
+use formula_tables::{ProgramTables, fetch_of, receive_on_handle, when_returned};
 
 /// Where the call is issued and the send is fetched, the statement is right.
 fn where_fetched(
     clauses: &mut Symbolic<Statement>,
-    source: &Source<'_>,
+    source: &ProgramTables<'_>,
     call: usize,
     send: usize,
     statement: &Statement,
@@ -61,7 +61,7 @@ fn where_matched(
 /// memory.
 pub fn where_returned(
     clauses: &mut Symbolic<Statement>,
-    source: &Source<'_>,
+    source: &ProgramTables<'_>,
     call: usize,
     statement: &Statement,
 ) -> Result<(), AllocError>
@@ -91,7 +91,7 @@ pub fn where_returned(
 fn fetched_earlier(
     clauses: &mut Symbolic<Statement>,
     alloc: Global,
-    source: &Source<'_>,
+    source: &ProgramTables<'_>,
     call: usize,
     pair: (usize, usize),
     otherwise: &[Statement],
@@ -118,7 +118,7 @@ fn fetched_earlier(
 fn is_fetched_before(
     clauses: &mut Symbolic<Statement>,
     alloc: Global,
-    source: &Source<'_>,
+    source: &ProgramTables<'_>,
     call: usize,
     send: usize,
     otherwise: &[Statement],
@@ -140,7 +140,7 @@ fn is_fetched_before(
 fn is_matched_before(
     clauses: &mut Symbolic<Statement>,
     alloc: Global,
-    source: &Source<'_>,
+    source: &ProgramTables<'_>,
     call: usize,
     taker: usize,
 ) -> Result<(), AllocError>
@@ -159,7 +159,7 @@ fn is_matched_before(
 pub fn is_returned_before(
     clauses: &mut Symbolic<Statement>,
     alloc: Global,
-    source: &Source<'_>,
+    source: &ProgramTables<'_>,
     call: usize,
     condition: &Condition,
 ) -> Result<(), AllocError>

@@ -11,7 +11,7 @@ use crate::families::{Block, Family, ordering_families, put_block, size_of};
 use crate::symbolic::Symbolic;
 use formula::Statement;
 use std::alloc::{AllocError, Global};
-use formula_tables::{Events, Source};
+use formula_tables::{Events, ProgramTables};
 
 /// Marks two events, either way round, where both are among so many.
 fn mark(marks: &mut [bool], most: usize, first: usize, second: usize)
@@ -62,7 +62,7 @@ fn mark_block(
     marks: &mut [bool],
     clauses: &mut Symbolic<Statement>,
     alloc: Global,
-    source: &Source<'_>,
+    source: &ProgramTables<'_>,
     events: &Events<'_>,
     block: &Block,
 ) -> Result<(), AllocError>
@@ -80,7 +80,7 @@ fn mark_family(
     marks: &mut [bool],
     clauses: &mut Symbolic<Statement>,
     alloc: Global,
-    source: &Source<'_>,
+    source: &ProgramTables<'_>,
     events: &Events<'_>,
     family: Family,
 ) -> Result<(), AllocError>
@@ -99,7 +99,7 @@ fn mark_family(
 fn mark_families(
     marks: &mut [bool],
     alloc: Global,
-    source: &Source<'_>,
+    source: &ProgramTables<'_>,
     events: &Events<'_>,
     families: &[Family],
 ) -> Result<(), AllocError>
@@ -161,7 +161,7 @@ fn marked(alloc: Global, marks: &[bool], most: usize) -> Result<Vec<(usize, usiz
 fn marked_by(
     marks: &mut [bool],
     alloc: Global,
-    source: &Source<'_>,
+    source: &ProgramTables<'_>,
     events: &Events<'_>,
 ) -> Result<Vec<(usize, usize)>, AllocError>
     requires size { length marks.old ≡ length (events_of events.now) * length (events_of events.now) }
@@ -178,7 +178,7 @@ fn marked_by(
 /// They are sorted by the first place, then by the second. The only error is want of memory.
 pub fn used_pairs(
     alloc: Global,
-    source: &Source<'_>,
+    source: &ProgramTables<'_>,
     events: &Events<'_>,
 ) -> Result<Vec<(usize, usize)>, AllocError>
     requires one { events.now ≡ source.now }

@@ -13,7 +13,7 @@ use std::marker::Model;
 
 /// A program with its pairs, the earlier calls of each pair, and the calls that each call fits.
 #[derive(Drop)]
-pub struct Source<'a> {
+pub struct ProgramTables<'a> {
     program: &'a Program,
     pairs: &'a Pairs,
     earlier: &'a Earlier,
@@ -21,7 +21,7 @@ pub struct Source<'a> {
     sends: Vec<Vec<usize>>,
 }
 
-impl<'a> Model for Source<'a> {
+impl<'a> Model for ProgramTables<'a> {
     ghost use Rattle.std.specs.Prelude.{map};
     ghost use Rattle.callorder.specs.Programs.{MpiProgram};
     ghost use Rattle.formula_tables.specs.Sources.{AreCalls};
@@ -80,21 +80,21 @@ fn row(rows: &Vec<Vec<usize>>, call: usize) -> &[usize]
     }
 }
 
-impl<'a> Source<'a> {
+impl<'a> ProgramTables<'a> {
     /// The program with these pairs and earlier calls. The only error is want of memory.
     pub fn make(
         alloc: Global,
         program: &'a Program,
         pairs: &'a Pairs,
         earlier: &'a Earlier,
-    ) -> Result<Source<'a>, AllocError>
+    ) -> Result<ProgramTables<'a>, AllocError>
         requires pairs { pairs.now ≡ pairs_of program.now }
         requires earlier { earlier.now ≡ map (earlier_of program.now) (pairs_of program.now) }
         ensures { IfOk result (λ source. source ≡ program.now) }
     {
         let takers = all_takers(alloc, program)?;
         let sends = all_sends(alloc, program)?;
-        Ok(Source {
+        Ok(ProgramTables {
             program,
             pairs,
             earlier,

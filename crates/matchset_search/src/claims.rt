@@ -13,7 +13,7 @@ const BITS_OF_A_NUMBER: u32 = 6;
 /// Which states searches over the same program are closing, so that each begins with others than the rest. Nothing of it is trusted: what it lacks, or tells
 /// wrongly, makes searches do something in another order, or twice.
 #[derive(Drop)]
-pub struct Claims {
+pub struct InProgress {
     states: Vec<AtomicU64>,
 }
 
@@ -26,10 +26,10 @@ fn no_states(alloc: Global) -> Result<Vec<AtomicU64>, AllocError> {
     Ok(states)
 }
 
-impl Claims {
+impl InProgress {
     /// None. Without memory for them none are ever told.
-    pub fn new(alloc: Global) -> Claims {
-        Claims {
+    pub fn new(alloc: Global) -> InProgress {
+        InProgress {
             states: no_states(alloc).unwrap_or(Vec::new(alloc)),
         }
     }

@@ -1,7 +1,7 @@
 //! Lines against cycles in the order of events.
 
 use crate::engine::Engine;
-use crate::others::Others;
+use crate::others::SharedClosed;
 use batches::Batch;
 use propagation::{Trail, negated};
 use matchsets::{Cycle, Shape};
@@ -43,7 +43,7 @@ fn make_bits(
     alloc: Global,
     shape: &Shape<'_>,
     engine: &mut Engine,
-    others: &mut Others,
+    others: &mut SharedClosed,
     base: &[u32],
     edges: &[(usize, usize)],
     bits: usize,
@@ -62,7 +62,7 @@ pub(crate) fn cut_cycle(
     alloc: Global,
     shape: &Shape<'_>,
     engine: &mut Engine,
-    others: &mut Others,
+    others: &mut SharedClosed,
     cycle: &Cycle,
     batch: &mut Batch,
 ) -> Result<bool, AllocError> {

@@ -1,10 +1,10 @@
 //! What propagation knows, and how clauses come in.
 
-use crate::others::Others;
+use crate::others::SharedClosed;
 use batches::Batch;
 use clauses::{Formula, Lit};
 use propagation::{
-    Marks, NONE, OWN, Store, Trail, Truth, Watches, add_line, code_of, negated, propagate,
+    Marks, NONE, OWN, ClauseArena, Trail, Truth, Watches, add_line, code_of, negated, propagate,
     variable_of,
 };
 use matchsets::mixed;
@@ -66,7 +66,7 @@ pub(crate) struct OwnLine {
 /// All that propagation knows.
 #[derive(Drop)]
 pub(crate) struct Engine {
-    pub(crate) store: Store,
+    pub(crate) store: ClauseArena,
     pub(crate) trail: Trail,
     pub(crate) watches: Watches,
     pub(crate) marks: Marks,
@@ -113,7 +113,7 @@ impl Engine {
     /// What is known of no clause.
     fn empty(alloc: Global, variables: u32) -> Result<Engine, AllocError> {
         Ok(Engine {
-            store: Store::new(alloc),
+            store: ClauseArena::new(alloc),
             trail: Trail::new(alloc, variables)?,
             watches: Watches::new(alloc, variables)?,
             marks: Marks::new(alloc, variables)?,
@@ -345,7 +345,7 @@ impl Engine {
     fn write_lemma(
         &mut self,
         alloc: Global,
-        others: &mut Others,
+        others: &mut SharedClosed,
         lemma: u64,
         conflict: Conflict,
         batch: &mut Batch,
@@ -363,7 +363,7 @@ impl Engine {
     pub(crate) fn make_lemma(
         &mut self,
         alloc: Global,
-        others: &mut Others,
+        others: &mut SharedClosed,
         codes: &[u32],
         batch: &mut Batch,
     ) -> Result<bool, AllocError> {
@@ -407,7 +407,7 @@ impl Engine {
     pub(crate) fn make_pair(
         &mut self,
         alloc: Global,
-        others: &mut Others,
+        others: &mut SharedClosed,
         first: u32,
         second: u32,
         batch: &mut Batch,
@@ -427,7 +427,7 @@ impl Engine {
     fn takes_lemma(
         &mut self,
         alloc: Global,
-        others: &mut Others,
+        others: &mut SharedClosed,
         lemma: u64,
     ) -> Result<bool, AllocError> {
         let mut codes = Vec::new(alloc);

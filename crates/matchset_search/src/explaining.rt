@@ -2,7 +2,7 @@
 
 use crate::engine::{Conflict, Engine, Written};
 use batches::Batch;
-use propagation::{Marks, NONE, Store, Trail, negated, variable_of};
+use propagation::{Marks, NONE, ClauseArena, Trail, negated, variable_of};
 use std::alloc::{AllocError, Global};
 
 /// For how many places there is room at first.
@@ -35,7 +35,7 @@ struct Way {
 /// The values that a conflict follows from, and the clauses that gave them.
 #[derive(Clone, Copy)]
 struct Values<'v> {
-    store: &'v Store,
+    store: &'v ClauseArena,
     trail: &'v Trail,
 }
 

@@ -2,11 +2,11 @@
 
 ghost use Rattle.std.specs.Prelude.{◌≤◌, vec_len};
 
-use crate::claims::Claims;
+use crate::claims::InProgress;
 use crate::cutting::cut_cycle;
 use crate::engine::{Engine, MOST_WATCHED, fill};
 use crate::lemmas::{Lemmas, Portion};
-use crate::others::{Closing, Others};
+use crate::others::{ClosedState, SharedClosed};
 use crate::tasks::{Branch, Branching, Purpose, Task};
 use batches::Batch;
 use cdcl::Solver;
@@ -47,9 +47,9 @@ pub(crate) struct Explorer<'e> {
     /// Whether a cycle could not be cut, so that none is looked for any more.
     leaves_cycles: bool,
     /// What searches tell each other.
-    others: Others,
+    others: SharedClosed,
     /// Which states searches are closing, where they tell each other.
-    claims: Option<&'e Claims>,
+    claims: Option<&'e InProgress>,
     /// Which lemmas it makes first. Its turn tells, too, which state below another one is visited first.
     pub(crate) portion: Portion,
 }
@@ -122,14 +122,14 @@ impl<'e> Explorer<'e> {
             learnt_to: 0,
             returned: 0,
             leaves_cycles: false,
-            others: Others::new(alloc, encoded.formula().len()),
+            others: SharedClosed::new(alloc, encoded.formula().len()),
             claims: None,
             portion: Portion { turn: 0, lines: 0 },
         })
     }
 
     /// Has the search of this number begin elsewhere than others that have these claims.
-    pub(crate) fn share(&mut self, claims: &'e Claims, number: u32) {
+    pub(crate) fn share(&mut self, claims: &'e InProgress, number: u32) {
         self.claims = Some(claims);
         self.portion.turn = number;
     }
@@ -165,14 +165,14 @@ impl<'e> Explorer<'e> {
         &mut self,
         first: usize,
         lines: Lines,
-        closings: &[Closing],
+        closings: &[ClosedState],
     ) -> Result<(), AllocError> {
         self.others.put_lines(first, lines)?;
         self.others.take_in(closings)
     }
 
     /// The states that were closed in the last batch, whose first line has this number, and the lemmas that were made.
-    pub(crate) fn closings(&self, alloc: Global, base: u32) -> Result<Vec<Closing>, AllocError> {
+    pub(crate) fn closings(&self, alloc: Global, base: u32) -> Result<Vec<ClosedState>, AllocError> {
         let mut closings = Vec::with_capacity(alloc, self.others.told.len())?;
         for told in &self.others.told {
             let tag = self.engine.store.tag(told.clause);
@@ -180,7 +180,7 @@ impl<'e> Explorer<'e> {
                 Some(place) => base.saturating_add(place),
                 None => tag,
             };
-            closings.push(Closing {
+            closings.push(ClosedState {
                 state: told.state,
                 number,
             })?;

@@ -19,7 +19,7 @@ mod searcher;
 mod tasks;
 mod units;
 
-pub use claims::Claims;
+pub use claims::InProgress;
 pub use engine::SHORT;
-pub use others::Closing;
+pub use others::ClosedState;
 pub use searcher::StateSearch;

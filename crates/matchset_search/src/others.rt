@@ -7,7 +7,7 @@ use std::collections::HashMap;
 
 /// A state that a search closed, or a lemma that it made, and the clause by which it did.
 #[derive(Clone, Copy, PartialEq, Eq)]
-pub struct Closing {
+pub struct ClosedState {
     /// What tells the state or the lemma from nearly all others of the same program.
     pub state: u64,
     /// The clause's number, from 1.
@@ -24,7 +24,7 @@ pub(crate) struct Told {
 /// What others closed, and the lines by which they did, and what this search closed in the last batch. Nothing of it is trusted: a clause that isn't the
 /// state's is of no use, and no harm.
 #[derive(Drop)]
-pub(crate) struct Others {
+pub(crate) struct SharedClosed {
     alloc: Global,
     clauses: usize,
     numbers: HashMap<u64, u32>,
@@ -35,10 +35,10 @@ pub(crate) struct Others {
     log: Log,
 }
 
-impl Others {
+impl SharedClosed {
     /// Nothing, of a formula of so many clauses.
-    pub(crate) fn new(alloc: Global, clauses: usize) -> Others {
-        Others {
+    pub(crate) fn new(alloc: Global, clauses: usize) -> SharedClosed {
+        SharedClosed {
             alloc,
             clauses,
             numbers: HashMap::new(alloc),
@@ -67,7 +67,7 @@ impl Others {
     }
 
     /// Puts these states and lemmas in, whose clauses are those of the formula and then of the lines.
-    pub(crate) fn take_in(&mut self, closings: &[Closing]) -> Result<(), AllocError> {
+    pub(crate) fn take_in(&mut self, closings: &[ClosedState]) -> Result<(), AllocError> {
         for closing in closings {
             self.numbers.insert(closing.state, closing.number)?;
         }

@@ -4,9 +4,9 @@ ghost use Rattle.std.specs.Prelude.{◌≡◌, IfOk};
 ghost use Rattle.clauses.specs.Clauses.{is_within};
 ghost use Rattle.matchset_search.specs.Answers.{Searched, Imported, Started, Informed};
 
-use crate::claims::Claims;
+use crate::claims::InProgress;
 use crate::explorer::Explorer;
-use crate::others::Closing;
+use crate::others::ClosedState;
 use crate::search::{Counted, Ending};
 use cdcl::{Found, SolveFault};
 use clauses::Clause;
@@ -73,7 +73,7 @@ impl<'e> StateSearch<'e> {
 
     /// Has searches of different numbers, from 0 and below 64, over the same program begin elsewhere, so that each closes states that the others need.
     /// They tell each other by these claims which state each is closing.
-    pub fn share(&mut self, claims: &'e Claims, number: u32)
+    pub fn share(&mut self, claims: &'e InProgress, number: u32)
         ensures { self.new ≡ self.old }
     {
         self.explorer.share(claims, number);
@@ -89,7 +89,7 @@ impl<'e> StateSearch<'e> {
         &mut self,
         first: usize,
         lines: Lines,
-        closings: &[Closing],
+        closings: &[ClosedState],
     ) -> Result<(), SolveFault>
         ensures { Informed self.old self.new result }
     {
@@ -106,7 +106,7 @@ impl<'e> StateSearch<'e> {
     }
 
     /// The states that the last search closed, and the lemmas that it made, where the first line of its batch has this number, from 1.
-    pub fn closings(&self, alloc: Global, base: u32) -> Result<Vec<Closing>, AllocError> {
+    pub fn closings(&self, alloc: Global, base: u32) -> Result<Vec<ClosedState>, AllocError> {
         self.explorer.closings(alloc, base)
     }
 

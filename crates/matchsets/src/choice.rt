@@ -1,6 +1,6 @@
 //! On what a state is branched.
 
-use crate::shape::{CallShape, Part, Shape};
+use crate::shape::{CallShape, Role, Shape};
 use crate::state::State;
 use callorder::Policy;
 use formula::Condition;
@@ -124,9 +124,9 @@ fn due_call(shape: &Shape<'_>, trail: &Trail, state: &State, call: usize) -> Opt
         return None;
     }
     match shape.call(call).part {
-        Part::Taker | Part::Probe => due_taker(shape, trail, call),
-        Part::Standard | Part::Synchronous => due_send(shape, trail, call),
-        Part::Buffered | Part::Other => None,
+        Role::Taker | Role::Probe => due_taker(shape, trail, call),
+        Role::Standard | Role::Synchronous => due_send(shape, trail, call),
+        Role::Buffered | Role::Other => None,
     }
 }
 

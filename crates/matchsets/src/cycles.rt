@@ -1,6 +1,6 @@
 //! Cycles in what holds of the order of events.
 
-use crate::graph::{Graph, Step};
+use crate::graph::{HappensBefore, Step};
 use crate::shape::Shape;
 use propagation::Trail;
 use std::alloc::{AllocError, Global};
@@ -90,7 +90,7 @@ impl Ways {
         }
     }
 
-    fn walk(&mut self, trail: &Trail, graph: &Graph) {
+    fn walk(&mut self, trail: &Trail, graph: &HappensBefore) {
         for _ in 0..graph.len() {
             let Some(event) = self.nearest() else {
                 return;
@@ -123,7 +123,7 @@ impl Ways {
 fn cheaper(
     alloc: Global,
     trail: &Trail,
-    graph: &Graph,
+    graph: &HappensBefore,
     start: usize,
     best: Option<Cycle>,
 ) -> Result<Option<Cycle>, AllocError> {
@@ -151,7 +151,7 @@ pub fn find_cycle(
     shape: &Shape<'_>,
     trail: &Trail,
 ) -> Result<Option<Cycle>, AllocError> {
-    let mut graph = Graph::new(alloc, shape, trail)?;
+    let mut graph = HappensBefore::new(alloc, shape, trail)?;
     let mut best = None;
     if !graph.has_cycle(alloc)? {
         return Ok(best);

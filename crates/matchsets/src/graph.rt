@@ -25,7 +25,7 @@ struct Edge {
 
 /// For each event those that come later, and how many steps lead to it.
 #[derive(Drop)]
-pub(crate) struct Graph {
+pub(crate) struct HappensBefore {
     /// Where the steps from each event start, and then where those from the last one end.
     starts: Vec<usize>,
     /// The steps, in the order of the events that they are from.
@@ -130,18 +130,18 @@ fn steps_from<'s>(starts: &[usize], steps: &'s [Step], event: usize) -> &'s [Ste
     }
 }
 
-impl Graph {
+impl HappensBefore {
     /// The graph of what holds.
     pub(crate) fn new(
         alloc: Global,
         shape: &Shape<'_>,
         trail: &Trail,
-    ) -> Result<Graph, AllocError> {
+    ) -> Result<HappensBefore, AllocError> {
         let edges = edges_of(alloc, shape, trail)?;
         let starts = starts(alloc, shape.events(), &edges)?;
         let steps = steps(alloc, &starts, &edges)?;
         let entering = entering(alloc, shape.events(), &edges)?;
-        Ok(Graph {
+        Ok(HappensBefore {
             starts,
             steps,
             entering,

@@ -1,7 +1,7 @@
 //! The state that is told by what holds.
 
 use crate::reality::which_are_real;
-use crate::shape::{CallShape, PairShape, Part, RankShape, Shape};
+use crate::shape::{CallShape, PairShape, Role, RankShape, Shape};
 use crate::state::{Progress, State, ends_at};
 use callorder::Policy;
 use propagation::Trail;
@@ -123,8 +123,8 @@ fn is_never_fetched(shape: &Shape<'_>, state: &State, taker: &CallShape) -> bool
 /// Whether nothing rests any more on the partner by which the send returns: one that is never fetched lets nobody go on.
 fn is_closed_send(shape: &Shape<'_>, state: &State, send: &CallShape, taker: &CallShape) -> bool {
     match send.part {
-        Part::Standard if shape.policy == Policy::Always => true,
-        Part::Standard | Part::Synchronous => {
+        Role::Standard if shape.policy == Policy::Always => true,
+        Role::Standard | Role::Synchronous => {
             is_never_fetched(shape, state, taker) || state.is_settled(shape, send.waiter)
         }
         _ => true,

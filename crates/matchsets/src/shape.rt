@@ -11,7 +11,7 @@ use formula_tables::{Variables, is_last, rank_of, receive_on_handle, when_return
 
 /// What a call is to a match.
 #[derive(Clone, Copy, PartialEq, Eq)]
-pub(crate) enum Part {
+pub(crate) enum Role {
     /// A send in standard mode.
     Standard,
     /// A synchronous send.
@@ -32,7 +32,7 @@ pub(crate) struct CallShape {
     pub(crate) rank: usize,
     /// Its place among the calls of its rank.
     pub(crate) place: usize,
-    pub(crate) part: Part,
+    pub(crate) part: Role,
     /// When it has returned.
     pub(crate) condition: Condition,
     /// The call that waits for it.
@@ -87,7 +87,7 @@ fn no_call() -> CallShape {
     CallShape {
         rank: 0,
         place: 0,
-        part: Part::Other,
+        part: Role::Other,
         condition: Condition::AtOnce,
         waiter: None,
         receive: None,
@@ -99,19 +99,19 @@ fn no_call() -> CallShape {
 }
 
 /// What the call is to a match.
-fn part_of(program: &Program, call: usize) -> Part {
+fn part_of(program: &Program, call: usize) -> Role {
     let Some(call) = program.call(call) else {
-        return Part::Other;
+        return Role::Other;
     };
     match call.kind {
         Kind::Send { mode, .. } => match mode {
-            Mode::Standard => Part::Standard,
-            Mode::Synchronous => Part::Synchronous,
-            Mode::Buffered => Part::Buffered,
+            Mode::Standard => Role::Standard,
+            Mode::Synchronous => Role::Synchronous,
+            Mode::Buffered => Role::Buffered,
         },
-        Kind::Receive { .. } | Kind::MatchedProbe { .. } => Part::Taker,
-        Kind::Probe { .. } => Part::Probe,
-        Kind::MatchedReceive { .. } | Kind::Wait { .. } => Part::Other,
+        Kind::Receive { .. } | Kind::MatchedProbe { .. } => Role::Taker,
+        Kind::Probe { .. } => Role::Probe,
+        Kind::MatchedReceive { .. } | Kind::Wait { .. } => Role::Other,
     }
 }
 
@@ -138,8 +138,8 @@ fn passed_of(program: &Program, variables: &Variables<'_>, call: usize, rank: us
     }
 }
 
-fn buffered_of(variables: &Variables<'_>, part: Part, call: usize) -> Option<u32> {
-    if part == Part::Standard {
+fn buffered_of(variables: &Variables<'_>, part: Role, call: usize) -> Option<u32> {
+    if part == Role::Standard {
         return Some(code_of_fact(variables, Fact::Buffered(call)));
     }
     None
@@ -250,7 +250,7 @@ fn matches_of(
 
 fn is_probe(calls: &[CallShape], call: usize) -> bool {
     match calls.get(call) {
-        Some(call) => call.part == Part::Probe,
+        Some(call) => call.part == Role::Probe,
         None => false,
     }
 }
@@ -417,7 +417,7 @@ impl<'e> Shape<'e> {
     /// The places of the pairs in which this call finds a partner, rising.
     pub(crate) fn of_call(&self, call: usize) -> &[usize] {
         match self.call(call).part {
-            Part::Taker | Part::Probe => self.of_taker(call),
+            Role::Taker | Role::Probe => self.of_taker(call),
             _ => self.of_send(call),
         }
     }

@@ -4,53 +4,53 @@ use Rattle.std.proofs.lemmas.Option.{same_Some}
 use Rattle.callorder.specs.declared.calls.Message.{Message}
 use Rattle.callorder.specs.declared.calls.Pattern.{Pattern}
 use Rattle.callorder.specs.Calls.{message_of, pattern_of, fits_between}
-use Rattle.misses.specs.declared.parts.Part.{Part}
-use Rattle.misses.specs.declared.parts.Part.TheVariants.{Destination, Communicator, Source, Tag}
+use Rattle.misses.specs.declared.parts.Mismatch.{Mismatch}
+use Rattle.misses.specs.declared.parts.Mismatch.TheVariants.{Destination, Communicator, Source, Tag}
 use Rattle.misses.specs.Misses.{holds_in, only_false, missed_between}
 use Rattle.misses.specs.Laws.{MissesOnly, MissedPartsAreTheOnlyOnes, FitCallsMissNoPart}
 
 -- the test fails at the part, and at no other
-record FailsOnlyAt (test : Part → Bool) (part : Part) : Type 0 where
+record FailsOnlyAt (test : Mismatch → Bool) (part : Mismatch) : Type 0 where
   pub fails : test part ≡ false
-  pub others : (other : Part) → other ≢ part → test other ≡ true
+  pub others : (other : Mismatch) → other ≢ part → test other ≡ true
 
-at_destination : (test : Part → Bool) → test Destination ≡ false → test Communicator ≡ true → test Source ≡ true → test Tag ≡ true → FailsOnlyAt test Destination
+at_destination : (test : Mismatch → Bool) → test Destination ≡ false → test Communicator ≡ true → test Source ≡ true → test Tag ≡ true → FailsOnlyAt test Destination
 at_destination test first second third fourth = record { fails = first; others = others }
   where
-    others : (other : Part) → other ≢ Destination → test other ≡ true
+    others : (other : Mismatch) → other ≢ Destination → test other ≡ true
     others Destination differ = absurd (differ refl)
     others Communicator differ = second
     others Source differ = third
     others Tag differ = fourth
 
-at_communicator : (test : Part → Bool) → test Destination ≡ true → test Communicator ≡ false → test Source ≡ true → test Tag ≡ true → FailsOnlyAt test Communicator
+at_communicator : (test : Mismatch → Bool) → test Destination ≡ true → test Communicator ≡ false → test Source ≡ true → test Tag ≡ true → FailsOnlyAt test Communicator
 at_communicator test first second third fourth = record { fails = second; others = others }
   where
-    others : (other : Part) → other ≢ Communicator → test other ≡ true
+    others : (other : Mismatch) → other ≢ Communicator → test other ≡ true
     others Destination differ = first
     others Communicator differ = absurd (differ refl)
     others Source differ = third
     others Tag differ = fourth
 
-at_source : (test : Part → Bool) → test Destination ≡ true → test Communicator ≡ true → test Source ≡ false → test Tag ≡ true → FailsOnlyAt test Source
+at_source : (test : Mismatch → Bool) → test Destination ≡ true → test Communicator ≡ true → test Source ≡ false → test Tag ≡ true → FailsOnlyAt test Source
 at_source test first second third fourth = record { fails = third; others = others }
   where
-    others : (other : Part) → other ≢ Source → test other ≡ true
+    others : (other : Mismatch) → other ≢ Source → test other ≡ true
     others Destination differ = first
     others Communicator differ = second
     others Source differ = absurd (differ refl)
     others Tag differ = fourth
 
-at_tag : (test : Part → Bool) → test Destination ≡ true → test Communicator ≡ true → test Source ≡ true → test Tag ≡ false → FailsOnlyAt test Tag
+at_tag : (test : Mismatch → Bool) → test Destination ≡ true → test Communicator ≡ true → test Source ≡ true → test Tag ≡ false → FailsOnlyAt test Tag
 at_tag test first second third fourth = record { fails = fourth; others = others }
   where
-    others : (other : Part) → other ≢ Tag → test other ≡ true
+    others : (other : Mismatch) → other ≢ Tag → test other ≡ true
     others Destination differ = first
     others Communicator differ = second
     others Source differ = third
     others Tag differ = absurd (differ refl)
 
-told : (test : Part → Bool) (part : Part) (d c s t : Bool) → test Destination ≡ d → test Communicator ≡ c → test Source ≡ s → test Tag ≡ t
+told : (test : Mismatch → Bool) (part : Mismatch) (d c s t : Bool) → test Destination ≡ d → test Communicator ≡ c → test Source ≡ s → test Tag ≡ t
     → only_false d c s t ≡ Some part → FailsOnlyAt test part
 told test part false true true true first second third fourth e = subst (FailsOnlyAt test) (same_Some _ _ e) (at_destination test first second third fourth)
 told test part true false true true first second third fourth e = subst (FailsOnlyAt test) (same_Some _ _ e) (at_communicator test first second third fourth)
@@ -83,13 +83,13 @@ tag_communicator e = absurd (cc)
 tag_source : Tag ≢ Source
 tag_source e = absurd (cc)
 
-turned : (one other : Part) → one ≢ other → other ≢ one
+turned : (one other : Mismatch) → one ≢ other → other ≢ one
 turned one other differ e = differ (sym e)
 
 four : (d c s t d' c' s' t' : Bool) → d ≡ d' → c ≡ c' → s ≡ s' → t ≡ t' → only_false d c s t ≡ only_false d' c' s' t'
 four d c s t d' c' s' t' first second third fourth = λ i. only_false (first i) (second i) (third i) (fourth i)
 
-is_told : (test : Part → Bool) (part : Part) → FailsOnlyAt test part → only_false (test Destination) (test Communicator) (test Source) (test Tag) ≡ Some part
+is_told : (test : Mismatch → Bool) (part : Mismatch) → FailsOnlyAt test part → only_false (test Destination) (test Communicator) (test Source) (test Tag) ≡ Some part
 is_told test Destination only =
     four _ _ _ _ false true true true only.fails (only.others Communicator communicator_destination) (only.others Source source_destination) (only.others Tag tag_destination)
 is_told test Communicator only =
@@ -102,9 +102,9 @@ is_told test Tag only =
 pub missed_parts_are_the_only_ones : MissedPartsAreTheOnlyOnes
 missed_parts_are_the_only_ones part sender message finder pattern = (
   λ e.
-      let found = told (λ (x : Part). holds_in x sender message finder pattern) part _ _ _ _ refl refl refl refl e in
+      let found = told (λ (x : Mismatch). holds_in x sender message finder pattern) part _ _ _ _ refl refl refl refl e in
       record { fails = found.fails; others = found.others },
-  λ only. is_told (λ (x : Part). holds_in x sender message finder pattern) part (record { fails = only.fails; others = only.others }),
+  λ only. is_told (λ (x : Mismatch). holds_in x sender message finder pattern) part (record { fails = only.fails; others = only.others }),
 )
 
 none_fails : (d c s t : Bool) → (d && c && s && t) ≡ true → only_false d c s t ≡ None

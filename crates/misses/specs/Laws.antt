@@ -4,18 +4,18 @@ use Rattle.callorder.specs.declared.calls.Call.{Call}
 use Rattle.callorder.specs.declared.calls.Message.{Message}
 use Rattle.callorder.specs.declared.calls.Pattern.{Pattern}
 use Rattle.callorder.specs.Calls.{message_of, pattern_of, fits}
-use Rattle.misses.specs.declared.parts.Part.{Part}
+use Rattle.misses.specs.declared.parts.Mismatch.{Mismatch}
 use Rattle.misses.specs.Misses.{holds_in, missed_between, missed_by}
 
 -- the part fails, and each other part holds
-pub record MissesOnly (part : Part) (sender : ℕ) (message : Message) (finder : ℕ) (pattern : Pattern) : Type 0 where
+pub record MissesOnly (part : Mismatch) (sender : ℕ) (message : Message) (finder : ℕ) (pattern : Pattern) : Type 0 where
   pub fails : holds_in part sender message finder pattern ≡ false
-  pub others : (other : Part) → other ≢ part → IsTrue (holds_in other sender message finder pattern)
+  pub others : (other : Mismatch) → other ≢ part → IsTrue (holds_in other sender message finder pattern)
 
 -- The part that is told is the only one that fails, and where there is such a part it is told.
 abbrev pub MissedPartsAreTheOnlyOnes : Type 0
 MissedPartsAreTheOnlyOnes =
-    (part : Part) (sender : ℕ) (message : Message) (finder : ℕ) (pattern : Pattern)
+    (part : Mismatch) (sender : ℕ) (message : Message) (finder : ℕ) (pattern : Pattern)
     → (missed_between sender (Some message) finder (Some pattern) ≡ Some part) ↔ MissesOnly part sender message finder pattern
 
 -- A send that fits misses no part.

@@ -9,18 +9,18 @@ use Rattle.callorder.specs.Calls.{message_of, pattern_of, is_probe_kind, covers}
 use Rattle.callorder.specs.Programs.{MpiProgram, call_at}
 use Rattle.semantics.specs.Machine.{Configuration, is_matched}
 use Rattle.waits.specs.Waiting.{fits_with}
-use Rattle.misses.specs.declared.parts.Part.{Part}
-use Rattle.misses.specs.declared.parts.Part.TheVariants.{Destination, Communicator, Source, Tag}
+use Rattle.misses.specs.declared.parts.Mismatch.{Mismatch}
+use Rattle.misses.specs.declared.parts.Mismatch.TheVariants.{Destination, Communicator, Source, Tag}
 
 -- the part of the rule holds of a message that rank `sender` sends and a pattern that rank `finder` looks for
-abbrev pub holds_in : Part → ℕ → Message → ℕ → Pattern → Bool
+abbrev pub holds_in : Mismatch → ℕ → Message → ℕ → Pattern → Bool
 holds_in Destination sender message finder pattern = message.destination == finder
 holds_in Communicator sender message finder pattern = message.communicator == pattern.communicator
 holds_in Source sender message finder pattern = covers pattern.source sender
 holds_in Tag sender message finder pattern = covers pattern.tag message.tag
 
 -- the part whose test fails, if exactly one does
-abbrev pub only_false : Bool → Bool → Bool → Bool → Option Part
+abbrev pub only_false : Bool → Bool → Bool → Bool → Option Mismatch
 only_false false true true true = Some Destination
 only_false true false true true = Some Communicator
 only_false true true false true = Some Source
@@ -33,7 +33,7 @@ only_false false true true false = None
 only_false false true false tag = None
 only_false false false source tag = None
 
-abbrev pub missed_between : ℕ → Option Message → ℕ → Option Pattern → Option Part
+abbrev pub missed_between : ℕ → Option Message → ℕ → Option Pattern → Option Mismatch
 missed_between sender None finder pattern = None
 missed_between sender (Some message) finder None = None
 missed_between sender (Some message) finder (Some pattern) =
@@ -41,10 +41,10 @@ missed_between sender (Some message) finder (Some pattern) =
     (holds_in Source sender message finder pattern) (holds_in Tag sender message finder pattern)
 
 -- the one part in which the first call, a send, misses the second
-abbrev pub missed_by : Call → Call → Option Part
+abbrev pub missed_by : Call → Call → Option Mismatch
 missed_by send finder = missed_between send.rank (message_of send.kind) finder.rank (pattern_of finder.kind)
 
-abbrev pub missed_calls : Option Call → Option Call → Option Part
+abbrev pub missed_calls : Option Call → Option Call → Option Mismatch
 missed_calls None other = None
 missed_calls (Some call) None = None
 missed_calls (Some call) (Some other) =
@@ -53,7 +53,7 @@ missed_calls (Some call) (Some other) =
     else missed_by call other
 
 -- The one part in which two calls miss each other: the second is a send, or else no probe, since a send looks for no probe.
-abbrev pub misses_in : MpiProgram → ℕ → ℕ → Option Part
+abbrev pub misses_in : MpiProgram → ℕ → ℕ → Option Mismatch
 misses_in p c e = missed_calls (call_at p c) (call_at p e)
 
 -- the first call looks for the second, which has no partner

@@ -9,4 +9,4 @@ mod parts;
 
 pub use laws::{fit_calls_miss_no_part, missed_parts_are_the_only_ones};
 pub use near::{misses_in, near_misses};
-pub use parts::Part;
+pub use parts::Mismatch;

@@ -3,7 +3,7 @@
 ghost use Rattle.std.specs.Prelude.{◌≡◌, IfOk, length};
 ghost use Rattle.misses.specs.Misses.{misses_in, is_unmatched_fit, is_near_miss, has_unmatched_fit, near_misses, unmatched_misses};
 
-use crate::parts::{Part, missed_by};
+use crate::parts::{Mismatch, missed_by};
 use callorder::LongProgram;
 use semantics::State;
 use std::alloc::{AllocError, Global};
@@ -11,7 +11,7 @@ use waits::fits_with;
 
 /// The one part in which the calls at two places miss each other, if one is a send, the other a receive or a matched probe, or, where
 /// the first call is that, a probe, and all other parts hold. A send misses no probe, as it looks for none.
-pub fn misses_in(program: &LongProgram, call: usize, other: usize) -> Option<Part>
+pub fn misses_in(program: &LongProgram, call: usize, other: usize) -> Option<Mismatch>
     ensures { result ≡ misses_in program.now call other }
 {
     match (program.call(call), program.call(other)) {

@@ -8,7 +8,7 @@ use callorder::Call;
 
 /// A part of the rule by which a send fits a receive, a matched probe or a probe (MPI 4.1, section 3.2.4).
 #[derive(Clone, Copy, PartialEq, Eq)]
-pub enum Part {
+pub enum Mismatch {
     /// The send's destination is the rank of the other call.
     Destination,
     /// The communicators are equal.
@@ -20,14 +20,14 @@ pub enum Part {
 }
 
 /// The one of four tests that fails, if exactly one does.
-fn only_false(destination: bool, communicator: bool, source: bool, tag: bool) -> Option<Part>
+fn only_false(destination: bool, communicator: bool, source: bool, tag: bool) -> Option<Mismatch>
     ensures { result ≡ only_false destination communicator source tag }
 {
     match (destination, communicator, source, tag) {
-        (false, true, true, true) => Some(Part::Destination),
-        (true, false, true, true) => Some(Part::Communicator),
-        (true, true, false, true) => Some(Part::Source),
-        (true, true, true, false) => Some(Part::Tag),
+        (false, true, true, true) => Some(Mismatch::Destination),
+        (true, false, true, true) => Some(Mismatch::Communicator),
+        (true, true, false, true) => Some(Mismatch::Source),
+        (true, true, true, false) => Some(Mismatch::Tag),
         _ => None,
     }
 }
@@ -44,7 +44,7 @@ fn is_covered(wanted: Option<u32>, number: u32) -> bool
 
 /// The one part in which a send misses a receive, a matched probe or a probe, if all others hold. None where all parts hold, where
 /// several fail, and where the calls are none of these.
-pub fn missed_by(send: &Call, finder: &Call) -> Option<Part>
+pub fn missed_by(send: &Call, finder: &Call) -> Option<Mismatch>
     ensures { result ≡ missed_by send.now finder.now }
 {
     let Some(message) = send.kind.message() else {

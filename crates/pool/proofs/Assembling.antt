@@ -15,11 +15,11 @@ use Rattle.refutations.specs.Trees.{Refutes}
 use Rattle.prooflog.specs.declared.refutation.Version.TheVariants.{One}
 use Rattle.prooflog.specs.Refutations.{ClaimedRefutation, IsRefutation, is_line_in_range, is_depth, depths}
 use Rattle.prooflog.proofs.TreeDepths.{depths_are}
-use Rattle.trees.specs.declared.tree.Kind.TheVariants.{Leaf}
+use Rattle.trees.specs.declared.tree.NodeKind.TheVariants.{Leaf}
 use Rattle.trees.specs.Laws.{AreLeavesRefuted}
 use Rattle.trees.specs.Trees.{TreeNode, TreeState, IsGrown, IsBelow, AreLeavesNumbered, path_at}
 use Rattle.trees.proofs.Splits.{kind_within, closed_refute, splits_sound}
-use Rattle.pool.specs.States.{Held, IsSound, IsOpen, IsTreeOf}
+use Rattle.pool.specs.States.{PoolState, IsSound, IsOpen, IsTreeOf}
 use Rattle.pool.proofs.Sizes.{few_nodes, shallow_below}
 
 number_named : (clauses : List (List Literal)) (n : ℕ) (clause : List Literal) → length clauses ≤ 2147483647 → clause_numbered clauses n ≡ Some clause → is_number n ≡ true
@@ -58,7 +58,7 @@ accepts f log state numbers nodes tree same grown derived refuted are below =
     }
 
 -- where no leaf is open, each is refuted
-pub all_refuted : (h : Held) → IsSound h → ((leaf : ℕ) → IsOpen h leaf → ⊥) → AreLeavesRefuted h.tree.nodes (clauses_before h.formula h.log) h.closed
+pub all_refuted : (h : PoolState) → IsSound h → ((leaf : ℕ) → IsOpen h leaf → ⊥) → AreLeavesRefuted h.tree.nodes (clauses_before h.formula h.log) h.closed
 all_refuted h s none place is =
     let low = kind_within h.tree.nodes place Leaf is in
     let number = get_or h.closed place 0 in

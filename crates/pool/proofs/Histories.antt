@@ -9,10 +9,10 @@ use Rattle.refutations.proofs.Covers.{accepted-refute}
 use Rattle.trees.specs.Preorders.{tree_below}
 use Rattle.trees.proofs.Splits.{one_leaf_for_each}
 use Rattle.trees.proofs.Written.{root_hangs}
-use Rattle.pool.specs.declared.entry.Deed.{Deed}
-use Rattle.pool.specs.declared.entry.Deed.TheVariants.{Publish, Fetch, Close, Split, Found, Leave}
+use Rattle.pool.specs.declared.entry.Operation.{Operation}
+use Rattle.pool.specs.declared.entry.Operation.TheVariants.{Publish, Fetch, Close, Split, Found, Leave}
 use Rattle.pool.specs.Laws.{LeavesCover, ClosedPoolsRefute, RunsStaySound}
-use Rattle.pool.specs.States.{Held, IsSound, first_of, IsReply, after_deed, after}
+use Rattle.pool.specs.States.{PoolState, IsSound, first_of, IsReply, after_deed, after}
 use Rattle.pool.proofs.Assembling.{accepts, all_refuted}
 use Rattle.pool.proofs.Soundness.{sound_publish, sound_close, sound_split}
 
@@ -20,7 +20,7 @@ first_stuck : (program : MpiProgram) (schedule : Option (List Step)) (steps : Li
 first_stuck program None steps kept stuck = stuck
 first_stuck program (Some first) steps kept stuck = kept
 
-sound_after : (h : Held) (deed : Deed) (lines : List ProofLine) (steps : List Step) → IsSound h → IsReply h deed lines steps → IsSound (after_deed h deed lines steps)
+sound_after : (h : PoolState) (deed : Operation) (lines : List ProofLine) (steps : List Step) → IsSound h → IsReply h deed lines steps → IsSound (after_deed h deed lines steps)
 sound_after h (Publish count (Ok base)) lines steps s r = sound_publish h lines _ refl s r.2 (omega (arith, r.0, r.3))
 sound_after h (Publish count (Err fault)) lines steps s r = s
 sound_after h (Fetch from reply) lines steps s r = s

@@ -1,18 +1,18 @@
 -- A run of calls has a legal history.
 use Rattle.std.proofs.Common.{◌≡◌, List, [], ◌∷◌, ◌++◌, map, refl, sym, ap, ◌∙◌, subst, append_assoc}
 use Rattle.std.proofs.lemmas.List.{append-nil}
-use Rattle.pool.specs.declared.entry.Item.{Item}
+use Rattle.pool.specs.declared.entry.LoggedCall.{LoggedCall}
 use Rattle.pool.specs.declared.events.Event.{Event}
 use Rattle.pool.specs.declared.events.Event.TheVariants.{Publish, Fetch, Close, Split, Found, Leave}
 use Rattle.pool.specs.declared.events.Reply.{Reply}
 use Rattle.pool.specs.declared.events.Reply.TheVariants as reply
 use Rattle.pool.specs.Laws.{RunsAreLegal}
 use Rattle.pool.specs.Runs.{IsAnswered, after_event, AreAnswered}
-use Rattle.pool.specs.States.{Kept, IsStep, IsRun, after_all, opening, noted, publish_item, fetch_item, close_item, split_item, found_item, leave_item}
+use Rattle.pool.specs.States.{PoolWithHistory, IsStep, IsRun, after_all, opening, noted, publish_item, fetch_item, close_item, split_item, found_item, leave_item}
 use Rattle.pool.proofs.Calls.{publish_step, publish_noted, fetch_step, fetch_noted, close_step, close_noted, split_step, split_noted, found_step, found_noted}
 
 -- a call that is answered so is a step of its item
-step_of : (k : Kept) (event : Event) (given : Reply) → IsAnswered k.held event given → (item : Item) × IsStep k.held item × (after_event k event given ≡ noted k item)
+step_of : (k : PoolWithHistory) (event : Event) (given : Reply) → IsAnswered k.held event given → (item : LoggedCall) × IsStep k.held item × (after_event k event given ≡ noted k item)
 step_of k (Publish worker batch) (reply.Publish given) is = (publish_item worker batch.lines.items given, publish_step k.held worker batch.lines.items given is.1 is.0, publish_noted k worker batch.lines.items given is.1)
 step_of k (Fetch worker from) (reply.Fetch given) is = (fetch_item worker from given, fetch_step k.held worker from given is.1 is.0, fetch_noted k worker from given is.1)
 step_of k (Close worker leaf number) (reply.Close given) is = (close_item worker leaf number given, close_step k.held worker leaf number given is.1 is.0, close_noted k worker leaf number given is.1)
@@ -21,20 +21,20 @@ step_of k (Found worker steps) (reply.Found given) is = (found_item worker steps
 step_of k (Leave worker why) reply.Leave is = (leave_item worker why, tt, refl)
 step_of k event given is = absurd is
 
-history_from : (k : Kept) (events : List Event) (pool : Kept) (replies : List Reply) → AreAnswered k events pool replies
-    → (items : List Item) × IsRun k.held items × (pool.held ≡ after_all k.held items) × (pool.history ≡ k.history ++ map (λ (item : Item). item.entry) items)
-history_from k [] pool [] e = ([], tt, ap (λ (p : Kept). p.held) e, ap (λ (p : Kept). p.history) e ∙ sym (append-nil k.history))
+history_from : (k : PoolWithHistory) (events : List Event) (pool : PoolWithHistory) (replies : List Reply) → AreAnswered k events pool replies
+    → (items : List LoggedCall) × IsRun k.held items × (pool.held ≡ after_all k.held items) × (pool.history ≡ k.history ++ map (λ (item : LoggedCall). item.entry) items)
+history_from k [] pool [] e = ([], tt, ap (λ (p : PoolWithHistory). p.held) e, ap (λ (p : PoolWithHistory). p.history) e ∙ sym (append-nil k.history))
 history_from k [] pool (given ∷ replies) e = absurd e
 history_from k (event ∷ events) pool [] e = absurd e
 history_from k (event ∷ events) pool (given ∷ replies) (here, further) =
     let step = step_of k event given here in
     let rest = history_from (after_event k event given) events pool replies further in (
       step.0 ∷ rest.0,
-      (step.1, subst (λ (p : Kept). IsRun p.held rest.0) step.2 rest.1),
-      rest.2 ∙ ap (λ (p : Kept). after_all p.held rest.0) step.2,
+      (step.1, subst (λ (p : PoolWithHistory). IsRun p.held rest.0) step.2 rest.1),
+      rest.2 ∙ ap (λ (p : PoolWithHistory). after_all p.held rest.0) step.2,
       rest.3
-          ∙ ap (λ (p : Kept). p.history ++ map (λ (item : Item). item.entry) rest.0) step.2
-          ∙ append_assoc k.history (step.0.entry ∷ []) (map (λ (item : Item). item.entry) rest.0),
+          ∙ ap (λ (p : PoolWithHistory). p.history ++ map (λ (item : LoggedCall). item.entry) rest.0) step.2
+          ∙ append_assoc k.history (step.0.entry ∷ []) (map (λ (item : LoggedCall). item.entry) rest.0),
     )
 
 pub legal : RunsAreLegal

@@ -4,8 +4,8 @@ use Rattle.std.proofs.lemmas.Bool.{cases_Bool, eqb-true}
 use Rattle.std.specs.Option.{option_map}
 use Rattle.std.proofs.lemmas.Option.{slice_get-get_or}
 use Rattle.std.proofs.lemmas.List.{take_more, take_all, length-take, length-replicate, replicate-append-replicate}
-use Rattle.trees.specs.declared.tree.Kind.{Kind}
-use Rattle.trees.specs.declared.tree.Kind.TheVariants.{Leaf, Split}
+use Rattle.trees.specs.declared.tree.NodeKind.{NodeKind}
+use Rattle.trees.specs.declared.tree.NodeKind.TheVariants.{Leaf, Split}
 use Rattle.trees.specs.Trees.{TreeNode, leaf_with, kind_at, IsLeaf}
 use Rattle.pool.specs.Counts.{is_open_kind, open_count}
 
@@ -14,12 +14,12 @@ abbrev pub counted : TreeNode → ℕ → ℕ
 counted node number = if is_open_kind node.kind number then 1 else 0
 
 one_for_open : (node : TreeNode) → node.kind ≡ Leaf → counted node 0 ≡ 1
-one_for_open node e = ap {B = ℕ} (λ (k : Kind). if is_open_kind k 0 then 1 else 0) e
+one_for_open node e = ap {B = ℕ} (λ (k : NodeKind). if is_open_kind k 0 then 1 else 0) e
 
 none_for_split : (node : TreeNode) (number v a b : ℕ) → node.kind ≡ Split v a b → counted node number ≡ 0
-none_for_split node number v a b e = ap {B = ℕ} (λ (k : Kind). if is_open_kind k number then 1 else 0) e
+none_for_split node number v a b e = ap {B = ℕ} (λ (k : NodeKind). if is_open_kind k number then 1 else 0) e
 
-no_open_kind : (k : Kind) (number : ℕ) → number ≢ 0 → is_open_kind k number ≡ false
+no_open_kind : (k : NodeKind) (number : ℕ) → number ≢ 0 → is_open_kind k number ≡ false
 no_open_kind Leaf number e = elim (cases_Bool (number == 0)) [ inl zeroth ↦ absurd (e (eqb-true number 0 zeroth)) | inr other ↦ other ]
 no_open_kind (Split v a b) number e = refl
 
@@ -27,10 +27,10 @@ none_for_closed : (node : TreeNode) (number : ℕ) → number ≢ 0 → counted 
 none_for_closed node number e = ap {B = ℕ} (λ (b : Bool). if b then 1 else 0) (no_open_kind node.kind number e)
 
 kind_of_first : (node : TreeNode) (nodes : List TreeNode) → IsLeaf (node ∷ nodes) 0 → node.kind ≡ Leaf
-kind_of_first node nodes e = let told : ◌≡◌ {A = Option Kind} (Some node.kind) (Some Leaf) = e in cc
+kind_of_first node nodes e = let told : ◌≡◌ {A = Option NodeKind} (Some node.kind) (Some Leaf) = e in cc
 
 none_at_none : (leaf : ℕ) → IsLeaf [] leaf → ⊥
-none_at_none leaf e = let told : ◌≡◌ {A = Option Kind} None (Some Leaf) = e in cc
+none_at_none leaf e = let told : ◌≡◌ {A = Option NodeKind} None (Some Leaf) = e in cc
 
 -- an open leaf is counted
 pub open_counts : (nodes : List TreeNode) (numbers : List ℕ) (leaf : ℕ) → IsLeaf nodes leaf → slice_get numbers leaf ≡ Some 0 → 1 ≤ open_count nodes numbers
@@ -76,7 +76,7 @@ count_few (node ∷ nodes) (n ∷ numbers) =
       | inr none ↦ omega (arith, count_few nodes numbers, ap {B = ℕ} (λ (b : Bool). if b then 1 else 0) none)
     ]
 
-leaf_if_open : (k : Kind) (number : ℕ) → is_open_kind k number ≡ true → (k ≡ Leaf) × (number ≡ 0)
+leaf_if_open : (k : NodeKind) (number : ℕ) → is_open_kind k number ≡ true → (k ≡ Leaf) × (number ≡ 0)
 leaf_if_open Leaf number e = (refl, eqb-true number 0 e)
 leaf_if_open (Split v a b) number e = absurd (cc)
 
@@ -86,7 +86,7 @@ some_open [] numbers some = absurd (omega arith)
 some_open (node ∷ nodes) [] some = absurd (omega arith)
 some_open (node ∷ nodes) (n ∷ numbers) some =
     elim (cases_Bool (is_open_kind node.kind n)) [
-      | inl one ↦ let both = leaf_if_open node.kind n one in (0, ap (λ (k : Kind). Some k) both.0, ap (λ (k : ℕ). Some k) both.1)
+      | inl one ↦ let both = leaf_if_open node.kind n one in (0, ap (λ (k : NodeKind). Some k) both.0, ap (λ (k : ℕ). Some k) both.1)
       | inr none ↦
           let further = some_open nodes numbers (omega (arith, ap {B = ℕ} (λ (b : Bool). if b then 1 else 0) none)) in
           (suc further.0, further.1, further.2)
@@ -112,7 +112,7 @@ kind_read nodes i d low = ap (option_map (λ (n : TreeNode). n.kind)) (slice_get
 pub count_leaf : (nodes : List TreeNode) (i : ℕ) → i < length nodes → IsLeaf nodes i → open_count (take (i + 1) nodes) (replicate (i + 1) 0) ≡ open_count (take i nodes) (replicate i 0) + 1
 count_leaf nodes i low is =
     let d = leaf_with [] in
-    let told : ◌≡◌ {A = Option Kind} (Some (get_or nodes i d).kind) (Some Leaf) = sym (kind_read nodes i d low) ∙ is in
+    let told : ◌≡◌ {A = Option NodeKind} (Some (get_or nodes i d).kind) (Some Leaf) = sym (kind_read nodes i d low) ∙ is in
     let leaf_kind : (get_or nodes i d).kind ≡ Leaf = cc in
     omega (arith, count_more nodes i d low, one_for_open (get_or nodes i d) leaf_kind)
 
@@ -120,7 +120,7 @@ pub count_inner : (nodes : List TreeNode) (i : ℕ) → i < length nodes → (Is
 count_inner nodes i low inner =
     let d = leaf_with [] in
     elim (cases_Bool (is_open_kind (get_or nodes i d).kind 0)) [
-      | inl one ↦ absurd (inner (kind_read nodes i d low ∙ ap (λ (k : Kind). Some k) (leaf_if_open (get_or nodes i d).kind 0 one).0))
+      | inl one ↦ absurd (inner (kind_read nodes i d low ∙ ap (λ (k : NodeKind). Some k) (leaf_if_open (get_or nodes i d).kind 0 one).0))
       | inr none ↦ omega (arith, count_more nodes i d low, ap {B = ℕ} (λ (b : Bool). if b then 1 else 0) none)
     ]
 

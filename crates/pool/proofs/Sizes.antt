@@ -10,8 +10,8 @@ use Rattle.refutations.specs.BinaryTrees.{Tree, leaf, split, preorder}
 use Rattle.refutations.specs.Trees.{branch}
 use Rattle.prooflog.specs.Depths.{depths_in}
 use Rattle.prooflog.specs.Refutations.{is_depth}
-use Rattle.trees.specs.declared.tree.Kind.{Kind}
-use Rattle.trees.specs.declared.tree.Kind.TheVariants.{Leaf, Split}
+use Rattle.trees.specs.declared.tree.NodeKind.{NodeKind}
+use Rattle.trees.specs.declared.tree.NodeKind.TheVariants.{Leaf, Split}
 use Rattle.trees.specs.Trees.{TreeNode, leaf_with, path_at, kind_at, IsLeaf, split_at, Grows, one_leaf, one_more, IsShallow, IsBelow}
 use Rattle.trees.proofs.Splits.{kind_within, splits_sound}
 
@@ -34,7 +34,7 @@ abbrev pub weight : (w : ℕ → ℕ) (nodes : List TreeNode) (numbers : List �
 weight w nodes numbers (leaf number) node below = w node
 weight w nodes numbers (split v first second) node below = 1 + weight w nodes numbers first below.0 below.3 + weight w nodes numbers second below.1 below.4
 
-abbrev pub node_weight : Kind → ℕ → ℕ
+abbrev pub node_weight : NodeKind → ℕ → ℕ
 node_weight Leaf given = given
 node_weight (Split v if_true if_false) given = 1
 
@@ -48,7 +48,7 @@ weight_ones nodes numbers (leaf number) node below = refl
 weight_ones nodes numbers (split v first second) node below =
     omega (arith, weight_ones nodes numbers first below.0 below.3, weight_ones nodes numbers second below.1 below.4, length-append (preorder first) (preorder second))
 
-one_each : (k : Kind) → node_weight k 1 ≡ 1
+one_each : (k : NodeKind) → node_weight k 1 ≡ 1
 one_each Leaf = refl
 one_each (Split v if_true if_false) = refl
 
@@ -71,15 +71,15 @@ total_same w u from (node ∷ nodes) agree =
 
 -- one leaf becomes a split
 total_set : (w u : ℕ → ℕ) (from : ℕ) (nodes : List TreeNode) (place more v a b : ℕ) (made : TreeNode) → IsLeaf nodes place → made.kind ≡ Split v a b → ((k : ℕ) → k ≢ from + place → w k ≡ u k) → u (from + place) ≡ 1 + more → total w from (set nodes place made) + more ≡ total u from nodes
-total_set w u from [] place more v a b made is e other here = absurd (let told : ◌≡◌ {A = Option Kind} None (Some Leaf) = is in cc)
+total_set w u from [] place more v a b made is e other here = absurd (let told : ◌≡◌ {A = Option NodeKind} None (Some Leaf) = is in cc)
 total_set w u from (node ∷ nodes) zero more v a b made is e other here =
-    let told : ◌≡◌ {A = Option Kind} (Some node.kind) (Some Leaf) = is in
+    let told : ◌≡◌ {A = Option NodeKind} (Some node.kind) (Some Leaf) = is in
     let leaf_kind : node.kind ≡ Leaf = cc in
     let start : from + 0 ≡ from = omega arith in
     omega (
       arith,
-      ap (λ (k : Kind). node_weight k (w from)) e,
-      ap (λ (k : Kind). node_weight k (u from)) leaf_kind,
+      ap (λ (k : NodeKind). node_weight k (w from)) e,
+      ap (λ (k : NodeKind). node_weight k (u from)) leaf_kind,
       sym (ap u start) ∙ here,
       total_same w u (suc from) nodes (λ k later. other k (λ same. absurd (omega (arith, same, later)))),
     )
@@ -149,7 +149,7 @@ module _ (variables : ℕ) (nodes : List TreeNode) (place v : ℕ) (grows : Grow
     leaf_alone : (tree : Tree) (node : ℕ) (below : IsBelow (split_at nodes place v) numbers tree node) → IsLeaf (split_at nodes place v) node → weight w (split_at nodes place v) numbers tree node below ≡ w node
     leaf_alone (leaf number) node below alone = refl
     leaf_alone (split x first second) node below alone =
-        absurd (let told : ◌≡◌ {A = Option Kind} (Some Leaf) (Some (Split x below.0 below.1)) = sym alone ∙ below.2 in cc)
+        absurd (let told : ◌≡◌ {A = Option NodeKind} (Some Leaf) (Some (Split x below.0 below.1)) = sym alone ∙ below.2 in cc)
 
     record Before (node weighs : ℕ) : Type 0 where
       pub tree : Tree
@@ -159,7 +159,7 @@ module _ (variables : ℕ) (nodes : List TreeNode) (place v : ℕ) (grows : Grow
     before_split : (tree : Tree) (node : ℕ) → node < count → (below : IsBelow (split_at nodes place v) numbers tree node) → Before node (weight w (split_at nodes place v) numbers tree node below)
     before_split (leaf number) node low below =
         elim (cases_eq node place) [
-          | inl at ↦ absurd (let told : ◌≡◌ {A = Option Kind} (Some (Split v count (count + 1))) (Some Leaf) = sym kind_here ∙ sym (ap (kind_at (split_at nodes place v)) at) ∙ below.0 in cc)
+          | inl at ↦ absurd (let told : ◌≡◌ {A = Option NodeKind} (Some (Split v count (count + 1))) (Some Leaf) = sym kind_here ∙ sym (ap (kind_at (split_at nodes place v)) at) ∙ below.0 in cc)
           | inr other ↦ record {
             tree = leaf number;
             below = (sym (kind_other node low other) ∙ below.0, below.1);
@@ -169,7 +169,7 @@ module _ (variables : ℕ) (nodes : List TreeNode) (place v : ℕ) (grows : Grow
     before_split (split x first second) node low below =
         elim (cases_eq node place) [
           | inl at ↦
-              let told : ◌≡◌ {A = Option Kind} (Some (Split v count (count + 1))) (Some (Split x below.0 below.1)) = sym kind_here ∙ sym (ap (kind_at (split_at nodes place v)) at) ∙ below.2 in
+              let told : ◌≡◌ {A = Option NodeKind} (Some (Split v count (count + 1))) (Some (Split x below.0 below.1)) = sym kind_here ∙ sym (ap (kind_at (split_at nodes place v)) at) ∙ below.2 in
               let one : count ≡ below.0 = cc in
               let other : count + 1 ≡ below.1 = cc in
               let first_weighs = leaf_alone first below.0 below.3 (subst (λ (n : ℕ). IsLeaf (split_at nodes place v) n) one leaf_true) in
@@ -216,7 +216,7 @@ here_by w count place = ap {B = ℕ} (λ (b : Bool). if b then 1 + (w count + w 
 weighs_no_more : (variables : ℕ) (nodes : List TreeNode) → Grows variables nodes → (w : ℕ → ℕ) (numbers : List ℕ) (tree : Tree) (below : IsBelow nodes numbers tree 0) → weight w nodes numbers tree 0 below ≤ total w 0 nodes
 weighs_no_more variables nodes one_leaf w numbers (leaf number) below = omega arith
 weighs_no_more variables nodes one_leaf w numbers (split v first second) below =
-    absurd (let told : ◌≡◌ {A = Option Kind} (Some Leaf) (Some (Split v below.0 below.1)) = below.2 in cc)
+    absurd (let told : ◌≡◌ {A = Option NodeKind} (Some Leaf) (Some (Split v below.0 below.1)) = below.2 in cc)
 weighs_no_more variables nodes (one_more before place v grows is low high) w numbers tree below =
     let count : ℕ = length before in
     let u : ℕ → ℕ = λ k. if k == place then 1 + (w count + w (count + 1)) else w k in

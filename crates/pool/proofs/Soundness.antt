@@ -10,7 +10,7 @@ use Rattle.formula.specs.Numbering.{formula_of}
 use Rattle.refutations.specs.Derivations.{clauses_before}
 use Rattle.refutations.specs.Proofs.{ProofLine}
 use Rattle.refutations.specs.Trees.{branch, IsRefuted}
-use Rattle.trees.specs.declared.tree.Kind.TheVariants.{Leaf, Split}
+use Rattle.trees.specs.declared.tree.NodeKind.TheVariants.{Leaf, Split}
 use Rattle.trees.specs.Trees.{TreeNode, TreeState, leaf_with, path_at, IsLeaf, split_at, HasNoRoom, IsGrown}
 use Rattle.trees.proofs.Splits.{kind_within, length_after}
 use Rattle.trees.proofs.Grown.{state_grown_after}
@@ -18,7 +18,7 @@ use Rattle.batches.specs.declared.BatchLine.{BatchLine}
 use Rattle.pool.specs.Counts.{open_count}
 use Rattle.pool.specs.declared.why.Why.{Why}
 use Rattle.pool.specs.Replies.{resolved, resolved_lines, DeriveAfter, most_lines}
-use Rattle.pool.specs.States.{Held, IsSound, IsClosedBy, next_number, opening, held_of}
+use Rattle.pool.specs.States.{PoolState, IsSound, IsClosedBy, next_number, opening, held_of}
 use Rattle.pool.proofs.Derivations.{derived_append, refuted_more}
 use Rattle.pool.proofs.OpenLeaves.{count_split, count_append}
 
@@ -45,7 +45,7 @@ not_zero clauses path zero r e = absurd (let told : ◌≡◌ {A = Option (List 
 not_zero clauses path (suc n) r e = absurd (omega arith)
 
 -- the reasons are all the same to it
-pub sound_with : (h : Held) (reasons : List Why) → IsSound h → IsSound (record h { reasons = reasons })
+pub sound_with : (h : PoolState) (reasons : List Why) → IsSound h → IsSound (record h { reasons = reasons })
 sound_with h reasons s =
     record {
       encoded = s.encoded;
@@ -58,7 +58,7 @@ sound_with h reasons s =
       stuck = s.stuck;
     }
 
-pub sound_close : (h : Held) (leaf number : ℕ) → IsSound h → IsClosedBy h leaf number → IsSound (record h { closed = set h.closed leaf number })
+pub sound_close : (h : PoolState) (leaf number : ℕ) → IsSound h → IsClosedBy h leaf number → IsSound (record h { closed = set h.closed leaf number })
 sound_close h leaf number s refuted =
     record {
       encoded = s.encoded;
@@ -74,7 +74,7 @@ sound_close h leaf number s refuted =
       stuck = s.stuck;
     }
 
-pub sound_publish : (h : Held) (lines log : List ProofLine) → log ≡ h.log ++ lines → IsSound h → DeriveAfter h.formula h.log lines → length h.log + length lines ≤ most_lines → IsSound (record h { log = log })
+pub sound_publish : (h : PoolState) (lines log : List ProofLine) → log ≡ h.log ++ lines → IsSound h → DeriveAfter h.formula h.log lines → length h.log + length lines ≤ most_lines → IsSound (record h { log = log })
 sound_publish h lines log is s derive few =
     subst (λ (l : List ProofLine). IsSound (record h { log = l })) (sym is)
     (record {
@@ -106,7 +106,7 @@ path_kept nodes place v k there low =
       | inr other ↦ ap (λ (n : TreeNode). n.path) (get_or-set_other nodes place k made d other)
     ]
 
-pub sound_split : (h : Held) (leaf v : ℕ) → IsSound h → IsLeaf h.tree.nodes leaf → 1 ≤ v → v ≤ h.formula.variables → (HasNoRoom h.tree.nodes leaf → ⊥) → IsSound (record h { tree = record h.tree { nodes = split_at h.tree.nodes leaf v }; closed = h.closed ++ 0 ∷ 0 ∷ [] })
+pub sound_split : (h : PoolState) (leaf v : ℕ) → IsSound h → IsLeaf h.tree.nodes leaf → 1 ≤ v → v ≤ h.formula.variables → (HasNoRoom h.tree.nodes leaf → ⊥) → IsSound (record h { tree = record h.tree { nodes = split_at h.tree.nodes leaf v }; closed = h.closed ++ 0 ∷ 0 ∷ [] })
 sound_split h leaf v s is low high room =
     let nodes = h.tree.nodes in
     let there = kind_within nodes leaf Leaf is in
@@ -128,7 +128,7 @@ sound_split h leaf v s is low high room =
     }
 
 -- the same for a tree and numbers that are these
-pub sound_split_to : (h : Held) (leaf v : ℕ) (tree : TreeState) (numbers : List ℕ) → tree ≡ record h.tree { nodes = split_at h.tree.nodes leaf v } → numbers ≡ h.closed ++ 0 ∷ 0 ∷ [] → IsSound (record h { tree = record h.tree { nodes = split_at h.tree.nodes leaf v }; closed = h.closed ++ 0 ∷ 0 ∷ [] }) → IsSound (record h { tree = tree; closed = numbers })
+pub sound_split_to : (h : PoolState) (leaf v : ℕ) (tree : TreeState) (numbers : List ℕ) → tree ≡ record h.tree { nodes = split_at h.tree.nodes leaf v } → numbers ≡ h.closed ++ 0 ∷ 0 ∷ [] → IsSound (record h { tree = record h.tree { nodes = split_at h.tree.nodes leaf v }; closed = h.closed ++ 0 ∷ 0 ∷ [] }) → IsSound (record h { tree = tree; closed = numbers })
 sound_split_to h leaf v tree numbers one two s =
     subst (λ (t : TreeState). IsSound (record h { tree = t; closed = numbers })) (sym one)
     (subst (λ (ns : List ℕ). IsSound (record h { tree = record h.tree { nodes = split_at h.tree.nodes leaf v }; closed = ns })) (sym two) s)
@@ -169,14 +169,14 @@ sound_opened e tree numbers log reasons one two three s =
 
 -- ---- what a batch is answered
 
-pub published_ok : (h : Held) (f : Conjunction) (log : List ProofLine) (slice batch : List BatchLine) (base : ℕ) → f ≡ h.formula → log ≡ h.log → slice ≡ batch → base ≡ next_number h → DeriveAfter f log (resolved_lines base slice) → DeriveAfter h.formula h.log (resolved_lines (next_number h) batch)
+pub published_ok : (h : PoolState) (f : Conjunction) (log : List ProofLine) (slice batch : List BatchLine) (base : ℕ) → f ≡ h.formula → log ≡ h.log → slice ≡ batch → base ≡ next_number h → DeriveAfter f log (resolved_lines base slice) → DeriveAfter h.formula h.log (resolved_lines (next_number h) batch)
 published_ok h f log slice batch base one two three four derive =
     subst (λ (b : ℕ). DeriveAfter h.formula h.log (resolved_lines b batch)) four
     (subst (λ (b : List BatchLine). DeriveAfter h.formula h.log (resolved_lines base b)) three
     (subst (λ (l : List ProofLine). DeriveAfter h.formula l (resolved_lines base slice)) two
     (subst (λ (x : Conjunction). DeriveAfter x log (resolved_lines base slice)) one derive)))
 
-pub known_ok : (h : Held) (f : Conjunction) (log : List ProofLine) (slice batch : List BatchLine) (base : ℕ) → f ≡ h.formula → log ≡ h.log → slice ≡ batch → base ≡ next_number h → DeriveAfter h.formula h.log (resolved_lines (next_number h) batch) → DeriveAfter f log (resolved_lines base slice)
+pub known_ok : (h : PoolState) (f : Conjunction) (log : List ProofLine) (slice batch : List BatchLine) (base : ℕ) → f ≡ h.formula → log ≡ h.log → slice ≡ batch → base ≡ next_number h → DeriveAfter h.formula h.log (resolved_lines (next_number h) batch) → DeriveAfter f log (resolved_lines base slice)
 known_ok h f log slice batch base one two three four derive =
     subst (λ (x : Conjunction). DeriveAfter x log (resolved_lines base slice)) (sym one)
     (subst (λ (l : List ProofLine). DeriveAfter h.formula l (resolved_lines base slice)) (sym two)

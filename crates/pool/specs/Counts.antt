@@ -1,11 +1,11 @@
 -- How many leaves are open.
 use Rattle.std.specs.Prelude.{ℕ, ◌+◌, ◌==◌, Bool, false, List, [], ◌∷◌, if◌then◌else◌}
-use Rattle.trees.specs.declared.tree.Kind.{Kind}
-use Rattle.trees.specs.declared.tree.Kind.TheVariants.{Leaf, Split}
+use Rattle.trees.specs.declared.tree.NodeKind.{NodeKind}
+use Rattle.trees.specs.declared.tree.NodeKind.TheVariants.{Leaf, Split}
 use Rattle.trees.specs.Trees.{TreeNode}
 
 -- a leaf is open where no clause closes it
-abbrev pub is_open_kind : Kind → ℕ → Bool
+abbrev pub is_open_kind : NodeKind → ℕ → Bool
 is_open_kind Leaf number = number == 0
 is_open_kind (Split v if_true if_false) number = false
 

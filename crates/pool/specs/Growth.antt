@@ -2,13 +2,13 @@
 use Rattle.std.specs.Prelude.{◌≡◌, ℕ, ◌+◌, ◌-◌, ◌<◌, ◌≤◌, List, ◌++◌, length, Option, Some, None, slice_get, Ok, Err}
 use Rattle.clauses.specs.Clauses.{Conjunction}
 use Rattle.refutations.specs.Proofs.{ProofLine}
-use Rattle.pool.specs.declared.entry.Deed.{Deed}
-use Rattle.pool.specs.declared.entry.Deed.TheVariants.{Publish, Fetch, Close, Split, Found, Leave}
-use Rattle.pool.specs.declared.entry.Item.{Item}
-use Rattle.pool.specs.States.{Held, IsRun, after_all}
+use Rattle.pool.specs.declared.entry.Operation.{Operation}
+use Rattle.pool.specs.declared.entry.Operation.TheVariants.{Publish, Fetch, Close, Split, Found, Leave}
+use Rattle.pool.specs.declared.entry.LoggedCall.{LoggedCall}
+use Rattle.pool.specs.States.{PoolState, IsRun, after_all}
 
 -- the place in the log, from 0, of the first line that an accepted publish was given, or that an accepted fetch answered
-abbrev pub first_place : Conjunction → Deed → Option ℕ
+abbrev pub first_place : Conjunction → Operation → Option ℕ
 first_place formula (Publish count (Ok base)) = Some (base - (length formula.clauses + 1))
 first_place formula (Publish count (Err fault)) = None
 first_place formula (Fetch from (Ok count)) = Some from
@@ -19,35 +19,35 @@ first_place formula (Found count reply) = None
 first_place formula (Leave why) = None
 
 -- by this call the line with this place in the log was published or told
-pub record Tells (formula : Conjunction) (item : Item) (place : ℕ) (line : ProofLine) : Type 0 where
+pub record Tells (formula : Conjunction) (item : LoggedCall) (place : ℕ) (line : ProofLine) : Type 0 where
   pub first : ℕ
   pub begins : first_place formula item.entry.deed ≡ Some first
   pub past : first ≤ place
   pub there : slice_get item.lines (place - first) ≡ Some line
 
 -- a fetch of the log after this many lines, which was accepted
-abbrev pub IsFetchAfter : ℕ → Item → Type 0
+abbrev pub IsFetchAfter : ℕ → LoggedCall → Type 0
 IsFetchAfter from item = (count : ℕ) × (item.entry.deed ≡ Fetch from (Ok count))
 
 -- each accepted fetch tells every line past its start that was published or told by an earlier call
-abbrev pub LosesNothing : Conjunction → List Item → Type 0
+abbrev pub LosesNothing : Conjunction → List LoggedCall → Type 0
 LosesNothing formula items =
-    (i j : ℕ) (one later : Item) (place from : ℕ) (line : ProofLine) → i < j → slice_get items i ≡ Some one → slice_get items j ≡ Some later
+    (i j : ℕ) (one later : LoggedCall) (place from : ℕ) (line : ProofLine) → i < j → slice_get items i ≡ Some one → slice_get items j ≡ Some later
     → Tells formula one place line → IsFetchAfter from later → from ≤ place → Tells formula later place line
 
 -- ---- laws
 
 -- whatever calls are made, the log begins as it did
 abbrev pub LogsGrow : Type 0
-LogsGrow = (h : Held) (items : List Item) → (more : List ProofLine) × ((after_all h items).log ≡ h.log ++ more)
+LogsGrow = (h : PoolState) (items : List LoggedCall) → (more : List ProofLine) × ((after_all h items).log ≡ h.log ++ more)
 
 -- each accepted batch stands past all lines of those before it
 abbrev pub BasesRise : Type 0
 BasesRise =
-    (h : Held) (items : List Item) (i j : ℕ) (one later : Item) (count next_count base next : ℕ) → IsRun h items → i < j
+    (h : PoolState) (items : List LoggedCall) (i j : ℕ) (one later : LoggedCall) (count next_count base next : ℕ) → IsRun h items → i < j
     → slice_get items i ≡ Some one → slice_get items j ≡ Some later → one.entry.deed ≡ Publish count (Ok base) → later.entry.deed ≡ Publish next_count (Ok next)
     → base + count ≤ next
 
 -- in a run of calls no fetch lacks what was published or told before it
 abbrev pub RunsLoseNothing : Type 0
-RunsLoseNothing = (h : Held) (items : List Item) → IsRun h items → LosesNothing h.formula items
+RunsLoseNothing = (h : PoolState) (items : List LoggedCall) → IsRun h items → LosesNothing h.formula items

@@ -4,28 +4,28 @@ use Rattle.encode.specs.Encodings.{EncodedProgram}
 use Rattle.clauses.specs.Clauses.{TruthAssignment, IsUnsatisfiable}
 use Rattle.trees.specs.Laws.{IsReachedLeaf}
 use Rattle.trees.specs.Trees.{TreeState}
-use Rattle.pool.specs.declared.entry.Item.{Item}
+use Rattle.pool.specs.declared.entry.LoggedCall.{LoggedCall}
 use Rattle.pool.specs.declared.events.Event.{Event}
 use Rattle.pool.specs.declared.events.Reply.{Reply}
 use Rattle.pool.specs.Runs.{IsPoolRun}
-use Rattle.pool.specs.States.{Held, Kept, IsSound, IsOpen, IsRun, IsLegal, opening, after_all}
+use Rattle.pool.specs.States.{PoolState, PoolWithHistory, IsSound, IsOpen, IsRun, IsLegal, opening, after_all}
 
 -- each assignment makes all literals of one leaf's path true, and those of no other
 abbrev pub LeavesCover : Type 0
 LeavesCover =
-    (h : Held) (a : TruthAssignment) → IsSound h
+    (h : PoolState) (a : TruthAssignment) → IsSound h
     → (leaf : ℕ) × IsReachedLeaf h.tree.nodes a leaf × ((other : ℕ) → IsReachedLeaf h.tree.nodes a other → other ≡ leaf)
 
 -- where no leaf is open, no assignment satisfies the formula
 abbrev pub ClosedPoolsRefute : Type 0
-ClosedPoolsRefute = (h : Held) → IsSound h → ((leaf : ℕ) → IsOpen h leaf → ⊥) → IsUnsatisfiable h.formula.clauses
+ClosedPoolsRefute = (h : PoolState) → IsSound h → ((leaf : ℕ) → IsOpen h leaf → ⊥) → IsUnsatisfiable h.formula.clauses
 
 -- whatever calls are made of a sound pool, with replies that may be given, it stays sound
 abbrev pub RunsStaySound : Type 0
-RunsStaySound = (h : Held) (items : List Item) → IsSound h → IsRun h items → IsSound (after_all h items)
+RunsStaySound = (h : PoolState) (items : List LoggedCall) → IsSound h → IsRun h items → IsSound (after_all h items)
 
 -- after a run of calls the history, with its lines and its schedules, is legal from the opening pool on
 abbrev pub RunsAreLegal : Type 0
 RunsAreLegal =
-    (encoded : EncodedProgram) (tree : TreeState) (events : List Event) (pool : Kept) (replies : List Reply) → IsPoolRun encoded tree events pool replies
-    → (items : List Item) × IsLegal (opening encoded tree).held items pool
+    (encoded : EncodedProgram) (tree : TreeState) (events : List Event) (pool : PoolWithHistory) (replies : List Reply) → IsPoolRun encoded tree events pool replies
+    → (items : List LoggedCall) × IsLegal (opening encoded tree).held items pool

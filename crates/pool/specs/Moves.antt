@@ -6,10 +6,10 @@ use Rattle.batches.specs.declared.Hint.{Hint}
 use Rattle.batches.specs.declared.Hint.TheVariants.{Known, Own}
 use Rattle.clauses.specs.Clauses.{Conjunction}
 use Rattle.refutations.specs.Proofs.{ProofLine}
-use Rattle.pool.specs.declared.entry.Item.{Item}
+use Rattle.pool.specs.declared.entry.LoggedCall.{LoggedCall}
 use Rattle.pool.specs.Growth.{Tells}
 use Rattle.pool.specs.Replies.{resolved_lines, DeriveAfter}
-use Rattle.pool.specs.States.{Held, IsRun, after_all}
+use Rattle.pool.specs.States.{PoolState, IsRun, after_all}
 
 -- the hint names one of the batch's own lines, or a clause with a smaller number than its first line
 abbrev pub is_earlier : ℕ → Hint → Bool
@@ -48,5 +48,5 @@ BatchesMove =
 -- after a run of calls each line that one of them published or was told stands in the log
 abbrev pub ToldStands : Type 0
 ToldStands =
-    (h : Held) (items : List Item) (one : Item) (i place : ℕ) (line : ProofLine) → IsRun h items → slice_get items i ≡ Some one → Tells h.formula one place line
+    (h : PoolState) (items : List LoggedCall) (one : LoggedCall) (i place : ℕ) (line : ProofLine) → IsRun h items → slice_get items i ≡ Some one → Tells h.formula one place line
     → slice_get (after_all h items).log place ≡ Some line

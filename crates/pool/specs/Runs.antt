@@ -11,10 +11,10 @@ use Rattle.pool.specs.declared.events.Event.{Event}
 use Rattle.pool.specs.declared.events.Event.TheVariants.{Publish, Fetch, Close, Split, Found, Leave}
 use Rattle.pool.specs.declared.events.Reply.{Reply}
 use Rattle.pool.specs.declared.events.Reply.TheVariants as reply
-use Rattle.pool.specs.States.{Held, Kept, opening, noted, leave_item, IsPublished, published, IsFetched, fetched, IsClosed, closed, IsSplit, after_split, IsFound, after_found}
+use Rattle.pool.specs.States.{PoolState, PoolWithHistory, opening, noted, leave_item, IsPublished, published, IsFetched, fetched, IsClosed, closed, IsSplit, after_split, IsFound, after_found}
 
 -- the call may be answered so at this point, and the answer is not want of memory
-abbrev pub IsAnswered : Held → Event → Reply → Type 0
+abbrev pub IsAnswered : PoolState → Event → Reply → Type 0
 IsAnswered h (Publish worker batch) (reply.Publish given) = IsPublished h batch.lines.items given × (given ≢ Err publish.Memory)
 IsAnswered h (Fetch worker from) (reply.Fetch given) = IsFetched h from given × (given ≢ Err fetch.Memory)
 IsAnswered h (Close worker leaf number) (reply.Close given) = IsClosed h leaf number given × (given ≢ Err close.Memory)
@@ -24,7 +24,7 @@ IsAnswered h (Leave worker why) reply.Leave = Unit {0}
 IsAnswered h event given = ⊥
 
 -- what the call makes of the pool, where it is answered so
-abbrev pub after_event : Kept → Event → Reply → Kept
+abbrev pub after_event : PoolWithHistory → Event → Reply → PoolWithHistory
 after_event k (Publish worker batch) (reply.Publish given) = published k worker batch.lines.items given
 after_event k (Fetch worker from) (reply.Fetch given) = fetched k worker from given
 after_event k (Close worker leaf number) (reply.Close given) = closed k worker leaf number given
@@ -34,12 +34,12 @@ after_event k (Leave worker why) reply.Leave = noted k (leave_item worker why)
 after_event k event given = k
 
 -- the calls, made in order from this pool on, are answered so, one reply each, and leave the other pool
-abbrev pub AreAnswered : Kept → List Event → Kept → List Reply → Type 0
+abbrev pub AreAnswered : PoolWithHistory → List Event → PoolWithHistory → List Reply → Type 0
 AreAnswered k [] pool [] = pool ≡ k
 AreAnswered k [] pool (given ∷ replies) = ⊥
 AreAnswered k (event ∷ events) pool [] = ⊥
 AreAnswered k (event ∷ events) pool (given ∷ replies) = IsAnswered k.held event given × AreAnswered (after_event k event given) events pool replies
 
 -- the same from the opening pool on
-abbrev pub IsPoolRun : EncodedProgram → TreeState → List Event → Kept → List Reply → Type 0
+abbrev pub IsPoolRun : EncodedProgram → TreeState → List Event → PoolWithHistory → List Reply → Type 0
 IsPoolRun encoded tree events pool replies = AreAnswered (opening encoded tree) events pool replies

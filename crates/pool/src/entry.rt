@@ -88,7 +88,7 @@ pub enum PathFault {
 
 /// A call that was answered, but for its lines and its steps. None is answered with want of memory.
 #[derive(Clone, Copy, PartialEq, Eq)]
-pub enum Deed {
+pub enum Operation {
     /// How many lines the batch has, and the number of the first.
     Publish(usize, Result<u32, PublishFault>),
     /// How many lines were left out, and how many there were after them.
@@ -109,12 +109,12 @@ pub struct Entry {
     /// Who called, counted from 0.
     pub worker: u32,
     /// The call and its answer.
-    pub deed: Deed,
+    pub deed: Operation,
 }
 
 /// An entry with the lines that were appended or handed out and the steps of the schedule that was
 /// accepted. Contracts alone see it: no value of it is made.
-pub struct Item {
+pub struct LoggedCall {
     /// The entry.
     pub entry: Entry,
     /// The lines that were appended or handed out.

@@ -17,7 +17,7 @@ ghost use Rattle.semantics.specs.Machine.{IsStuckRun};
 use crate::assembly::{AssembleFault, lines_of, refutation_by, refutation_of, schedule_of_run};
 use crate::derived::DerivedLines;
 use crate::entry::{
-    CloseFault, Deed, Entry, FetchFault, FoundFault, PathFault, PublishFault, SplitFault,
+    CloseFault, Operation, Entry, FetchFault, FoundFault, PathFault, PublishFault, SplitFault,
 };
 use crate::extend::extend;
 use crate::ledger::Ledger;
@@ -67,9 +67,9 @@ impl Model for Pool {
     ghost use Rattle.std.specs.Option.{option_map};
     ghost use Rattle.std.specs.Arc.{arc_value};
     ghost use Rattle.pool.specs.Counts.{open_count};
-    ghost use Rattle.pool.specs.States.{Kept, IsSound, held_of};
+    ghost use Rattle.pool.specs.States.{PoolWithHistory, IsSound, held_of};
 
-    ghost Value = { Kept };
+    ghost Value = { PoolWithHistory };
 
     ghost view = { λ a. record { held = held_of (arc_value a.encoded) a.tree a.closed.items a.log (option_map (λ s. s.items) a.schedule) a.ledger.reasons; history = a.ledger.history; places = a.ledger.places } };
 
@@ -415,18 +415,18 @@ impl Pool {
             derived,
         ) {
             Ok(()) => {
-                self.ledger.note(worker, Deed::Publish(count, Ok(base)));
+                self.ledger.note(worker, Operation::Publish(count, Ok(base)));
                 Ok(base)
             }
             Err(PublishFault::Memory) => Err(PublishFault::Memory),
             Err(PublishFault::NotDerived(place)) => {
                 let reply = Err(PublishFault::NotDerived(place));
-                self.ledger.note(worker, Deed::Publish(count, reply));
+                self.ledger.note(worker, Operation::Publish(count, reply));
                 Err(PublishFault::NotDerived(place))
             }
             Err(PublishFault::Full) => {
                 let reply = Err(PublishFault::Full);
-                self.ledger.note(worker, Deed::Publish(count, reply));
+                self.ledger.note(worker, Operation::Publish(count, reply));
                 Err(PublishFault::Full)
             }
         }
@@ -442,13 +442,13 @@ impl Pool {
         }
         if self.log.len() < from {
             let reply = Err(FetchFault::PastEnd);
-            self.ledger.note(worker, Deed::Fetch(from, reply));
+            self.ledger.note(worker, Operation::Fetch(from, reply));
             return Err(FetchFault::PastEnd);
         }
         let Ok(lines) = self.log.after(alloc, from) else {
             return Err(FetchFault::Memory);
         };
-        self.ledger.note(worker, Deed::Fetch(from, Ok(lines.len())));
+        self.ledger.note(worker, Operation::Fetch(from, Ok(lines.len())));
         Ok(lines)
     }
 
@@ -464,17 +464,17 @@ impl Pool {
         }
         if !self.is_open(leaf) {
             let reply = Err(CloseFault::NotOpen);
-            self.ledger.note(worker, Deed::Close(leaf, number, reply));
+            self.ledger.note(worker, Operation::Close(leaf, number, reply));
             return Err(CloseFault::NotOpen);
         }
         if !self.is_closed_by(leaf, number) {
             let reply = Err(CloseFault::NotRefuted);
-            self.ledger.note(worker, Deed::Close(leaf, number, reply));
+            self.ledger.note(worker, Operation::Close(leaf, number, reply));
             return Err(CloseFault::NotRefuted);
         }
         self.closed[leaf as usize] = number;
         self.open_leaves -= 1;
-        self.ledger.note(worker, Deed::Close(leaf, number, Ok(())));
+        self.ledger.note(worker, Operation::Close(leaf, number, Ok(())));
         Ok(())
     }
 
@@ -513,7 +513,7 @@ impl Pool {
         match self.split_fault(leaf, variable) {
             None => {}
             Some(fault) => {
-                let deed = Deed::Split(leaf, variable, Err(fault));
+                let deed = Operation::Split(leaf, variable, Err(fault));
                 self.ledger.note(worker, deed);
                 return Err(fault);
             }
@@ -522,7 +522,7 @@ impl Pool {
             return Err(SplitFault::Memory);
         };
         self.open_leaves += 1;
-        let deed = Deed::Split(leaf, variable, Ok(below));
+        let deed = Operation::Split(leaf, variable, Ok(below));
         self.ledger.note(worker, deed);
         Ok(below)
     }
@@ -568,12 +568,12 @@ impl Pool {
         match ends_stuck(alloc, self.encoded.program(), &steps) {
             Ok(true) => {
                 keep_first(&mut self.schedule, steps);
-                self.ledger.note(worker, Deed::Found(count, Ok(())));
+                self.ledger.note(worker, Operation::Found(count, Ok(())));
                 Ok(())
             }
             Ok(false) => {
                 let reply = Err(FoundFault::NotStuck);
-                self.ledger.note(worker, Deed::Found(count, reply));
+                self.ledger.note(worker, Operation::Found(count, reply));
                 Err(FoundFault::NotStuck)
             }
             Err(AllocError) => Err(FoundFault::Memory),

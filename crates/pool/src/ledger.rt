@@ -5,7 +5,7 @@ ghost use Rattle.pool.specs.Ledgers.{FitsCall, FitsReason, IsSameLedger};
 ghost use Rattle.pool.specs.Reasons.{IsSmallest};
 ghost use Rattle.pool.specs.States.{with_reason};
 
-use crate::entry::{Deed, Entry};
+use crate::entry::{Operation, Entry};
 use crate::why::{Why, smallest};
 use std::alloc::{AllocError, Global};
 use std::marker::Model;
@@ -67,7 +67,7 @@ impl Ledger {
     }
 
     /// Notes a call, for which there is room.
-    pub(crate) fn note(&mut self, worker: u32, deed: Deed)
+    pub(crate) fn note(&mut self, worker: u32, deed: Operation)
         requires { FitsCall self.old }
         ensures history { self.new.history ≡ self.old.history ++ (record { worker = worker; deed = deed }) ∷ [] }
         ensures reasons { self.new.reasons ≡ self.old.reasons }
@@ -94,7 +94,7 @@ impl Ledger {
 
     /// Notes a leave with its reason, so that the places that are kept stay free.
     pub(crate) fn leave(&mut self, worker: u32, why: Option<Why>) -> Result<(), AllocError>
-        ensures history { OnOk result (self.new.history ≡ self.old.history ++ (record { worker = worker; deed = Deed.Leave why }) ∷ []) }
+        ensures history { OnOk result (self.new.history ≡ self.old.history ++ (record { worker = worker; deed = Operation.Leave why }) ∷ []) }
         ensures reasons { OnOk result (self.new.reasons ≡ with_reason self.old.reasons why) }
         ensures places { OnOk result (self.new.places ≡ self.old.places) }
         ensures err { OnErr result (IsSameLedger self.old self.new) }
@@ -102,13 +102,13 @@ impl Ledger {
     {
         self.reserve()?;
         self.add_reason(why)?;
-        self.note(worker, Deed::Leave(why));
+        self.note(worker, Operation::Leave(why));
         Ok(())
     }
 
     /// The same by a place that is kept, if one is.
     pub(crate) fn leave_kept(&mut self, worker: u32, why: Option<Why>) -> Result<(), AllocError>
-        ensures history { OnOk result (self.new.history ≡ self.old.history ++ (record { worker = worker; deed = Deed.Leave why }) ∷ []) }
+        ensures history { OnOk result (self.new.history ≡ self.old.history ++ (record { worker = worker; deed = Operation.Leave why }) ∷ []) }
         ensures reasons { OnOk result (self.new.reasons ≡ with_reason self.old.reasons why) }
         ensures places { OnOk result (self.new.places ≡ self.old.places - 1) }
         ensures err { OnErr result (IsSameLedger self.old self.new) }

@@ -22,7 +22,7 @@ mod why;
 pub use assembly::{AssembleFault, schedule_of_run};
 pub use derived::DerivedLines;
 pub use entry::{
-    CloseFault, Deed, Entry, FetchFault, FoundFault, Item, PathFault, PublishFault, SplitFault,
+    CloseFault, Operation, Entry, FetchFault, FoundFault, LoggedCall, PathFault, PublishFault, SplitFault,
 };
 pub use events::{Event, Reply, run};
 pub use extend::MOST_LINES;

@@ -3,7 +3,7 @@ use Rattle.std.specs.Prelude.{ℕ, List, ◌++◌, ◌∷◌, map}
 use Rattle.std.specs.List.{flat_map}
 use Rattle.refutations.specs.Proofs.{ProofLine}
 use Rattle.refutations.specs.declared.tree.Node.{Node}
-use Rattle.prooflog.specs.declared.portions.Part.{Part}
+use Rattle.prooflog.specs.declared.portions.TextPart.{TextPart}
 use Rattle.prooflog.specs.declared.portions.Portions.{Portions}
 use Rattle.prooflog.specs.Refutations.{ClaimedRefutation, item_line, a_proof, the_tree, a_node}
 use Rattle.prooflog.specs.Grammar.{heading_line, refutation_line}
@@ -21,7 +21,7 @@ abbrev pub tree_text : List Node → List ℕ
 tree_text nodes = flat_map item_line (the_tree ∷ map a_node nodes)
 
 -- the text of a portion of the proof lines: what is written of it, and then that of the lines that aren't
-abbrev pub part_text : Part → List ℕ
+abbrev pub part_text : TextPart → List ℕ
 part_text part = part.text.items ++ lines_text part.lines.items
 
 -- the lines of portions

@@ -11,9 +11,9 @@ use Rattle.prooflog.specs.declared.fault.EvidenceFault.{EvidenceFault}
 use Rattle.prooflog.specs.declared.fault.EvidenceFault.TheVariants.{Memory}
 use Rattle.prooflog.specs.declared.proof_line.Unread.{Unread}
 use Rattle.prooflog.specs.declared.proof_line.Unread.TheVariants as unread
-use Rattle.prooflog.specs.declared.ahead.Part.{Part}
-use Rattle.prooflog.specs.declared.reader.Kind.{Kind}
-use Rattle.prooflog.specs.declared.reader.Kind.TheVariants.{Schedule, Refutation}
+use Rattle.prooflog.specs.declared.ahead.TextPart.{TextPart}
+use Rattle.prooflog.specs.declared.reader.EvidenceKind.{EvidenceKind}
+use Rattle.prooflog.specs.declared.reader.EvidenceKind.TheVariants.{Schedule, Refutation}
 use Rattle.prooflog.specs.declared.refutation.Version.{Version}
 use Rattle.prooflog.specs.declared.refutation.Version.TheVariants.{One}
 use Rattle.prooflog.specs.declared.step.WrittenStep.{WrittenStep}
@@ -107,16 +107,16 @@ pub record AreWhole (bytes : List ℕ) (lines : List ProofLine) : Type 0 where
   pub in_range : IsTrue (list_all is_line_in_range lines)
 
 -- a part of the text, and the proof lines that are all of it
-pub record IsPart (bytes : List ℕ) (part : Part) : Type 0 where
+pub record IsPart (bytes : List ℕ) (part : TextPart) : Type 0 where
   pub forward : part.start ≤ part.end
   pub within : part.end ≤ length bytes
   pub whole : AreWhole (slice_range bytes part.start part.end) part.lines.items
 
 -- parts of the text, some of them missing
-abbrev pub AreParts : List ℕ → List (Option Part) → Type 0
-AreParts bytes parts = (place : ℕ) (part : Option Part) → slice_get parts place ≡ Some part → IfSome part (IsPart bytes)
+abbrev pub AreParts : List ℕ → List (Option TextPart) → Type 0
+AreParts bytes parts = (place : ℕ) (part : Option TextPart) → slice_get parts place ≡ Some part → IfSome part (IsPart bytes)
 
 -- the text begins with the two headings of this kind of evidence
-abbrev pub IsOpened : List ℕ → Kind → List ℕ → Type 0
+abbrev pub IsOpened : List ℕ → EvidenceKind → List ℕ → Type 0
 IsOpened bytes Schedule rest = text_lines bytes ≡ (heading_line One ∷ schedule_line ∷ []) ++ text_lines rest
 IsOpened bytes (Refutation version v c) rest = (text_lines bytes ≡ opening version v c ++ text_lines rest) × (v ≤ 2147483647) × (c ≤ 2147483647)

@@ -30,7 +30,7 @@ pub fn no_lines<'a>(alloc: Global, bytes: &'a [u8]) -> Ahead<'a>
 
 /// From where to where a part goes, and its lines, which are all that it holds.
 #[derive(Drop)]
-pub struct Part {
+pub struct TextPart {
     start: usize,
     end: usize,
     lines: Vec<Line>,
@@ -91,11 +91,11 @@ fn whole_lines(alloc: Global, bytes: &[u8]) -> Option<Vec<Line>>
     Some(lines)
 }
 
-fn read_part(alloc: Global, bytes: &[u8], start: usize, end: usize) -> Option<Part>
+fn read_part(alloc: Global, bytes: &[u8], start: usize, end: usize) -> Option<TextPart>
     ensures { IfSome result (IsPart bytes.now) }
 {
     let lines = whole_lines(alloc, bytes.get(start..end)?)?;
-    Some(Part { start, end, lines })
+    Some(TextPart { start, end, lines })
 }
 
 /// The parts, each none where it isn't all proof lines.
@@ -104,7 +104,7 @@ fn parts_of<R: Threads + Sync>(
     alloc: Global,
     bytes: &[u8],
     parts: usize,
-) -> Result<Vec<Option<Part>>, AllocError>
+) -> Result<Vec<Option<TextPart>>, AllocError>
     ensures { IfOk result (λ found. AreParts bytes.now found.items) }
 {
     let length = tree_place(bytes);
@@ -112,7 +112,7 @@ fn parts_of<R: Threads + Sync>(
         rt,
         alloc,
         parts,
-        &|part: usize| -> Option<Part>
+        &|part: usize| -> Option<TextPart>
             ensures { IfSome result (IsPart bytes.entry.now) }
         {
             let start = part_start(bytes, length, parts, part);
@@ -123,13 +123,13 @@ fn parts_of<R: Threads + Sync>(
 }
 
 /// Takes in the lines of the part, where it starts where those so far end, and answers where they end now.
-fn with_part(bytes: &[u8], lines: &mut Vec<Line>, used: usize, part: Option<Part>) -> usize
+fn with_part(bytes: &[u8], lines: &mut Vec<Line>, used: usize, part: Option<TextPart>) -> usize
     requires reached { HaveReached bytes.now used lines.old.items }
     requires part { IfSome part (IsPart bytes.now) }
     ensures { HaveReached bytes.now result lines.new.items }
 {
     let Some(
-        Part {
+        TextPart {
             start,
             end,
             lines: mut more,
@@ -148,7 +148,7 @@ fn with_part(bytes: &[u8], lines: &mut Vec<Line>, used: usize, part: Option<Part
 }
 
 /// The lines of the parts up to the first one that is none.
-fn joined<'a>(alloc: Global, bytes: &'a [u8], parts: Vec<Option<Part>>) -> Ahead<'a>
+fn joined<'a>(alloc: Global, bytes: &'a [u8], parts: Vec<Option<TextPart>>) -> Ahead<'a>
     requires { AreParts bytes.now parts.items }
     ensures { LinesSoFar bytes.now result.rest.now (3 + length result.lines.items) result.lines.items }
 {

@@ -19,7 +19,7 @@ const BYTES_OF_A_WORD: usize = 8;
 
 /// A portion of the lines: its text, and the lines behind it that aren't written.
 #[derive(Drop)]
-pub struct Part {
+pub struct TextPart {
     text: Vec<u8>,
     lines: Vec<Line>,
 }
@@ -107,15 +107,15 @@ fn text_of(alloc: Global, lines: &[Line]) -> Result<Vec<u8>, AllocError>
 }
 
 /// The portion with its text. Its lines are dropped then, or else kept, where memory ran out.
-fn written(alloc: Global, lines: Vec<Line>) -> Part
+fn written(alloc: Global, lines: Vec<Line>) -> TextPart
     ensures { part_text result ≡ lines_text lines.items }
 {
     match text_of(alloc, &lines) {
-        Ok(text) => Part {
+        Ok(text) => TextPart {
             text,
             lines: Vec::new(alloc),
         },
-        Err(AllocError) => Part {
+        Err(AllocError) => TextPart {
             text: Vec::new(alloc),
             lines,
         },
@@ -123,15 +123,15 @@ fn written(alloc: Global, lines: Vec<Line>) -> Part
 }
 
 /// Writes the part at the end.
-fn put_part(alloc: Global, out: &mut Text, part: Part) -> Result<(), AllocError>
+fn put_part(alloc: Global, out: &mut Text, part: TextPart) -> Result<(), AllocError>
     ensures { OnOk result (out.new ≡ out.old ++ part_text part) }
 {
-    let Part { text, lines } = part;
+    let TextPart { text, lines } = part;
     out.push(text)?;
     out.push(text_of(alloc, &lines)?)
 }
 
-fn put_parts(alloc: Global, out: &mut Text, parts: Vec<Part>) -> Result<(), AllocError>
+fn put_parts(alloc: Global, out: &mut Text, parts: Vec<TextPart>) -> Result<(), AllocError>
     ensures { OnOk result (out.new ≡ out.old ++ flat_map part_text parts.items) }
 {
     for part in parts {
@@ -154,7 +154,7 @@ pub(crate) fn put_portions<R: Threads + Sync>(
     let parts = thread::map_vec(
         rt,
         portions,
-        &|portion: Vec<Line>| -> Part
+        &|portion: Vec<Line>| -> TextPart
             ensures { part_text result ≡ lines_text portion.items }
         { written(alloc, portion) },
     )?;

@@ -52,7 +52,7 @@ fn read_steps(alloc: Global, bytes: &[u8]) -> Result<Schedule, EvidenceFault>
 
 /// What the second line of an evidence's text says: which kind of evidence follows.
 #[derive(Clone, Copy)]
-pub enum Kind {
+pub enum EvidenceKind {
     /// Steps.
     Schedule,
     /// Proof lines and a tree, for a formula with these counts.
@@ -66,7 +66,7 @@ pub enum Kind {
 /// The kind of an evidence's text, and what follows its first two lines.
 #[derive(Clone, Copy)]
 struct Opening<'a> {
-    kind: Kind,
+    kind: EvidenceKind,
     rest: &'a [u8],
 }
 
@@ -111,7 +111,7 @@ fn opening_of(bytes: &[u8]) -> Result<Opening<'_>, EvidenceFault>
     };
     if is_schedule(version, kind) {
         return Ok(Opening {
-            kind: Kind::Schedule,
+            kind: EvidenceKind::Schedule,
             rest,
         });
     }
@@ -122,7 +122,7 @@ fn opening_of(bytes: &[u8]) -> Result<Opening<'_>, EvidenceFault>
         return Err(EvidenceFault::Range { line: 2 });
     }
     Ok(Opening {
-        kind: Kind::Refutation {
+        kind: EvidenceKind::Refutation {
             version,
             variables,
             clauses,
@@ -144,11 +144,11 @@ fn read_opened<'a>(
     ensures fault { IfErr result (λ fault. HasEvidenceFault bytes.now fault) }
 {
     match opening.kind {
-        Kind::Schedule => match read_steps(alloc, opening.rest) {
+        EvidenceKind::Schedule => match read_steps(alloc, opening.rest) {
             Ok(schedule) => Ok(Evidence::Schedule(schedule)),
             Err(fault) => Err(fault),
         },
-        Kind::Refutation {
+        EvidenceKind::Refutation {
             version,
             variables,
             clauses,

@@ -19,7 +19,7 @@ pub use batch::{OWN, add_line, hint_of, no_lines};
 pub use codes::{NONE, code_of, literal_of, negated, number_at, variable_of};
 pub use marks::Marks;
 pub use moves::Moves;
-pub use store::{Store, Watching, bring_unset};
+pub use store::{ClauseArena, Watching, bring_unset};
 pub use trail::{Trail, Truth};
 pub use units::{unit_tags, with_reasons};
 pub use visiting::propagate;

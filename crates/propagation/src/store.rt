@@ -14,7 +14,7 @@ const BEST_GLUE: u32 = 2;
 /// Clauses, each as its length, its tag, its glue and its literals. A clause is named by the place where it begins.
 /// Where two literals are watched, they are the first two. The first ones may be made to stay for good.
 #[derive(Drop)]
-pub struct Store {
+pub struct ClauseArena {
     words: Vec<u32>,
     fixed: usize,
 }
@@ -70,10 +70,10 @@ fn watch_another(literals: &mut [u32], falsified: u32, trail: &Trail) -> Watchin
     Watching::Unit(first)
 }
 
-impl Store {
+impl ClauseArena {
     /// No clause.
-    pub fn new(alloc: Global) -> Store {
-        Store {
+    pub fn new(alloc: Global) -> ClauseArena {
+        ClauseArena {
             words: Vec::new(alloc),
             fixed: 0,
         }

@@ -2,7 +2,7 @@
 
 use crate::codes::variable_of;
 use crate::marks::Marks;
-use crate::store::Store;
+use crate::store::ClauseArena;
 use crate::trail::Trail;
 use std::alloc::{AllocError, Global};
 
@@ -15,7 +15,7 @@ fn mark_places(trail: &Trail, marks: &mut Marks, places: &[usize]) -> Result<(),
 
 /// Adds the places of the variables of a reason that aren't marked, and marks them.
 fn add_reason(
-    store: &Store,
+    store: &ClauseArena,
     trail: &Trail,
     marks: &mut Marks,
     places: &mut Vec<usize>,
@@ -34,7 +34,7 @@ fn add_reason(
 /// These places of level 0 and those of all that stand on the way to them, rising.
 pub fn with_reasons(
     alloc: Global,
-    store: &Store,
+    store: &ClauseArena,
     trail: &Trail,
     marks: &mut Marks,
     roots: &[usize],
@@ -56,7 +56,7 @@ pub fn with_reasons(
 /// The tags of the reasons of the other variables of this reason, and then its own.
 pub fn unit_tags(
     alloc: Global,
-    store: &Store,
+    store: &ClauseArena,
     trail: &Trail,
     clause: u32,
     code: u32,

@@ -14,7 +14,7 @@ use Rattle.prooflog.specs.Trims.{IsTrimmed}
 use Rattle.checker.proofs.Shorter.{refuted_trimmed}
 use Rattle.checker.specs.Verdicts.{IsNeverStuck, IsRefutedBy, Refutes, HasFormula}
 use Rattle.checker.proofs.Headlines.{refuted_are_never_stuck}
-use Rattle.pool.specs.States.{Held, IsAssembled}
+use Rattle.pool.specs.States.{PoolState, IsAssembled}
 use Rattle.prover.specs.declared.answer.Answer.{Answer}
 use Rattle.prover.specs.declared.answer.Answer.TheVariants as answers
 use Rattle.prover.specs.Answers.{CanFinish, FinishesIfUnknown}
@@ -29,7 +29,7 @@ refuted text evidence p claim is_text is_evidence by =
     (refuted_are_never_stuck text evidence refutes, refutes)
 
 -- what a pool assembles
-pub assembled : (held : Held) (evidence : Evidence) → IsOver held → IsAssembled held evidence → IsEvidenceOn held.program evidence
+pub assembled : (held : PoolState) (evidence : Evidence) → IsOver held → IsAssembled held evidence → IsEvidenceOn held.program evidence
 assembled held (Schedule steps) over is = is.1
 assembled held (Refutation claim) over is =
     record {
@@ -67,7 +67,7 @@ formula_made text p encoded is_text same formula within =
     }
 
 -- a pool over that program and that formula
-pub over_made : (p : MpiProgram) (encoded : EncodedProgram) (held : Held) → encoded.program ≡ p → encoded.formula ≡ formula_of p → HasFormula p
+pub over_made : (p : MpiProgram) (encoded : EncodedProgram) (held : PoolState) → encoded.program ≡ p → encoded.formula ≡ formula_of p → HasFormula p
     → held.program ≡ encoded.program → held.formula ≡ encoded.formula → IsOver held
 over_made p encoded held same formula within program kept =
     let is : held.program ≡ p = program ∙ same in

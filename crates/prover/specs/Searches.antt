@@ -12,7 +12,7 @@ use Rattle.checker.specs.Verdicts.{HasFormula, IsRefutedBy}
 use Rattle.pool.specs.declared.why.Why.{Why}
 use Rattle.pool.specs.declared.why.Why.TheVariants.{Memory, Left}
 use Rattle.pool.specs.Reasons.{IsSmallest, smaller_of}
-use Rattle.pool.specs.States.{Held}
+use Rattle.pool.specs.States.{PoolState}
 use Rattle.prover.specs.declared.answer.Answer.{Answer}
 use Rattle.prover.specs.declared.answer.Answer.TheVariants.{Unknown}
 
@@ -23,7 +23,7 @@ pub record IsFormulaOf (text : List ℕ) (encoded : EncodedProgram) : Type 0 whe
   pub within : HasFormula encoded.program
 
 -- the formula is the program's, and within the limits
-pub record IsOver (held : Held) : Type 0 where
+pub record IsOver (held : PoolState) : Type 0 where
   pub formula_is : held.formula ≡ formula_of held.program
   pub within : HasFormula held.program
 

@@ -10,7 +10,7 @@ use cubes::{CubeFault, split};
 use encode::Encoded;
 use pool::{Pool, Share, Why, smaller};
 use options::{Options, Searches};
-use sharedpool::{Cell, FinishFault, Room, Seat, SharedPool, Token, open_room};
+use sharedpool::{Cell, FinishFault, PoolName, Seat, SharedPool, Token, open_room};
 use std::alloc::{AllocError, Global};
 use std::marker::Brand;
 use std::sync::Wait;
@@ -19,11 +19,11 @@ use std::thread::Threads;
 use std::{mem, thread};
 use steal::{Supply, deal, settle_all};
 use trees::Tree;
-use workers::{Begun, ClosedStates, Common, EventCount, Exploring, Gate, KeptLines, open, work};
+use workers::{Opening, ClosedStates, SearchContext, EventCount, Exploring, Gate, KeptLines, open, work};
 
 /// What a worker's thread is handed.
 #[derive(Drop)]
-struct Station<B: Room> {
+struct WorkerPlace<B: PoolName> {
     seat: Seat<B>,
     supply: Supply,
 }
@@ -52,11 +52,11 @@ fn fill(supplies: &mut [Supply], cubes: &[u32]) -> Result<(), u32>
 }
 
 /// Each seat with a supply.
-fn paired<B: Room>(
+fn paired<B: PoolName>(
     alloc: Global,
     seats: Vec<Seat<B>>,
     supplies: Vec<Supply>,
-) -> Result<Vec<Station<B>>, AllocError>
+) -> Result<Vec<WorkerPlace<B>>, AllocError>
     requires { length seats.items ≡ length supplies.items }
     ensures { IfOk result (λ stations. map (λ s. s.supply) stations.items ≡ supplies.items) }
 {
@@ -66,18 +66,18 @@ fn paired<B: Room>(
         let Some(seat) = seats.next() else {
             unreachable!()
         };
-        stations.push(Station { seat, supply })?;
+        stations.push(WorkerPlace { seat, supply })?;
     }
     Ok(stations)
 }
 
 /// A station for each seat, with the cubes put in. A cube that has no room is want of memory.
-fn stations<B: Room>(
+fn stations<B: PoolName>(
     alloc: Global,
     seats: Vec<Seat<B>>,
     workers: u32,
     cubes: &[u32],
-) -> Result<Vec<Station<B>>, AllocError>
+) -> Result<Vec<WorkerPlace<B>>, AllocError>
     requires many { length seats.items ≡ workers }
     requires some { 1 ≤ workers }
     requires few { workers ≤ 64 }
@@ -91,11 +91,11 @@ fn stations<B: Room>(
 }
 
 /// Lets a worker work at its station.
-fn at_work<B: Room, G: Gate, R: Wait>(
+fn at_work<B: PoolName, G: Gate, R: Wait>(
     rt: &R,
     alloc: Global,
-    common: &Common<SharedPool<B>, G>,
-    station: &mut Station<B>,
+    common: &SearchContext<SharedPool<B>, G>,
+    station: &mut WorkerPlace<B>,
 ) -> Result<(), AllocError>
     ensures { deques_of station.new.supply ≡ deques_of station.old.supply }
 {
@@ -111,11 +111,11 @@ fn at_work<B: Room, G: Gate, R: Wait>(
 }
 
 /// Lets each worker work at its station. Answers whether each could note why it left.
-fn all_work<B: Room + Send + Sync, G: Gate + Sync, R: Threads + Wait + Sync>(
+fn all_work<B: PoolName + Send + Sync, G: Gate + Sync, R: Threads + Wait + Sync>(
     rt: &R,
     alloc: Global,
-    common: &Common<SharedPool<B>, G>,
-    stations: &mut [Station<B>],
+    common: &SearchContext<SharedPool<B>, G>,
+    stations: &mut [WorkerPlace<B>],
 ) -> bool
     ensures { map (λ s. deques_of s.supply) stations.new ≡ map (λ s. deques_of s.supply) stations.old }
 {
@@ -126,7 +126,7 @@ fn all_work<B: Room + Send + Sync, G: Gate + Sync, R: Threads + Wait + Sync>(
         rt,
         stations,
         threads,
-        &|_place, station: &mut Station<B>|
+        &|_place, station: &mut WorkerPlace<B>|
             ensures { deques_of station.new.supply ≡ deques_of station.old.supply }
         {
             if at_work(rt, alloc, common, station).is_err() {
@@ -138,16 +138,16 @@ fn all_work<B: Room + Send + Sync, G: Gate + Sync, R: Threads + Wait + Sync>(
 }
 
 /// Hands the seats back, settles all supplies, and answers too whether these could be settled.
-fn settled<B: Room>(
+fn settled<B: PoolName>(
     alloc: Global,
-    stations: Vec<Station<B>>,
+    stations: Vec<WorkerPlace<B>>,
 ) -> Result<(Vec<Seat<B>>, bool), AllocError>
     requires { AreDealt (map (λ s. deques_of s.supply) stations.items) }
 {
     let mut seats = Vec::new(alloc);
     let mut supplies = Vec::new(alloc);
     for station in stations {
-        let Station { seat, supply } = station;
+        let WorkerPlace { seat, supply } = station;
         seats.push(seat)?;
         supplies.push(supply)?;
     }
@@ -167,11 +167,11 @@ pub(crate) fn smallest_with(noted: Option<Why>, why: Why) -> Why
 
 /// The pool of a shared one and all its seats, and whether memory was wanting: for a worker that couldn't note why it left, or to
 /// settle the supplies. Where it is wanting before there is a pool, the smallest reason that is known.
-fn ended<B: Room, R: Wait>(
+fn ended<B: PoolName, R: Wait>(
     rt: &R,
     alloc: Global,
     shared: SharedPool<B>,
-    stations: Vec<Station<B>>,
+    stations: Vec<WorkerPlace<B>>,
     are_noted: bool,
 ) -> Result<(Pool, bool), Why>
     requires { AreDealt (map (λ s. deques_of s.supply) stations.items) }
@@ -199,25 +199,25 @@ fn exploring(options: Options) -> Exploring {
 }
 
 /// What is done before the workers begin, at the seat of worker 0.
-fn begun<B: Room, G: Gate, R: Wait>(
+fn begun<B: PoolName, G: Gate, R: Wait>(
     rt: &R,
     alloc: Global,
-    common: &Common<SharedPool<B>, G>,
+    common: &SearchContext<SharedPool<B>, G>,
     seats: &mut [Seat<B>],
     cubes: &[u32],
     options: Options,
-) -> Begun {
+) -> Opening {
     if options.searches() != Searches::All {
-        return Begun::nothing();
+        return Opening::nothing();
     }
     match seats.first_mut() {
         Some(seat) => open(rt, alloc, common, seat, cubes, options.workers()),
-        None => Begun::nothing(),
+        None => Opening::nothing(),
     }
 }
 
 /// A search in a room that has a name.
-fn search_in<B: Room + Send + Sync, G: Gate + Sync, R: Threads + Wait + Sync>(
+fn search_in<B: PoolName + Send + Sync, G: Gate + Sync, R: Threads + Wait + Sync>(
     rt: &R,
     alloc: Global,
     cell: Cell,
@@ -243,19 +243,19 @@ fn search_in<B: Room + Send + Sync, G: Gate + Sync, R: Threads + Wait + Sync>(
     let events = EventCount::new();
     let kept = KeptLines::new();
     let closed = ClosedStates::new(alloc);
-    let first = Common {
+    let first = SearchContext {
         encoded: &lent,
         shared: &shared,
         gate,
         events: &events,
         budget: options.budget(),
         exploring: exploring(options),
-        begun: Begun::nothing(),
+        begun: Opening::nothing(),
         kept: &kept,
         closed: &closed,
     };
     let begun = begun(rt, alloc, &first, seats.as_mut_slice(), cubes, options);
-    let common = Common { begun, ..first };
+    let common = SearchContext { begun, ..first };
     let Ok(mut stations) = stations(alloc, seats, workers, cubes) else {
         return Err(Why::Memory);
     };

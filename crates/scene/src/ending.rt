@@ -14,7 +14,7 @@ use crate::sizes::is_large;
 use balance::{Imbalance, imbalances};
 use callorder::LongProgram;
 use calltext::LongSource;
-use misses::{Part, misses_in, near_misses};
+use misses::{Mismatch, misses_in, near_misses};
 use semantics::{State, Step};
 use std::alloc::{AllocError, Global};
 use waits::{Standing, cycle, edges, fitting, operation_of, standing_of};
@@ -154,7 +154,7 @@ impl Scene<'_> {
     fn is_of_peer(&self, operation: usize, other: usize) -> bool {
         matches!(
             misses_in(self.program, operation, other),
-            Some(Part::Tag) | Some(Part::Communicator)
+            Some(Mismatch::Tag) | Some(Mismatch::Communicator)
         )
     }
 

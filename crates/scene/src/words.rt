@@ -1,13 +1,13 @@
 //! Words that several forms share.
 
-use misses::Part;
+use misses::Mismatch;
 
 /// What is another one than it would have to be, in a word.
-pub fn part_word(part: Part) -> &'static str {
+pub fn part_word(part: Mismatch) -> &'static str {
     match part {
-        Part::Destination => "destination",
-        Part::Communicator => "communicator",
-        Part::Source => "source",
-        Part::Tag => "tag",
+        Mismatch::Destination => "destination",
+        Mismatch::Communicator => "communicator",
+        Mismatch::Source => "source",
+        Mismatch::Tag => "tag",
     }
 }

@@ -15,7 +15,7 @@ use Rattle.session.specs.Runs.{SessionRun}
 use Rattle.session.specs.Several.{beside_each, beside_several}
 use Rattle.session.specs.Sweeping.{form_of_answer}
 use Rattle.session.specs.Unrolling.{no_way}
-use Rattle.session.specs.declared.told.Told.TheVariants as told
+use Rattle.session.specs.declared.told.Outcome.TheVariants as told
 use Rattle.session.proofs.DeadlockLines.{PageTells, deadlock_page, deadlock_printed, dimacs_untold, formula_untold, help_untold, line_tells, version_untold}
 use Rattle.session.proofs.Deadlocks.{check_shows, explained_shows, exported_checked, prove_shows, replayed_shows}
 use Rattle.session.proofs.MappedPages.{unmapped_told}

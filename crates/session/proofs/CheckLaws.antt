@@ -13,7 +13,7 @@ use Rattle.session.specs.CheckLaws.{CheckedDeadlockIsPrinted, CheckedDeadlockIsS
 use Rattle.session.specs.Lines.{IsLine, deadlock_line, no_deadlock_line, told_of_verdict, told_status}
 use Rattle.session.specs.Pages.{HasTextOfFormula, IsChecked, IsEither, IsEncoded, IsReplayPage, IsReplayed}
 use Rattle.session.specs.Runs.{PrintsAlone, by_file, by_memory, by_page}
-use Rattle.session.specs.declared.told.Told.TheVariants as told
+use Rattle.session.specs.declared.told.Outcome.TheVariants as told
 use Rattle.session.proofs.DeadlockLines.{one_told, safe_line, stuck_line, zero_told}
 use Rattle.session.proofs.Deadlocks.{all_are, check_never, check_shows, held_as_read, read_shows, refused_above, replayed_shows}
 use Rattle.session.proofs.TaskEnds.{task_ends}

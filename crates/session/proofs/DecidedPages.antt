@@ -11,7 +11,7 @@ use Rattle.deciding.specs.declared.texts.Undecided.{Undecided}
 use Rattle.deciding.specs.declared.texts.Undecided.TheVariants as undecided
 use Rattle.session.specs.Lines.{told_of_undecided, told_status}
 use Rattle.session.specs.Pages.{IsDecidedPage, IsWritten}
-use Rattle.session.specs.declared.told.Told.TheVariants as told
+use Rattle.session.specs.declared.told.Outcome.TheVariants as told
 use Rattle.session.proofs.DeadlockLines.{PageTells, PageTellsSafety, line_tells, line_tells_safety, race_untold, race_unsafe}
 use Rattle.session.proofs.Deadlocks.{all_are}
 

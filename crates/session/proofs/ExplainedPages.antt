@@ -17,7 +17,7 @@ use Rattle.prover.specs.Answers.{Answers, CanFinish, FinishesIfUnknown}
 use Rattle.prover.specs.declared.answer.Answer.{Answer}
 use Rattle.prover.specs.declared.answer.Answer.TheVariants as answers
 use Rattle.options.specs.declared.form.Form.{Form}
-use Rattle.session.specs.declared.told.Told.TheVariants as told
+use Rattle.session.specs.declared.told.Outcome.TheVariants as told
 use Rattle.session.specs.Explaining.{IsAnswerPage, IsDecidedFirst, IsDecisionExplained, IsExplainPage, is_object}
 use Rattle.session.proofs.DeadlockLines.{PageTells, line_tells, line_tells_safety, race_untold, sizes_untold}
 use Rattle.session.proofs.Deadlocks.{all_are, answer_finishes, explanation_decides, explanation_never, found_decides, found_never, found_shows, undecided_above, undecided_untold, unknown_differs, unknown_is_unsafe}

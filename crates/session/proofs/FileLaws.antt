@@ -16,7 +16,7 @@ use Rattle.reports.specs.declared.trimmed.Shortened.{Shortened}
 use Rattle.reports.specs.declared.trimmed.Untrimmed.{Untrimmed}
 use Rattle.reports.specs.declared.trimmed.Untrimmed.TheVariants as untrimmed
 use Rattle.reports.proofs.Shorter.{shortened_refutes}
-use Rattle.session.specs.declared.told.Told.TheVariants as told
+use Rattle.session.specs.declared.told.Outcome.TheVariants as told
 use Rattle.session.proofs.DeadlockLines.{PageTells, line_tells, lines_untold, one_told, unshrunk_untold}
 use Rattle.session.proofs.Deadlocks.{all_are, check_never, exported_checked, exported_proof, undecided_above, undecided_untold, refused_above, refused_differs, safe_differs}
 use Rattle.session.proofs.SmallerPrograms.{smaller_hangs}

@@ -18,7 +18,7 @@ use Rattle.session.specs.Pages.{ChangesAtMost, IsWritten}
 use Rattle.session.specs.PhaseLaws.{AskByPhases, CutsAreWritten, CutsStayInFolder, IsLeft, PhasesAreJoined}
 use Rattle.session.specs.Phasing.{IsCutPage, IsJoinedPage, IsPhasesPage, IsWrittenCut}
 use Rattle.session.specs.Runs.{PrintsAlone, SessionRun}
-use Rattle.session.specs.declared.told.Told.TheVariants as told
+use Rattle.session.specs.declared.told.Outcome.TheVariants as told
 use Rattle.session.proofs.DeadlockLines.{PageTells, PageTellsSafety, cut_untold, lacking_unsafe, lacking_untold, line_tells, line_tells_safety}
 use Rattle.session.proofs.Deadlocks.{all_are}
 use Rattle.session.proofs.DecidedPages.{not_safe, not_stuck, undecided_above}

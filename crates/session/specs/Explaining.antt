@@ -18,7 +18,7 @@ use Rattle.options.specs.declared.form.Form.TheVariants as forms
 use Rattle.reports.specs.Explanations.{Explains, IsRunDrawn, TellsSizes}
 use Rattle.reports.specs.declared.explained.Explained.{Explained}
 use Rattle.reports.specs.declared.explained.Explained.TheVariants as explanations
-use Rattle.session.specs.declared.told.Told.TheVariants as told
+use Rattle.session.specs.declared.told.Outcome.TheVariants as told
 use Rattle.session.specs.declared.page.Want.{Want}
 use Rattle.session.specs.declared.page.Want.TheVariants as want
 use Rattle.session.specs.Lines.{IsLine, Says, object_with, told_status}

@@ -24,7 +24,7 @@ use Rattle.session.specs.declared.by_phases.Shown.TheVariants as shows
 use Rattle.session.specs.declared.cut_files.Output.{Output}
 use Rattle.session.specs.declared.cut_files.Outputs.{Outputs}
 use Rattle.session.specs.declared.cut_files.Texts.{Texts}
-use Rattle.session.specs.declared.told.Told.TheVariants as told
+use Rattle.session.specs.declared.told.Outcome.TheVariants as told
 
 -- ---- what phases tell
 

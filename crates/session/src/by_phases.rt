@@ -13,7 +13,7 @@ use crate::commands::{Open, Stop};
 use crate::decide::{deadlock_page, decided, decision_page, read_whole};
 use crate::page::{Page, page_of, page_with};
 use crate::status::UNKNOWN;
-use crate::told::{Told, joined};
+use crate::told::{Outcome, joined};
 use checker::{NoRun, stuck_run_of};
 use command_line::{ToDecidePhases, ToJoin};
 use cutting::cut;
@@ -495,7 +495,7 @@ fn phases_page<'a, F: FileSet>(
         (F.held files.old) (F.held files.new)) }
 {
     match shown {
-        Ok(Shown::Never) => Ok(page_of(alloc, &Told::NoDeadlock, json)?),
+        Ok(Shown::Never) => Ok(page_of(alloc, &Outcome::NoDeadlock, json)?),
         Ok(Shown::Stuck(steps)) => deadlock_page(alloc, &steps, out, json, files),
         Err(Lack::Words(words)) => {
             let words = joined(alloc, "unknown phases", &words)?;

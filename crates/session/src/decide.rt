@@ -12,7 +12,7 @@ use crate::commands::{Stop, decided_page, read};
 use crate::page::{Page, page_of};
 use crate::racing::race_text;
 use crate::status::UNKNOWN;
-use crate::told::Told;
+use crate::told::Outcome;
 use calltext::read_long;
 use command_line::ToDecide;
 use deciding::{Decision, Race, Undecided, decide, decide_telling, schedule_text};
@@ -115,10 +115,10 @@ pub fn decision_line(
     ensures { IfOk result (λ page. IsDecisionPage json text.now decided.now page.text.items page.status) }
 {
     match decided {
-        Ok(Decision::NoDeadlock) => page_of(alloc, &Told::NoDeadlock, json),
-        Ok(Decision::Deadlock(_steps)) => page_of(alloc, &Told::Deadlock, json),
+        Ok(Decision::NoDeadlock) => page_of(alloc, &Outcome::NoDeadlock, json),
+        Ok(Decision::Deadlock(_steps)) => page_of(alloc, &Outcome::Deadlock, json),
         Ok(Decision::Race(race)) => race_page(alloc, text, *race, json),
-        Err(why) => page_of(alloc, &Told::from(*why), json),
+        Err(why) => page_of(alloc, &Outcome::from(*why), json),
     }
 }
 
@@ -130,7 +130,7 @@ pub fn deadlock_page<'a, F: FileSet>(
     json: bool,
     files: &mut F,
 ) -> Result<Page, Stop<'a>>
-    ensures line { IfOk result (λ page. IsLine Told.Deadlock json page.text.items page.status) }
+    ensures line { IfOk result (λ page. IsLine Outcome.Deadlock json page.text.items page.status) }
     ensures written { OnOk result (IsWritten F.tells_written (F.held files.old) (F.held files.new)
         (option_map (λ path. path.now) out.entry) (schedule_text steps.now)) }
     ensures others { ChangesAtMost (option_map (λ path. path.now) out.entry) (F.held files.old) (F.held files.new) }
@@ -139,9 +139,9 @@ pub fn deadlock_page<'a, F: FileSet>(
 {
     if out.is_some() {
         let schedule = Text::of(alloc, schedule_text(alloc, steps)?);
-        return decided_page(alloc, &Told::Deadlock, &schedule, out, json, files);
+        return decided_page(alloc, &Outcome::Deadlock, &schedule, out, json, files);
     }
-    Ok(page_of(alloc, &Told::Deadlock, json)?)
+    Ok(page_of(alloc, &Outcome::Deadlock, json)?)
 }
 
 /// The page of a race of the program of this text: the line that tells it, and the line of its

@@ -11,7 +11,7 @@ ghost use Rattle.session.specs.Pages.{IsEither, IsProgram, StopsBy};
 use crate::commands::{Open, PIECES, Stop, Texts, helped_page, is_object, read_both};
 use crate::decide::{race_page, read_whole};
 use crate::page::{Page, page_of};
-use crate::told::Told;
+use crate::told::Outcome;
 use calltext::Limits;
 use command_line::ToExplain;
 use deciding::{Decision, Race, Undecided, decide, schedule_text};
@@ -147,7 +147,7 @@ fn sizes_page(alloc: Global, text: &[u8], form: Form) -> Result<Page, AllocError
     ensures status { IfOk result (λ page. page.status ≡ 0) }
 {
     let text = explain_sizes(alloc, text, form)?;
-    let status = Told::NoDeadlock.status();
+    let status = Outcome::NoDeadlock.status();
     Ok(Page { text, status })
 }
 
@@ -165,7 +165,7 @@ fn run_page<R: Threads + Wait + Sync>(
 {
     let schedule = schedule_text(alloc, steps)?;
     let text = explain_run(rt, alloc, text, steps, &schedule, form)?;
-    let status = Told::Deadlock.status();
+    let status = Outcome::Deadlock.status();
     Ok(Page { text, status })
 }
 
@@ -199,7 +199,7 @@ fn answer_explained<R: Threads + Wait + Sync>(
     match answer {
         Answer::NoDeadlock(evidence) => found_page(rt, alloc, program, evidence, form),
         Answer::Deadlock(evidence) => found_page(rt, alloc, program, evidence, form),
-        Answer::Unknown(why) => page_of(alloc, &Told::Unknown(*why), is_object(form)),
+        Answer::Unknown(why) => page_of(alloc, &Outcome::Unknown(*why), is_object(form)),
         Answer::Refused(_reason) => race_page(alloc, program, race, is_object(form)),
     }
 }
@@ -217,11 +217,11 @@ fn found_page<R: Threads + Wait + Sync>(
     let evidence = evidence.joined(alloc)?;
     match explain_evidence(rt, alloc, program, &evidence, PIECES, &Open, form) {
         Explained::NoDeadlock(text) => {
-            let status = Told::NoDeadlock.status();
+            let status = Outcome::NoDeadlock.status();
             Ok(Page { text, status })
         }
         Explained::Deadlock(text) => {
-            let status = Told::Deadlock.status();
+            let status = Outcome::Deadlock.status();
             Ok(Page { text, status })
         }
         // An evidence that a search hands out is refused for want of memory alone.
@@ -262,11 +262,11 @@ fn explanation_page(
 {
     match explained {
         Explained::NoDeadlock(text) => {
-            let status = Told::NoDeadlock.status();
+            let status = Outcome::NoDeadlock.status();
             Ok(Page { text, status })
         }
         Explained::Deadlock(text) => {
-            let status = Told::Deadlock.status();
+            let status = Outcome::Deadlock.status();
             Ok(Page { text, status })
         }
         Explained::Refused(reason) => {

@@ -5,7 +5,7 @@ ghost use Rattle.session.specs.Pages.{ChangesAtMost, IsWritten, StopsBy};
 ghost use Rattle.session.specs.Unrolling.{ChangesAtMostTwo, IsFileOf, IsNamed};
 ghost use Rattle.shrinking.specs.Left.{AreLeft};
 ghost use Rattle.shrinking.specs.Mapping.{map_text};
-ghost use Rattle.shrinking.specs.Told.{left_text};
+ghost use Rattle.shrinking.specs.Outcome.{left_text};
 ghost use Rattle.session.specs.Shrinking.{AreWritten, IsBeyond, IsMadeSmaller, IsNotSmaller, IsShrinkFile, IsSmaller, IsSmallerPage, IsUnshrunkPage};
 
 use crate::commands::{Stop, write};
@@ -13,7 +13,7 @@ use crate::decide::read_whole;
 use crate::explained::undecided_page;
 use crate::page::Page;
 use crate::status::UNKNOWN;
-use crate::told::Told;
+use crate::told::Outcome;
 use command_line::ToShrink;
 use deciding::Undecided;
 use files::FileSet;
@@ -105,7 +105,7 @@ fn smaller_page<'a, F: FileSet>(
 {
     let places = left_map(alloc, asked.program, &shrunk.text, &shrunk.lines)?;
     let places = Text::of(alloc, places);
-    let status = Told::Deadlock.status();
+    let status = Outcome::Deadlock.status();
     match asked.out {
         None => {
             write_places(asked.map, &places, files)?;

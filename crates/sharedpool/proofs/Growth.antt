@@ -12,16 +12,16 @@ use Rattle.refutations.specs.Proofs.{ProofLine}
 use Rattle.refutations.specs.Refutations.{AreDerived}
 use Rattle.semantics.specs.declared.state.Step.{Step}
 use Rattle.semantics.specs.Machine.{IsStuckRun}
-use Rattle.pool.specs.declared.entry.Deed.{Deed}
-use Rattle.pool.specs.declared.entry.Deed.TheVariants.{Publish, Fetch, Close, Split, Found, Leave}
-use Rattle.pool.specs.declared.entry.Item.{Item}
+use Rattle.pool.specs.declared.entry.Operation.{Operation}
+use Rattle.pool.specs.declared.entry.Operation.TheVariants.{Publish, Fetch, Close, Split, Found, Leave}
+use Rattle.pool.specs.declared.entry.LoggedCall.{LoggedCall}
 use Rattle.pool.specs.declared.entry.PublishFault.{PublishFault}
 use Rattle.pool.specs.declared.entry.PublishFault.TheVariants.{NotDerived}
 use Rattle.pool.specs.declared.entry.FoundFault.{FoundFault}
 use Rattle.pool.specs.declared.entry.FoundFault.TheVariants.{Memory, NotStuck}
 use Rattle.pool.specs.Growth.{LosesNothing}
 use Rattle.pool.specs.Replies.{resolved_lines, FailsAt}
-use Rattle.pool.specs.States.{Held, Kept, IsSound, IsReply, IsRun, IsPublished, IsFound, after, after_deed, after_all}
+use Rattle.pool.specs.States.{PoolState, PoolWithHistory, IsSound, IsReply, IsRun, IsPublished, IsFound, after, after_deed, after_all}
 use Rattle.pool.proofs.Growth.{grows, grows_once, same_program, same_formula, lose_nothing}
 use Rattle.pool.proofs.Histories.{stay_sound}
 use Rattle.sharedpool.specs.Laws.{NothingSeenIsLost}
@@ -29,7 +29,7 @@ use Rattle.sharedpool.specs.Views.{items_of}
 use Rattle.sharedpool.specs.Seats.{Token, Chair, IsSeat, IsLocked, AreNoted, HoldsAt, AllHeld, HoldsOver, IsRefusedOver}
 use Rattle.sharedpool.proofs.Legal.{chair, holds_over}
 
-held_now : (h : Held) (deed : Deed) (lines more log : List ProofLine) (steps : List Step) → IsReply h deed lines steps → log ≡ (after_deed h deed lines steps).log ++ more → HoldsAt h.formula log deed lines
+held_now : (h : PoolState) (deed : Operation) (lines more log : List ProofLine) (steps : List Step) → IsReply h deed lines steps → log ≡ (after_deed h deed lines steps).log ++ more → HoldsAt h.formula log deed lines
 held_now h (Publish count (Ok base)) lines more log steps reply is = (h.log, more, is ∙ append_assoc h.log lines more, reply.1)
 held_now h (Publish count (Err fault)) lines more log steps reply is = tt
 held_now h (Fetch from (Ok count)) lines more log steps reply is = (more, ap (drop from) is ∙ drop-append-le from h.log more reply.0 ∙ ap (λ l. l ++ more) (sym reply.1))
@@ -39,7 +39,7 @@ held_now h (Split leaf variable reply') lines more log steps reply is = tt
 held_now h (Found count reply') lines more log steps reply is = tt
 held_now h (Leave why) lines more log steps reply is = tt
 
-all_held : (h : Held) (items : List Item) → IsRun h items → AllHeld h.formula (after_all h items).log items
+all_held : (h : PoolState) (items : List LoggedCall) → IsRun h items → AllHeld h.formula (after_all h items).log items
 all_held h [] run = tt
 all_held h (item ∷ items) run =
     let rest = grows (after h item) items in
@@ -48,19 +48,19 @@ all_held h (item ∷ items) run =
       subst (λ formula. AllHeld formula (after_all (after h item) items).log items) once.1 (all_held (after h item) items run.1),
     )
 
-held_if : (b : Bool) (formula : Conjunction) (log : List ProofLine) (item : Item) (items : List Item) → HoldsAt formula log item.entry.deed item.lines → AllHeld formula log items → AllHeld formula log (if b then item ∷ items else items)
+held_if : (b : Bool) (formula : Conjunction) (log : List ProofLine) (item : LoggedCall) (items : List LoggedCall) → HoldsAt formula log item.entry.deed item.lines → AllHeld formula log items → AllHeld formula log (if b then item ∷ items else items)
 held_if true formula log item items one rest = (one, rest)
 held_if false formula log item items one rest = rest
 
-mine_held : (worker : ℕ) (formula : Conjunction) (log : List ProofLine) (items : List Item) → AllHeld formula log items → AllHeld formula log (items_of worker items)
+mine_held : (worker : ℕ) (formula : Conjunction) (log : List ProofLine) (items : List LoggedCall) → AllHeld formula log items → AllHeld formula log (items_of worker items)
 mine_held worker formula log [] held = tt
 mine_held worker formula log (item ∷ items) held = held_if (item.entry.worker == worker) formula log item (items_of worker items) held.0 (mine_held worker formula log items held.1)
 
 -- a refused batch, over a derivation that holds the seat's lines
-pub refused_over : (opening : Held) (seat : Chair) (batch : List BatchLine) (place : ℕ) → IsSound opening → HoldsOver opening seat (λ h. IsPublished h batch (Err (NotDerived place))) → IsRefusedOver opening.formula seat.mine batch place
+pub refused_over : (opening : PoolState) (seat : Chair) (batch : List BatchLine) (place : ℕ) → IsSound opening → HoldsOver opening seat (λ h. IsPublished h batch (Err (NotDerived place))) → IsRefusedOver opening.formula seat.mine batch place
 refused_over opening seat batch place sound over =
-    let items : List Item = over.0 in
-    let h : Held = after_all opening items in
+    let items : List LoggedCall = over.0 in
+    let h : PoolState = after_all opening items in
     let same : h.formula ≡ opening.formula = same_formula opening items in
     let derived = (stay_sound opening items sound over.1).derived in (
       h.log,
@@ -70,7 +70,7 @@ refused_over opening seat batch place sound over =
     )
 
 -- the same at the call that was refused
-pub refused_call : (table : TableId) (opening : Held) (pool : Kept) (workers worker : ℕ) (keeper later seat after : Token) (item : Item) (batch : List BatchLine) (result : Result ℕ PublishFault)
+pub refused_call : (table : TableId) (opening : PoolState) (pool : PoolWithHistory) (workers worker : ℕ) (keeper later seat after : Token) (item : LoggedCall) (batch : List BatchLine) (result : Result ℕ PublishFault)
     → IsLocked table opening pool workers keeper → IsSeat table worker seat → AreNoted keeper later seat after item → IsPublished pool.held batch result
     → (place : ℕ) → result ≡ Err (NotDerived place) → IsRefusedOver opening.formula (cell_view seat).mine batch place
 refused_call table opening pool workers worker keeper later seat after item batch result locked sits noted_as reply place is =
@@ -80,20 +80,20 @@ refused_call table opening pool workers worker keeper later seat after item batc
 -- ---- what a seat is told
 
 -- one stands somewhere before the other
-abbrev AreInOrder : List Item → Item → Item → Type 0
+abbrev AreInOrder : List LoggedCall → LoggedCall → LoggedCall → Type 0
 AreInOrder items one later = (i : ℕ) × (j : ℕ) × (i < j) × (slice_get items i ≡ Some one) × (slice_get items j ≡ Some later)
 
-place_if : (b : Bool) (item later : Item) (kept items : List Item) (j : ℕ) → ((k : ℕ) → slice_get kept k ≡ Some later → (l : ℕ) × (slice_get items l ≡ Some later))
+place_if : (b : Bool) (item later : LoggedCall) (kept items : List LoggedCall) (j : ℕ) → ((k : ℕ) → slice_get kept k ≡ Some later → (l : ℕ) × (slice_get items l ≡ Some later))
     → slice_get (if b then item ∷ kept else kept) j ≡ Some later → (l : ℕ) × (slice_get (item ∷ items) l ≡ Some later)
 place_if true item later kept items zero rest there = (zero, there)
 place_if true item later kept items (suc j) rest there = let found = rest j there in (suc found.0, found.1)
 place_if false item later kept items j rest there = let found = rest j there in (suc found.0, found.1)
 
-place_of : (worker : ℕ) (items : List Item) (j : ℕ) (later : Item) → slice_get (items_of worker items) j ≡ Some later → (l : ℕ) × (slice_get items l ≡ Some later)
-place_of worker [] j later there = absurd (let told : ◌≡◌ {A = Option Item} None (Some later) = there in cc)
+place_of : (worker : ℕ) (items : List LoggedCall) (j : ℕ) (later : LoggedCall) → slice_get (items_of worker items) j ≡ Some later → (l : ℕ) × (slice_get items l ≡ Some later)
+place_of worker [] j later there = absurd (let told : ◌≡◌ {A = Option LoggedCall} None (Some later) = there in cc)
 place_of worker (item ∷ items) j later there = place_if (item.entry.worker == worker) item later (items_of worker items) items j (λ k at. place_of worker items k later at) there
 
-order_if : (b : Bool) (item one later : Item) (kept items : List Item) (i j : ℕ) → ((k : ℕ) → slice_get kept k ≡ Some later → (l : ℕ) × (slice_get items l ≡ Some later))
+order_if : (b : Bool) (item one later : LoggedCall) (kept items : List LoggedCall) (i j : ℕ) → ((k : ℕ) → slice_get kept k ≡ Some later → (l : ℕ) × (slice_get items l ≡ Some later))
     → ((k l : ℕ) → k < l → slice_get kept k ≡ Some one → slice_get kept l ≡ Some later → AreInOrder items one later)
     → i < j → slice_get (if b then item ∷ kept else kept) i ≡ Some one → slice_get (if b then item ∷ kept else kept) j ≡ Some later → AreInOrder (item ∷ items) one later
 order_if true item one later kept items i zero place rest low first second = absurd (omega arith)
@@ -110,15 +110,15 @@ order_if false item one later kept items i j place rest low first second =
     (suc found.0, suc found.1, omega (arith, higher), found.3, found.4)
 
 -- a worker's items keep their order
-order_of : (worker : ℕ) (items : List Item) (i j : ℕ) (one later : Item) → i < j → slice_get (items_of worker items) i ≡ Some one → slice_get (items_of worker items) j ≡ Some later → AreInOrder items one later
-order_of worker [] i j one later low first second = absurd (let told : ◌≡◌ {A = Option Item} None (Some one) = first in cc)
+order_of : (worker : ℕ) (items : List LoggedCall) (i j : ℕ) (one later : LoggedCall) → i < j → slice_get (items_of worker items) i ≡ Some one → slice_get (items_of worker items) j ≡ Some later → AreInOrder items one later
+order_of worker [] i j one later low first second = absurd (let told : ◌≡◌ {A = Option LoggedCall} None (Some one) = first in cc)
 order_of worker (item ∷ items) i j one later low first second =
     order_if (item.entry.worker == worker) item one later (items_of worker items) items i j
     (λ k at. place_of worker items k later at)
     (λ k l lower at next. order_of worker items k l one later lower at next)
     low first second
 
-mine_lose_nothing : (worker : ℕ) (formula : Conjunction) (items : List Item) → LosesNothing formula items → LosesNothing formula (items_of worker items)
+mine_lose_nothing : (worker : ℕ) (formula : Conjunction) (items : List LoggedCall) → LosesNothing formula items → LosesNothing formula (items_of worker items)
 mine_lose_nothing worker formula items none i j one later place from line low first second =
     let found = order_of worker items i j one later low first second in
     none found.0 found.1 one later place from line found.2 found.3 found.4
@@ -137,16 +137,16 @@ IsAnswered (Ok _) = Unit {0}
 IsAnswered (Err Memory) = ⊥
 IsAnswered (Err NotStuck) = Unit {0}
 
-abbrev FoundOver : Held → Chair → List Step → Result (Unit {0}) FoundFault → Type 0
+abbrev FoundOver : PoolState → Chair → List Step → Result (Unit {0}) FoundFault → Type 0
 FoundOver opening seat steps result = (result ≡ Err Memory → ⊥) → HoldsOver opening seat (λ h. IsFound h steps result)
 
-pub found_stuck : (opening : Held) (seat : Chair) (steps : List Step) (result : Result (Unit {0}) FoundFault) → FoundOver opening seat steps result → OnOk result (IsStuckRun opening.program steps)
+pub found_stuck : (opening : PoolState) (seat : Chair) (steps : List Step) (result : Result (Unit {0}) FoundFault) → FoundOver opening seat steps result → OnOk result (IsStuckRun opening.program steps)
 found_stuck opening seat steps (Ok u) over =
     let found = over (λ e. subst IsAnswered e tt) in
     subst (λ (p : MpiProgram). IsStuckRun p steps) (same_program opening found.0) found.3
 found_stuck opening seat steps (Err fault) over = tt
 
-pub found_not_stuck : (opening : Held) (seat : Chair) (steps : List Step) (result : Result (Unit {0}) FoundFault) → FoundOver opening seat steps result → result ≡ Err NotStuck → IsStuckRun opening.program steps → ⊥
+pub found_not_stuck : (opening : PoolState) (seat : Chair) (steps : List Step) (result : Result (Unit {0}) FoundFault) → FoundOver opening seat steps result → result ≡ Err NotStuck → IsStuckRun opening.program steps → ⊥
 found_not_stuck opening seat steps result over is stuck =
     let refused = subst (FoundOver opening seat steps) is over (λ e. subst IsAnswered e tt) in
     refused.3 (subst (λ (p : MpiProgram). IsStuckRun p steps) (sym (same_program opening refused.0)) stuck)

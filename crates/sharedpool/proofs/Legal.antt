@@ -6,8 +6,8 @@ use Rattle.std.specs.List.{count_by}
 use Rattle.atomic_table.specs.Seated.{TableId}
 use Rattle.crossbeam_utils.specs.Seq.{cell_view}
 use Rattle.pool.specs.declared.entry.Entry.{Entry}
-use Rattle.pool.specs.declared.entry.Item.{Item}
-use Rattle.pool.specs.States.{Held, Kept, after, after_all, noted, with_places, IsStep, IsRun, IsLegal}
+use Rattle.pool.specs.declared.entry.LoggedCall.{LoggedCall}
+use Rattle.pool.specs.States.{PoolState, PoolWithHistory, after, after_all, noted, with_places, IsStep, IsRun, IsLegal}
 use Rattle.sharedpool.specs.declared.room.View.{View}
 use Rattle.sharedpool.specs.Leaves.{leavers}
 use Rattle.sharedpool.specs.Views.{knower, taker, sitting, items_of}
@@ -16,30 +16,30 @@ use Rattle.sharedpool.proofs.Places.{leavers_more}
 
 -- ---- runs
 
-after_all_more : (h : Held) (items : List Item) (item : Item) → after_all h (items ++ item ∷ []) ≡ after (after_all h items) item
+after_all_more : (h : PoolState) (items : List LoggedCall) (item : LoggedCall) → after_all h (items ++ item ∷ []) ≡ after (after_all h items) item
 after_all_more h [] item = refl
 after_all_more h (x ∷ items) item = after_all_more (after h x) items item
 
-run_more : (h : Held) (items : List Item) (item : Item) → IsRun h items → IsStep (after_all h items) item → IsRun h (items ++ item ∷ [])
+run_more : (h : PoolState) (items : List LoggedCall) (item : LoggedCall) → IsRun h items → IsStep (after_all h items) item → IsRun h (items ++ item ∷ [])
 run_more h [] item run step = (step, tt)
 run_more h (x ∷ items) item run step = (run.0, run_more (after h x) items item run.1 step)
 
-legal_more : (opening : Held) (items : List Item) (item : Item) (k : Kept) → IsLegal opening items k → IsStep k.held item → IsLegal opening (items ++ item ∷ []) (noted k item)
+legal_more : (opening : PoolState) (items : List LoggedCall) (item : LoggedCall) (k : PoolWithHistory) → IsLegal opening items k → IsStep k.held item → IsLegal opening (items ++ item ∷ []) (noted k item)
 legal_more opening items item k legal step =
     record {
-      entries = ap (λ l. l ++ item.entry ∷ []) legal.entries ∙ sym (map-append (λ (i : Item). i.entry) items (item ∷ []));
+      entries = ap (λ l. l ++ item.entry ∷ []) legal.entries ∙ sym (map-append (λ (i : LoggedCall). i.entry) items (item ∷ []));
       run = run_more opening items item legal.run (subst (λ h. IsStep h item) legal.ends step);
       ends = ap (λ h. after h item) legal.ends ∙ sym (after_all_more opening items item);
     }
 
 -- how many places are kept is all the same to it
-legal_with : (opening : Held) (items : List Item) (k : Kept) (places : ℕ) → IsLegal opening items k → IsLegal opening items (with_places k places)
+legal_with : (opening : PoolState) (items : List LoggedCall) (k : PoolWithHistory) (places : ℕ) → IsLegal opening items k → IsLegal opening items (with_places k places)
 legal_with opening items k places legal = record { entries = legal.entries; run = legal.run; ends = legal.ends }
 
 -- ---- the lock and a seat after one call
 
 -- a keeper and a seat of one cell
-pub ready : (cell table : TableId) (opening : Held) (pool : Kept) (workers : ℕ) (keeper : Token) (worker : ℕ) (seat : Token) (item : Item)
+pub ready : (cell table : TableId) (opening : PoolState) (pool : PoolWithHistory) (workers : ℕ) (keeper : Token) (worker : ℕ) (seat : Token) (item : LoggedCall)
     → cell ≡ table → IsLocked table opening pool workers keeper → IsSeat table worker seat → item.entry.worker ≡ worker → AreReady cell keeper seat item
 ready cell table opening pool workers keeper worker seat item here locked sits is =
     record {
@@ -51,20 +51,20 @@ ready cell table opening pool workers keeper worker seat item here locked sits i
       worker = ap (λ (v : View). v.worker) sits.knows ∙ sym is;
     }
 
-abbrev pub chair : ℕ → List Item → Chair
+abbrev pub chair : ℕ → List LoggedCall → Chair
 chair worker mine = record { worker = worker; mine = mine }
 
 pub sits_as : (table : TableId) (worker : ℕ) (seat : Token) → IsSeat table worker seat → (cell_view seat).worker ≡ worker
 sits_as table worker seat sits = ap (λ (v : View). v.worker) sits.knows
 
 -- the lock's value after one call that is in the history, and after which so many places are kept
-pub locked_with : (table : TableId) (opening : Held) (old new : Kept) (workers : ℕ) (keeper later seat after : Token) (item : Item) (places : ℕ)
+pub locked_with : (table : TableId) (opening : PoolState) (old new : PoolWithHistory) (workers : ℕ) (keeper later seat after : Token) (item : LoggedCall) (places : ℕ)
     → IsLocked table opening old workers keeper → AreNoted keeper later seat after item → new ≡ noted (with_places old places) item → IsStep old.held item
     → workers ≤ places + leavers workers ((cell_view keeper).all ++ item ∷ []) → IsLocked table opening new workers later
 locked_with table opening old new workers keeper later seat after item places was noted_as grew step kept =
-    let items : List Item = (cell_view keeper).all in
+    let items : List LoggedCall = (cell_view keeper).all in
     let all : (cell_view later).all ≡ items ++ item ∷ [] = ap (λ (v : View). v.all) noted_as.all in
-    let before : Kept = with_places old places in
+    let before : PoolWithHistory = with_places old places in
     let legal : IsLegal opening (items ++ item ∷ []) (noted before item) = legal_more opening items item before (legal_with opening items old places was.legal) step in
     record {
       of = noted_as.keeper_of ∙ was.of;
@@ -74,22 +74,22 @@ locked_with table opening old new workers keeper later seat after item places wa
           ∙ ap (knower workers) (sym all);
       some_worker = was.some_worker;
       sound = was.sound;
-      legal = subst (λ (k : Kept). IsLegal opening (cell_view later).all k) (sym grew) (subst (λ (l : List Item). IsLegal opening l (noted before item)) (sym all) legal);
-      places = subst (λ (k : Kept). workers ≤ k.places + leavers workers (cell_view later).all) (sym grew) (subst (λ (l : List Item). workers ≤ places + leavers workers l) (sym all) kept);
+      legal = subst (λ (k : PoolWithHistory). IsLegal opening (cell_view later).all k) (sym grew) (subst (λ (l : List LoggedCall). IsLegal opening l (noted before item)) (sym all) legal);
+      places = subst (λ (k : PoolWithHistory). workers ≤ k.places + leavers workers (cell_view later).all) (sym grew) (subst (λ (l : List LoggedCall). workers ≤ places + leavers workers l) (sym all) kept);
     }
 
 -- the same where no place is taken
-pub locked_more : (table : TableId) (opening : Held) (old new : Kept) (workers : ℕ) (keeper later seat after : Token) (item : Item)
+pub locked_more : (table : TableId) (opening : PoolState) (old new : PoolWithHistory) (workers : ℕ) (keeper later seat after : Token) (item : LoggedCall)
     → IsLocked table opening old workers keeper → AreNoted keeper later seat after item → new ≡ noted old item → IsStep old.held item → IsLocked table opening new workers later
 locked_more table opening old new workers keeper later seat after item was noted_as grew step =
     locked_with table opening old new workers keeper later seat after item old.places was noted_as grew step
     (omega (arith, was.places, leavers_more workers (cell_view keeper).all item))
 
 -- the lock's value and a seat after their lists were compared
-pub locked_same : (table : TableId) (opening : Held) (pool : Kept) (workers : ℕ) (keeper later seat after : Token)
+pub locked_same : (table : TableId) (opening : PoolState) (pool : PoolWithHistory) (workers : ℕ) (keeper later seat after : Token)
     → IsLocked table opening pool workers keeper → AreMatched keeper later seat after → IsLocked table opening pool workers later
 locked_same table opening pool workers keeper later seat after was matched =
-    let items : List Item = (cell_view keeper).all in
+    let items : List LoggedCall = (cell_view keeper).all in
     let all : (cell_view later).all ≡ items = ap (λ (v : View). v.all) matched.all in
     record {
       of = matched.keeper_of ∙ was.of;
@@ -99,8 +99,8 @@ locked_same table opening pool workers keeper later seat after was matched =
           ∙ ap (knower workers) (sym all);
       some_worker = was.some_worker;
       sound = was.sound;
-      legal = subst (λ (l : List Item). IsLegal opening l pool) (sym all) was.legal;
-      places = subst (λ (l : List Item). workers ≤ pool.places + leavers workers l) (sym all) was.places;
+      legal = subst (λ (l : List LoggedCall). IsLegal opening l pool) (sym all) was.legal;
+      places = subst (λ (l : List LoggedCall). workers ≤ pool.places + leavers workers l) (sym all) was.places;
     }
 
 pub seat_same : (table : TableId) (worker : ℕ) (keeper later seat after : Token) → IsSeat table worker seat → AreMatched keeper later seat after → IsSeat table worker after
@@ -125,12 +125,12 @@ below_as seat told_seat shared told_shared one two below =
     subst (λ (s : Chair). s.worker < shared.workers) (sym one) (subst (λ (l : Shared). told_seat.worker < l.workers) (sym two) below)
 
 -- the seat after it
-pub seat_told : (worker : ℕ) (keeper later seat after : Token) (item : Item) → AreNoted keeper later seat after item
+pub seat_told : (worker : ℕ) (keeper later seat after : Token) (item : LoggedCall) → AreNoted keeper later seat after item
     → chair worker (cell_view after).mine ≡ told (chair worker (cell_view seat).mine) item
 seat_told worker keeper later seat after item noted_as = ap (λ (v : View). chair worker v.mine) noted_as.told
 
 -- what holds of the pool before the call holds over a run in which the seat's list is its worker's items
-pub holds_over : (table : TableId) (opening : Held) (pool : Kept) (workers worker : ℕ) (keeper later seat after : Token) (item : Item) (P : Held → Type 0)
+pub holds_over : (table : TableId) (opening : PoolState) (pool : PoolWithHistory) (workers worker : ℕ) (keeper later seat after : Token) (item : LoggedCall) (P : PoolState → Type 0)
     → IsLocked table opening pool workers keeper → IsSeat table worker seat → AreNoted keeper later seat after item → P pool.held → HoldsOver opening (chair worker (cell_view seat).mine) P
 holds_over table opening pool workers worker keeper later seat after item P locked sits noted_as holds = (
   (cell_view keeper).all,
@@ -141,13 +141,13 @@ holds_over table opening pool workers worker keeper later seat after item P lock
 
 -- ---- counts
 
-count_one : (b : Bool) (item : Item) (items : List Item) (n : ℕ) → length items ≡ n → length (if b then item ∷ items else items) ≡ cond b 1 0 + n
+count_one : (b : Bool) (item : LoggedCall) (items : List LoggedCall) (n : ℕ) → length items ≡ n → length (if b then item ∷ items else items) ≡ cond b 1 0 + n
 count_one true item items n is = omega (arith, is)
 count_one false item items n is = omega (arith, is)
 
 -- a worker's items are as many as its entries
-pub counted : (worker : ℕ) (items : List Item) → length (items_of worker items) ≡ count_by (λ (e : Entry). e.worker == worker) (map (λ (i : Item). i.entry) items)
+pub counted : (worker : ℕ) (items : List LoggedCall) → length (items_of worker items) ≡ count_by (λ (e : Entry). e.worker == worker) (map (λ (i : LoggedCall). i.entry) items)
 counted worker [] = refl
 counted worker (item ∷ items) =
     count_one (item.entry.worker == worker) item (items_of worker items) _ (counted worker items)
-    ∙ sym (sum_by-cons (λ (e : Entry). cond (e.worker == worker) 1 0) item.entry (map (λ (i : Item). i.entry) items))
+    ∙ sym (sum_by-cons (λ (e : Entry). cond (e.worker == worker) 1 0) item.entry (map (λ (i : LoggedCall). i.entry) items))

@@ -5,7 +5,7 @@ use mathlib.Core.Option.{some, some-ne-none, some-injective}
 use lib.ListN.{get_elem?}
 use Rattle.crossbeam_utils.specs.Register.{Turns, Forks, Merges}
 use Rattle.atomic_table.proofs.Lists.{at_set, set_again}
-use Rattle.pool.specs.declared.entry.Item.{Item}
+use Rattle.pool.specs.declared.entry.LoggedCall.{LoggedCall}
 use Rattle.sharedpool.specs.declared.room.View.{View}
 use Rattle.sharedpool.specs.Views.{items_of, AllBelow, IsNoneOf, AreDifferent, nobody, knower, taker, one_more, next_seat, with_seat, keeper_of, seat_of, with_item, Fits, Kept, Added, Looked, TakenBack}
 
@@ -20,29 +20,29 @@ same_test n = grind (arith, nat_tests)
 other_test : (n m : ℕ) → n ≢ m → (n == m) ≡ false
 other_test n m apart = grind (arith, nat_tests)
 
-if_push : (b : Bool) (x item : Item) (items : List Item) → (if b then x ∷ (items ++ item ∷ []) else (items ++ item ∷ [])) ≡ (if b then x ∷ items else items) ++ item ∷ []
+if_push : (b : Bool) (x item : LoggedCall) (items : List LoggedCall) → (if b then x ∷ (items ++ item ∷ []) else (items ++ item ∷ [])) ≡ (if b then x ∷ items else items) ++ item ∷ []
 if_push true x item items = refl
 if_push false x item items = refl
 
-pub items_of-mine : (worker : ℕ) (items : List Item) (item : Item) → item.entry.worker ≡ worker → items_of worker (items ++ item ∷ []) ≡ items_of worker items ++ item ∷ []
+pub items_of-mine : (worker : ℕ) (items : List LoggedCall) (item : LoggedCall) → item.entry.worker ≡ worker → items_of worker (items ++ item ∷ []) ≡ items_of worker items ++ item ∷ []
 items_of-mine worker [] item is = ap (λ b. if b then item ∷ [] else []) (ap (λ n. n == worker) is ∙ same_test worker)
 items_of-mine worker (x ∷ items) item is =
     ap (λ l. if x.entry.worker == worker then x ∷ l else l) (items_of-mine worker items item is) ∙ if_push (x.entry.worker == worker) x item (items_of worker items)
 
-pub items_of-other : (worker : ℕ) (items : List Item) (item : Item) → item.entry.worker ≢ worker → items_of worker (items ++ item ∷ []) ≡ items_of worker items
+pub items_of-other : (worker : ℕ) (items : List LoggedCall) (item : LoggedCall) → item.entry.worker ≢ worker → items_of worker (items ++ item ∷ []) ≡ items_of worker items
 items_of-other worker [] item apart = ap (λ b. if b then item ∷ [] else []) (other_test item.entry.worker worker apart)
 items_of-other worker (x ∷ items) item apart = ap (λ l. if x.entry.worker == worker then x ∷ l else l) (items_of-other worker items item apart)
 
-items_of-below : (worker : ℕ) (items : List Item) → AllBelow worker items → items_of worker items ≡ []
+items_of-below : (worker : ℕ) (items : List LoggedCall) → AllBelow worker items → items_of worker items ≡ []
 items_of-below worker [] below = refl
 items_of-below worker (x ∷ items) below =
     ap (λ b. if b then x ∷ items_of worker items else items_of worker items) (other_test x.entry.worker worker (λ e. omega (arith, below.0))) ∙ items_of-below worker items below.1
 
-below-push : (workers : ℕ) (items : List Item) (item : Item) → AllBelow workers items → item.entry.worker < workers → AllBelow workers (items ++ item ∷ [])
+below-push : (workers : ℕ) (items : List LoggedCall) (item : LoggedCall) → AllBelow workers items → item.entry.worker < workers → AllBelow workers (items ++ item ∷ [])
 below-push workers [] item below last = (last, tt)
 below-push workers (x ∷ items) item below last = (below.0, below-push workers items item below.1 last)
 
-below-more : (workers : ℕ) (items : List Item) → AllBelow workers items → AllBelow (workers + 1) items
+below-more : (workers : ℕ) (items : List LoggedCall) → AllBelow workers items → AllBelow (workers + 1) items
 below-more workers [] below = tt
 below-more workers (x ∷ items) below = (omega (arith, below.0), below-more workers items below.1)
 
@@ -70,7 +70,7 @@ all_snoc F views w old new j u e =
 
 -- moves
 
-fits_nobody : (keeper workers : ℕ) (all : List Item) (taken : List ℕ) (place : ℕ → ℕ) (by : ℕ) → Fits keeper workers all taken place by nobody
+fits_nobody : (keeper workers : ℕ) (all : List LoggedCall) (taken : List ℕ) (place : ℕ → ℕ) (by : ℕ) → Fits keeper workers all taken place by nobody
 fits_nobody keeper workers all taken place by = record { keeps = λ e. off e; sits = λ e. off e }
 
 pub begins : (words : List ℕ) → Kept words (knower 0 [] ∷ [])
@@ -142,7 +142,7 @@ joins by v other u keeps sits words views h at apart there =
           j x e away);
     }
 
-pub adds : (by : ℕ) (v : View) (item : Item) → v.keeps ≡ true → v.sits ≡ true → v.worker ≡ item.entry.worker → Turns Kept by v (λ x. x) (Added item)
+pub adds : (by : ℕ) (v : View) (item : LoggedCall) → v.keeps ≡ true → v.sits ≡ true → v.worker ≡ item.entry.worker → Turns Kept by v (λ x. x) (Added item)
 adds by v item keeps sits is words views h at =
     let k = (h.each by v at).keeps keeps in
     let s = (h.each by v at).sits sits in (

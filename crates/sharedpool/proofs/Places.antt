@@ -2,7 +2,7 @@
 use Rattle.std.proofs.Common.{◌≡◌, ◌≢◌, ⊎_elim, ℕ, zero, suc, ◌+◌, ◌<◌, ◌≤◌, ◌==◌, ◌&&◌, ◌||◌, Bool, true, false, true≢false, if◌then◌else◌, List, [], ◌∷◌, ◌++◌, map, refl, sym, ap, ◌∙◌, subst, arith}
 use Rattle.std.proofs.lemmas.Bool.{cases_eq, or_left, or_right}
 use Rattle.std.proofs.lemmas.List.Folds.{list_any-append}
-use Rattle.pool.specs.declared.entry.Item.{Item}
+use Rattle.pool.specs.declared.entry.LoggedCall.{LoggedCall}
 use Rattle.sharedpool.specs.Leaves.{is_leave, has_left, has_entry, leavers, places_after}
 use Rattle.sharedpool.specs.Views.{items_of}
 use Rattle.sharedpool.proofs.Moves.{items_of-mine, items_of-other}
@@ -19,36 +19,36 @@ bits_more false c more = omega arith
 bits_more true true more = omega arith
 bits_more true false more = absurd (true≢false (sym (more refl)))
 
-left_more : (items : List Item) (item : Item) → has_left items ≡ true → has_left (items ++ item ∷ []) ≡ true
+left_more : (items : List LoggedCall) (item : LoggedCall) → has_left items ≡ true → has_left (items ++ item ∷ []) ≡ true
 left_more items item is =
-    list_any-append (λ (i : Item). is_leave i.entry.deed) items (item ∷ []) ∙ or_left (has_left items) (has_left (item ∷ [])) is
+    list_any-append (λ (i : LoggedCall). is_leave i.entry.deed) items (item ∷ []) ∙ or_left (has_left items) (has_left (item ∷ [])) is
 
-left_now : (items : List Item) (item : Item) → is_leave item.entry.deed ≡ true → has_left (items ++ item ∷ []) ≡ true
+left_now : (items : List LoggedCall) (item : LoggedCall) → is_leave item.entry.deed ≡ true → has_left (items ++ item ∷ []) ≡ true
 left_now items item is =
-    list_any-append (λ (i : Item). is_leave i.entry.deed) items (item ∷ [])
+    list_any-append (λ (i : LoggedCall). is_leave i.entry.deed) items (item ∷ [])
     ∙ or_right (has_left items) (has_left (item ∷ [])) (or_left (is_leave item.entry.deed) false is)
 
 -- who left has left
-still_left : (worker : ℕ) (items : List Item) (item : Item) → has_left (items_of worker items) ≡ true → has_left (items_of worker (items ++ item ∷ [])) ≡ true
+still_left : (worker : ℕ) (items : List LoggedCall) (item : LoggedCall) → has_left (items_of worker items) ≡ true → has_left (items_of worker (items ++ item ∷ [])) ≡ true
 still_left worker items item is =
     ⊎_elim
     (λ (same : item.entry.worker ≡ worker). ap has_left (items_of-mine worker items item same) ∙ left_more (items_of worker items) item is)
     (λ (apart : item.entry.worker ≢ worker). ap has_left (items_of-other worker items item apart) ∙ is)
     (cases_eq item.entry.worker worker)
 
-bit_more : (worker : ℕ) (items : List Item) (item : Item) → bit (has_left (items_of worker items)) ≤ bit (has_left (items_of worker (items ++ item ∷ [])))
+bit_more : (worker : ℕ) (items : List LoggedCall) (item : LoggedCall) → bit (has_left (items_of worker items)) ≤ bit (has_left (items_of worker (items ++ item ∷ [])))
 bit_more worker items item = bits_more _ _ (still_left worker items item)
 
-pub leavers_more : (workers : ℕ) (items : List Item) (item : Item) → leavers workers items ≤ leavers workers (items ++ item ∷ [])
+pub leavers_more : (workers : ℕ) (items : List LoggedCall) (item : LoggedCall) → leavers workers items ≤ leavers workers (items ++ item ∷ [])
 leavers_more zero items item = omega arith
 leavers_more (suc worker) items item = omega (arith, bit_more worker items item, leavers_more worker items item)
 
-leavers_most : (workers : ℕ) (items : List Item) → leavers workers items ≤ workers
+leavers_most : (workers : ℕ) (items : List LoggedCall) → leavers workers items ≤ workers
 leavers_most zero items = omega arith
 leavers_most (suc worker) items = omega (arith, bit_most (has_left (items_of worker items)), leavers_most worker items)
 
 -- one of the workers did not leave
-leavers_below : (workers worker : ℕ) (items : List Item) → worker < workers → has_left (items_of worker items) ≡ false → leavers workers items < workers
+leavers_below : (workers worker : ℕ) (items : List LoggedCall) → worker < workers → has_left (items_of worker items) ≡ false → leavers workers items < workers
 leavers_below zero worker items low none = absurd (omega (arith, low))
 leavers_below (suc last) worker items low none =
     ⊎_elim
@@ -57,7 +57,7 @@ leavers_below (suc last) worker items low none =
     (cases_eq worker last)
 
 -- one more of the workers leaves
-leavers_strict : (workers worker : ℕ) (items : List Item) (item : Item)
+leavers_strict : (workers worker : ℕ) (items : List LoggedCall) (item : LoggedCall)
     → is_leave item.entry.deed ≡ true → item.entry.worker ≡ worker → worker < workers → has_left (items_of worker items) ≡ false
     → leavers workers items + 1 ≤ leavers workers (items ++ item ∷ [])
 leavers_strict zero worker items item leave is low none = absurd (omega (arith, low))
@@ -71,22 +71,22 @@ leavers_strict (suc last) worker items item leave is low none =
     (cases_eq worker last)
 
 -- a place is kept for a worker that did not leave
-pub place_kept : (workers worker places : ℕ) (items : List Item) → worker < workers → workers ≤ places + leavers workers items → has_left (items_of worker items) ≡ false → 1 ≤ places
+pub place_kept : (workers worker places : ℕ) (items : List LoggedCall) → worker < workers → workers ≤ places + leavers workers items → has_left (items_of worker items) ≡ false → 1 ≤ places
 place_kept workers worker places items low kept none = omega (arith, kept, leavers_below workers worker items low none)
 
 -- and after a leave one for each of the others that did not
-pub places_left : (workers worker places : ℕ) (items : List Item) (item : Item) (left : Bool)
+pub places_left : (workers worker places : ℕ) (items : List LoggedCall) (item : LoggedCall) (left : Bool)
     → is_leave item.entry.deed ≡ true → item.entry.worker ≡ worker → worker < workers → workers ≤ places + leavers workers items → has_left (items_of worker items) ≡ left
     → workers ≤ places_after left places + leavers workers (items ++ item ∷ [])
 places_left workers worker places items item true leave is low kept left = omega (arith, kept, leavers_more workers items item)
 places_left workers worker places items item false leave is low kept left =
     omega (arith, kept, place_kept workers worker places items low kept left, leavers_strict workers worker items item leave is low left)
 
-left_if : (mine : Bool) (item : Item) (rest : List Item) (left : Bool) → has_left rest ≡ left → has_left (if mine then item ∷ rest else rest) ≡ ((mine && is_leave item.entry.deed) || left)
+left_if : (mine : Bool) (item : LoggedCall) (rest : List LoggedCall) (left : Bool) → has_left rest ≡ left → has_left (if mine then item ∷ rest else rest) ≡ ((mine && is_leave item.entry.deed) || left)
 left_if true item rest left is = ap (λ b. is_leave item.entry.deed || b) is
 left_if false item rest left is = is
 
 -- a worker's items tell as much of it as all entries
-pub left_as : (worker : ℕ) (items : List Item) → has_left (items_of worker items) ≡ has_entry worker (map (λ (i : Item). i.entry) items)
+pub left_as : (worker : ℕ) (items : List LoggedCall) → has_left (items_of worker items) ≡ has_entry worker (map (λ (i : LoggedCall). i.entry) items)
 left_as worker [] = refl
 left_as worker (item ∷ items) = left_if (item.entry.worker == worker) item (items_of worker items) _ (left_as worker items)

@@ -11,7 +11,7 @@ use Rattle.clauses.specs.Clauses.{Conjunction}
 use Rattle.pages.proofs.Joined.{slice_get-front, slice_get-back}
 use Rattle.refutations.specs.Proofs.{ProofLine}
 use Rattle.semantics.specs.declared.state.Step.{Step}
-use Rattle.pool.specs.declared.entry.Item.{Item}
+use Rattle.pool.specs.declared.entry.LoggedCall.{LoggedCall}
 use Rattle.pool.specs.declared.entry.PublishFault.{PublishFault}
 use Rattle.pool.specs.declared.entry.FetchFault.{FetchFault}
 use Rattle.pool.specs.declared.entry.CloseFault.{CloseFault}
@@ -25,7 +25,7 @@ use Rattle.pool.specs.declared.entry.FoundFault.TheVariants as found
 use Rattle.pool.specs.declared.why.Why.{Why}
 use Rattle.pool.specs.Replies.{resolved_lines, DeriveAfter}
 use Rattle.pool.specs.Moves.{number_after}
-use Rattle.pool.specs.States.{Held, Kept, next_number, fetch_item}
+use Rattle.pool.specs.States.{PoolState, PoolWithHistory, next_number, fetch_item}
 use Rattle.pool.proofs.Growth.{same_formula, told_stands, begins_with}
 use Rattle.pool.proofs.Moves.{batches_move}
 use Rattle.sharedpool.specs.Views.{items_of}
@@ -34,7 +34,7 @@ use Rattle.sharedpool.specs.Told.{IsTold, GoesOn, IsDerivedFrom}
 
 -- ---- a longer list
 
-pub told_more : (f : Conjunction) (mine more : List Item) (view : List ProofLine) → IsTold f mine view → IsTold f (mine ++ more) view
+pub told_more : (f : Conjunction) (mine more : List LoggedCall) (view : List ProofLine) → IsTold f mine view → IsTold f (mine ++ more) view
 told_more f mine more view told place line there =
     let t = told place line there in
     (t.0, t.1, slice_get-front mine more t.0 (slice_get_within mine t.0 t.1 t.2) ∙ t.2, t.3)
@@ -70,33 +70,33 @@ told_left f seat after why (Err _) view left same told = subst (λ (s : Chair). 
 
 -- ---- the log
 
-in_all : (b : Bool) (x : Item) (mine items : List Item) (i : ℕ) (item : Item) → ((k : ℕ) → slice_get mine k ≡ Some item → (j : ℕ) × (slice_get items j ≡ Some item))
+in_all : (b : Bool) (x : LoggedCall) (mine items : List LoggedCall) (i : ℕ) (item : LoggedCall) → ((k : ℕ) → slice_get mine k ≡ Some item → (j : ℕ) × (slice_get items j ≡ Some item))
     → slice_get (if b then x ∷ mine else mine) i ≡ Some item → (j : ℕ) × (slice_get (x ∷ items) j ≡ Some item)
 in_all true x mine items zero item rest there = (0, there)
 in_all true x mine items (suc i) item rest there = let r = rest i there in (suc r.0, r.1)
 in_all false x mine items i item rest there = let r = rest i there in (suc r.0, r.1)
 
 -- a worker's item is one of all items
-item_of_all : (worker : ℕ) (items : List Item) (i : ℕ) (item : Item) → slice_get (items_of worker items) i ≡ Some item → (j : ℕ) × (slice_get items j ≡ Some item)
-item_of_all worker [] i item there = absurd (let told : ◌≡◌ {A = Option Item} None (Some item) = there in cc)
+item_of_all : (worker : ℕ) (items : List LoggedCall) (i : ℕ) (item : LoggedCall) → slice_get (items_of worker items) i ≡ Some item → (j : ℕ) × (slice_get items j ≡ Some item)
+item_of_all worker [] i item there = absurd (let told : ◌≡◌ {A = Option LoggedCall} None (Some item) = there in cc)
 item_of_all worker (x ∷ items) i item there = in_all (x.entry.worker == worker) x (items_of worker items) items i item (λ k at. item_of_all worker items k item at) there
 
 -- the log begins with what a seat was told
-pub log_begins : (table : TableId) (opening : Held) (pool : Kept) (workers : ℕ) (keeper : Token) (worker : ℕ) (mine : List Item) (view : List ProofLine) → IsLocked table opening pool workers keeper
+pub log_begins : (table : TableId) (opening : PoolState) (pool : PoolWithHistory) (workers : ℕ) (keeper : Token) (worker : ℕ) (mine : List LoggedCall) (view : List ProofLine) → IsLocked table opening pool workers keeper
     → mine ≡ items_of worker (cell_view keeper).all → IsTold opening.formula mine view → pool.held.log ≡ view ++ drop (length view) pool.held.log
 log_begins table opening pool workers keeper worker mine view locked is told =
     begins_with view pool.held.log (λ place line there.
     let t = told place line there in
-    let found = item_of_all worker (cell_view keeper).all t.0 t.1 (ap (λ (l : List Item). slice_get l t.0) (sym is) ∙ t.2) in
-    ap (λ (h : Held). slice_get h.log place) locked.legal.ends ∙ told_stands opening (cell_view keeper).all t.1 found.0 place line locked.legal.run found.1 t.3)
+    let found = item_of_all worker (cell_view keeper).all t.0 t.1 (ap (λ (l : List LoggedCall). slice_get l t.0) (sym is) ∙ t.2) in
+    ap (λ (h : PoolState). slice_get h.log place) locked.legal.ends ∙ told_stands opening (cell_view keeper).all t.1 found.0 place line locked.legal.run found.1 t.3)
 
 -- a batch that derives from what a seat was told derives from the log
-pub derived_behind : (table : TableId) (opening : Held) (pool : Kept) (workers : ℕ) (keeper : Token) (worker : ℕ) (mine : List Item) (view : List ProofLine) (batch : List BatchLine) → IsLocked table opening pool workers keeper
+pub derived_behind : (table : TableId) (opening : PoolState) (pool : PoolWithHistory) (workers : ℕ) (keeper : Token) (worker : ℕ) (mine : List LoggedCall) (view : List ProofLine) (batch : List BatchLine) → IsLocked table opening pool workers keeper
     → mine ≡ items_of worker (cell_view keeper).all → IsTold opening.formula mine view → IsDerivedFrom opening.formula view batch
     → DeriveAfter pool.held.formula pool.held.log (resolved_lines (next_number pool.held) batch)
 derived_behind table opening pool workers keeper worker mine view batch locked is told derived =
     let begins = log_begins table opening pool workers keeper worker mine view locked is told in
-    let same : pool.held.formula ≡ opening.formula = ap (λ (h : Held). h.formula) locked.legal.ends ∙ same_formula opening (cell_view keeper).all in
+    let same : pool.held.formula ≡ opening.formula = ap (λ (h : PoolState). h.formula) locked.legal.ends ∙ same_formula opening (cell_view keeper).all in
     let moved = batches_move opening.formula view (drop (length view) pool.held.log) batch derived.0 derived.1 in
     subst (λ (f : Conjunction). DeriveAfter f pool.held.log (resolved_lines (number_after f pool.held.log) batch)) (sym same)
     (subst (λ (l : List ProofLine). DeriveAfter opening.formula l (resolved_lines (number_after opening.formula l) batch)) (sym begins) moved)
@@ -109,9 +109,9 @@ both_some A B (Some x) one two = (one, two)
 -- ---- a fetch
 
 -- a seat that was told what stands before a place, and by an answer what stands from there on
-told_on : (f : Conjunction) (mine : List Item) (worker from : ℕ) (lines view : List ProofLine) → IsTold f mine view → from ≤ length view → IsTold f (mine ++ fetch_item worker from (Ok lines) ∷ []) (take from view ++ lines)
+told_on : (f : Conjunction) (mine : List LoggedCall) (worker from : ℕ) (lines view : List ProofLine) → IsTold f mine view → from ≤ length view → IsTold f (mine ++ fetch_item worker from (Ok lines) ∷ []) (take from view ++ lines)
 told_on f mine worker from lines view told low place line there =
-    let item : Item = fetch_item worker from (Ok lines) in
+    let item : LoggedCall = fetch_item worker from (Ok lines) in
     let front : length (take from view) ≡ from = omega (arith, length-take from view, low) in
     ⊎_elim
     (λ (before : place < from).
@@ -135,7 +135,7 @@ told_still f seat from (Err fetch.PastEnd) view told = told_more f seat.mine _ v
 -- what a seat was told after a fetch
 pub told_fetched : (f : Conjunction) (seat : Chair) (from : ℕ) (reply : Result (List ProofLine) FetchFault) (view after : List ProofLine) → IsTold f seat.mine view → GoesOn view from reply after → IsTold f (told_fetch seat from reply).mine after
 told_fetched f seat from reply view after told goes =
-    let mine : List Item = (told_fetch seat from reply).mine in
+    let mine : List LoggedCall = (told_fetch seat from reply).mine in
     ⊎_elim
     (λ (same : after ≡ view). subst (IsTold f mine) (sym same) (told_still f seat from reply view told))
     (λ (on : (lines : List ProofLine) × (reply ≡ Ok lines) × (from ≤ length view) × (after ≡ take from view ++ lines)).

@@ -1,11 +1,11 @@
 -- What holds once all seats were handed back.
 use Rattle.std.specs.Prelude.{ℕ, List, All}
 use Rattle.pool.specs.Growth.{LosesNothing}
-use Rattle.pool.specs.States.{Held, Kept}
+use Rattle.pool.specs.States.{PoolState, PoolWithHistory}
 use Rattle.sharedpool.specs.Seats.{Chair, IsFinished}
 
 -- in each seat's list each accepted fetch tells every line past its start that the seat had published or been told before
 abbrev pub NothingSeenIsLost : Type 0
 NothingSeenIsLost =
-    (opening : Held) (seats : List Chair) (pool : Kept) (counts : List ℕ) → IsFinished opening seats pool counts
+    (opening : PoolState) (seats : List Chair) (pool : PoolWithHistory) (counts : List ℕ) → IsFinished opening seats pool counts
     → All (λ (seat : Chair). LosesNothing opening.formula seat.mine) seats

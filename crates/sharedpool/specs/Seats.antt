@@ -10,9 +10,9 @@ use Rattle.clauses.specs.Clauses.{Conjunction}
 use Rattle.refutations.specs.Proofs.{ProofLine}
 use Rattle.refutations.specs.Refutations.{AreDerived}
 use Rattle.semantics.specs.declared.state.Step.{Step}
-use Rattle.pool.specs.declared.entry.Deed.{Deed}
-use Rattle.pool.specs.declared.entry.Deed.TheVariants.{Publish, Fetch, Close, Split, Found, Leave}
-use Rattle.pool.specs.declared.entry.Item.{Item}
+use Rattle.pool.specs.declared.entry.Operation.{Operation}
+use Rattle.pool.specs.declared.entry.Operation.TheVariants.{Publish, Fetch, Close, Split, Found, Leave}
+use Rattle.pool.specs.declared.entry.LoggedCall.{LoggedCall}
 use Rattle.pool.specs.declared.entry.PublishFault.{PublishFault}
 use Rattle.pool.specs.declared.entry.FetchFault.{FetchFault}
 use Rattle.pool.specs.declared.entry.CloseFault.{CloseFault}
@@ -25,7 +25,7 @@ use Rattle.pool.specs.declared.entry.SplitFault.TheVariants as split
 use Rattle.pool.specs.declared.entry.FoundFault.TheVariants as found
 use Rattle.pool.specs.declared.why.Why.{Why}
 use Rattle.pool.specs.Replies.{resolved_lines, FailsAt}
-use Rattle.pool.specs.States.{Held, Kept, IsSound, IsLegal, IsRun, after_all, publish_item, fetch_item, close_item, split_item, found_item, leave_item}
+use Rattle.pool.specs.States.{PoolState, PoolWithHistory, IsSound, IsLegal, IsRun, after_all, publish_item, fetch_item, close_item, split_item, found_item, leave_item}
 use Rattle.sharedpool.specs.declared.room.View.{View}
 use Rattle.sharedpool.specs.Leaves.{leavers}
 use Rattle.sharedpool.specs.Views.{knower, taker, sitting, items_of, AllBelow, AreDifferent}
@@ -36,13 +36,13 @@ Token = Seat (List ℕ) (Doing (List ℕ) View)
 -- a seat: its worker, and the items of its calls in order
 pub record Chair : Type 0 where
   pub worker : ℕ
-  pub mine : List Item
+  pub mine : List LoggedCall
 
 -- what is under the lock: the pool, how many seats were made, and the items of all calls in order
 pub record Shared : Type 0 where
-  pub pool : Kept
+  pub pool : PoolWithHistory
   pub workers : ℕ
-  pub items : List Item
+  pub items : List LoggedCall
 
 -- the pass is one of this cell, and its list is that of this worker
 pub record IsSeat (table : TableId) (worker : ℕ) (pass : Token) : Type 0 where
@@ -52,7 +52,7 @@ pub record IsSeat (table : TableId) (worker : ℕ) (pass : Token) : Type 0 where
 
 -- The keeper's items are the history of the pool, which goes from the opening pool to this one. A place is kept for each worker
 -- that has not left
-pub record IsLocked (table : TableId) (opening : Held) (pool : Kept) (workers : ℕ) (keeper : Token) : Type 0 where
+pub record IsLocked (table : TableId) (opening : PoolState) (pool : PoolWithHistory) (workers : ℕ) (keeper : Token) : Type 0 where
   pub of : keeper.table_id ≡ table
   pub knows : cell_view keeper ≡ knower workers (cell_view keeper).all
   pub some_worker : 1 ≤ workers
@@ -61,7 +61,7 @@ pub record IsLocked (table : TableId) (opening : Held) (pool : Kept) (workers : 
   pub places : workers ≤ pool.places + leavers workers (cell_view keeper).all
 
 -- a keeper and the seat of the item's worker, both of this cell
-pub record AreReady (table : TableId) (keeper seat : Token) (item : Item) : Type 0 where
+pub record AreReady (table : TableId) (keeper seat : Token) (item : LoggedCall) : Type 0 where
   pub keeper_of : keeper.table_id ≡ table
   pub seat_of : seat.table_id ≡ table
   pub free : seat.me.1 ≡ []
@@ -80,7 +80,7 @@ pub record AreMatched (keeper keeper_after seat seat_after : Token) : Type 0 whe
   pub below : (cell_view seat).worker < (cell_view keeper).workers
 
 -- the item is added to the lists of a keeper and of a seat, which was its worker's items so far
-pub record AreNoted (keeper keeper_after seat seat_after : Token) (item : Item) : Type 0 where
+pub record AreNoted (keeper keeper_after seat seat_after : Token) (item : LoggedCall) : Type 0 where
   pub keeper_of : keeper_after.table_id ≡ keeper.table_id
   pub seat_of : seat_after.table_id ≡ seat.table_id
   pub free : seat_after.me.1 ≡ []
@@ -91,7 +91,7 @@ pub record AreNoted (keeper keeper_after seat seat_after : Token) (item : Item) 
 -- ---- the seat after each call. Want of memory leaves it as it was
 
 -- the seat after a call that is in the history
-abbrev pub told : Chair → Item → Chair
+abbrev pub told : Chair → LoggedCall → Chair
 told seat item = record seat { mine = seat.mine ++ item ∷ [] }
 
 abbrev pub told_publish : Chair → List BatchLine → Result ℕ PublishFault → Chair
@@ -131,11 +131,11 @@ told_leave seat why = told seat (leave_item seat.worker why)
 
 -- some calls with replies that may be given lead from the opening pool to one of which this holds, and those of this
 -- seat's worker among them are, in order, the seat's list
-abbrev pub HoldsOver : Held → Chair → (Held → Type 0) → Type 0
-HoldsOver opening seat holds = (items : List Item) × IsRun opening items × (seat.mine ≡ items_of seat.worker items) × holds (after_all opening items)
+abbrev pub HoldsOver : PoolState → Chair → (PoolState → Type 0) → Type 0
+HoldsOver opening seat holds = (items : List LoggedCall) × IsRun opening items × (seat.mine ≡ items_of seat.worker items) × holds (after_all opening items)
 
 -- the log holds the lines of one call at their place
-abbrev pub HoldsAt : Conjunction → List ProofLine → Deed → List ProofLine → Type 0
+abbrev pub HoldsAt : Conjunction → List ProofLine → Operation → List ProofLine → Type 0
 HoldsAt formula log (Publish count (Ok base)) lines =
     (before after : List ProofLine) × (log ≡ before ++ (lines ++ after)) × (base ≡ length formula.clauses + length before + 1)
 HoldsAt formula log (Publish count (Err fault)) lines = Unit {0}
@@ -147,13 +147,13 @@ HoldsAt formula log (Found count reply) lines = Unit {0}
 HoldsAt formula log (Leave why) lines = Unit {0}
 
 -- the log holds the lines of all these calls
-abbrev pub AllHeld : Conjunction → List ProofLine → List Item → Type 0
+abbrev pub AllHeld : Conjunction → List ProofLine → List LoggedCall → Type 0
 AllHeld formula log [] = Unit {0}
 AllHeld formula log (item ∷ items) = HoldsAt formula log item.entry.deed item.lines × AllHeld formula log items
 
 -- over a derivation from the formula that holds all lines of the seat's list, the batch's line at this place is the
 -- first that doesn't derive
-abbrev pub IsRefusedOver : Conjunction → List Item → List BatchLine → ℕ → Type 0
+abbrev pub IsRefusedOver : Conjunction → List LoggedCall → List BatchLine → ℕ → Type 0
 IsRefusedOver formula mine batch place =
     (log : List ProofLine) × AreDerived formula log × AllHeld formula log mine
     × FailsAt formula log (resolved_lines (length formula.clauses + length log + 1) batch) place
@@ -170,8 +170,8 @@ workers_of seats = map (λ (seat : Chair). seat.worker) seats
 
 -- There is one legal history. Its items of each worker, in order, are that worker's seat's list, and there are no others. Each
 -- worker has one of the seats, whichever order they stand in. The counts are how many entries each worker has
-pub record IsFinished (opening : Held) (seats : List Chair) (pool : Kept) (counts : List ℕ) : Type 0 where
-  pub items : List Item
+pub record IsFinished (opening : PoolState) (seats : List Chair) (pool : PoolWithHistory) (counts : List ℕ) : Type 0 where
+  pub items : List LoggedCall
   pub legal : IsLegal opening items pool
   pub different : AreDifferent (workers_of seats)
   pub below : All (λ (seat : Chair). seat.worker < length seats) seats

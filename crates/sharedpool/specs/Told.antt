@@ -4,14 +4,14 @@ use Rattle.batches.specs.declared.BatchLine.{BatchLine}
 use Rattle.clauses.specs.Clauses.{Conjunction}
 use Rattle.refutations.specs.Proofs.{ProofLine}
 use Rattle.pool.specs.declared.entry.FetchFault.{FetchFault}
-use Rattle.pool.specs.declared.entry.Item.{Item}
+use Rattle.pool.specs.declared.entry.LoggedCall.{LoggedCall}
 use Rattle.pool.specs.Growth.{Tells}
 use Rattle.pool.specs.Moves.{are_earlier, number_after}
 use Rattle.pool.specs.Replies.{resolved_lines, DeriveAfter}
 
 -- each line of the view was published or told by one of these items
-abbrev pub IsTold : Conjunction → List Item → List ProofLine → Type 0
-IsTold formula mine view = (place : ℕ) (line : ProofLine) → slice_get view place ≡ Some line → (i : ℕ) × (item : Item) × (slice_get mine i ≡ Some item) × Tells formula item place line
+abbrev pub IsTold : Conjunction → List LoggedCall → List ProofLine → Type 0
+IsTold formula mine view = (place : ℕ) (line : ProofLine) → slice_get view place ≡ Some line → (i : ℕ) × (item : LoggedCall) × (slice_get mine i ≡ Some item) × Tells formula item place line
 
 -- what was told before a fetch, and after it: the same, or the lines before the place that it was asked from and then those of its answer
 abbrev pub GoesOn : List ProofLine → ℕ → Result (List ProofLine) FetchFault → List ProofLine → Type 0

@@ -3,16 +3,16 @@
 use Rattle.std.specs.Prelude.{◌≡◌, ◌≢◌, ℕ, ◌+◌, ◌<◌, ◌==◌, true, false, if◌then◌else◌, List, [], ◌∷◌, ◌++◌}
 use mathlib.Core.Option.{some}
 use lib.ListN.{get_elem?}
-use Rattle.pool.specs.declared.entry.Item.{Item}
+use Rattle.pool.specs.declared.entry.LoggedCall.{LoggedCall}
 use Rattle.sharedpool.specs.declared.room.View.{View}
 
 -- the items of one worker, in order
-abbrev pub items_of : ℕ → List Item → List Item
+abbrev pub items_of : ℕ → List LoggedCall → List LoggedCall
 items_of worker [] = []
 items_of worker (item ∷ items) = if item.entry.worker == worker then item ∷ items_of worker items else items_of worker items
 
 -- each item is of a worker below this number
-abbrev pub AllBelow : ℕ → List Item → Type 0
+abbrev pub AllBelow : ℕ → List LoggedCall → Type 0
 AllBelow workers [] = Unit {0}
 AllBelow workers (item ∷ items) = (item.entry.worker < workers) × AllBelow workers items
 
@@ -30,10 +30,10 @@ abbrev pub nobody : View
 nobody = record { keeps = false; workers = 0; all = []; taken = []; sits = false; worker = 0; mine = [] }
 
 -- the keeper, after so many seats were made
-abbrev pub knower : ℕ → List Item → View
+abbrev pub knower : ℕ → List LoggedCall → View
 knower workers all = record nobody { keeps = true; workers = workers; all = all }
 
-abbrev pub sitting : ℕ → List Item → View
+abbrev pub sitting : ℕ → List LoggedCall → View
 sitting worker mine = record nobody { sits = true; worker = worker; mine = mine }
 
 abbrev pub one_more : View → View
@@ -43,7 +43,7 @@ abbrev pub next_seat : View → View
 next_seat v = sitting v.workers []
 
 -- the keeper, after the seats of these workers were taken back, the last one first
-abbrev pub taker : ℕ → List Item → List ℕ → View
+abbrev pub taker : ℕ → List LoggedCall → List ℕ → View
 taker workers all taken = record (knower workers all) { taken = taken }
 
 abbrev pub with_seat : View → View → View
@@ -55,18 +55,18 @@ keeper_of v = taker v.workers v.all v.taken
 abbrev pub seat_of : View → View
 seat_of v = sitting v.worker v.mine
 
-abbrev pub with_item : View → Item → View
+abbrev pub with_item : View → LoggedCall → View
 with_item v item = record v { all = v.all ++ item ∷ []; mine = v.mine ++ item ∷ [] }
 
 -- what the rule says of one pass
-pub record Fits (keeper workers : ℕ) (all : List Item) (taken : List ℕ) (place : ℕ → ℕ) (by : ℕ) (v : View) : Type 0 where
+pub record Fits (keeper workers : ℕ) (all : List LoggedCall) (taken : List ℕ) (place : ℕ → ℕ) (by : ℕ) (v : View) : Type 0 where
   pub keeps : v.keeps ≡ true → (by ≡ keeper) × (v.workers ≡ workers) × (v.all ≡ all) × (v.taken ≡ taken)
   pub sits : v.sits ≡ true → (by ≡ place v.worker) × (v.worker < workers) × (v.mine ≡ items_of v.worker all) × IsNoneOf taken v.worker
 
 pub record Kept (words : List ℕ) (views : List View) : Type 0 where
   pub keeper : ℕ
   pub workers : ℕ
-  pub all : List Item
+  pub all : List LoggedCall
   pub taken : List ℕ
   pub place : ℕ → ℕ
   pub below : AllBelow workers all
@@ -74,7 +74,7 @@ pub record Kept (words : List ℕ) (views : List View) : Type 0 where
   pub each : (by : ℕ) (v : View) → get_elem? views by ≡ some v → Fits keeper workers all taken place by v
 
 -- the item was added, and the seat's list had been its worker's items
-abbrev pub Added : Item → View → List ℕ → List ℕ → View → Type 0
+abbrev pub Added : LoggedCall → View → List ℕ → List ℕ → View → Type 0
 Added item v before after w = (w ≡ with_item v item) × (v.mine ≡ items_of v.worker v.all)
 
 -- the seat's list is its worker's items

@@ -23,6 +23,6 @@ mod seat;
 mod shared;
 
 pub use laws::nothing_seen_is_lost;
-pub use room::{Cell, Room, Token};
+pub use room::{Cell, PoolName, Token};
 pub use seat::Seat;
 pub use shared::{FinishFault, SharedPool, open_room};

@@ -11,13 +11,13 @@ ghost use Rattle.sharedpool.specs.Seats.{HoldsOver, IsRefusedOver, told_publish,
 ghost use Rattle.sharedpool.specs.Told.{IsTold, IsDerivedFrom};
 
 use crate::note::{match_lists, note};
-use crate::room::{Cell, Given, Room, Token};
+use crate::room::{Cell, StepsName, PoolName, Token};
 use crate::seat::Ticket;
 use batches::Batch;
 use clauses::Lit;
 use pages::{Lines, Log};
 use pool::{
-    AssembleFault, CloseFault, Deed, DerivedLines, Entry, FetchFault, FoundFault, PathFault, Pool,
+    AssembleFault, CloseFault, Operation, DerivedLines, Entry, FetchFault, FoundFault, PathFault, Pool,
     PublishFault, SplitFault, Status, Why,
 };
 use prooflog::Evidence;
@@ -28,7 +28,7 @@ use std::sync::Wait;
 
 /// The pool with the keeper, the pass that knows the items of all its calls.
 #[derive(Drop)]
-pub(crate) struct Locked<B: Room> {
+pub(crate) struct Locked<B: PoolName> {
     pool: Pool,
     workers: u32,
     keeper: Token,
@@ -36,7 +36,7 @@ pub(crate) struct Locked<B: Room> {
     ghost made: { workers ≡ B.workers },
 }
 
-impl<B: Room> Model for Locked<B> {
+impl<B: PoolName> Model for Locked<B> {
     ghost use Rattle.crossbeam_utils.specs.Seq.{cell_view};
     ghost use Rattle.sharedpool.specs.Seats.{Shared, IsLocked};
 
@@ -52,7 +52,7 @@ fn left_before(history: &[Entry], worker: u32) -> bool
     ensures { result ≡ has_entry worker history.now }
 {
     for entry in history {
-        if entry.worker == worker && matches!(entry.deed, Deed::Leave(_)) {
+        if entry.worker == worker && matches!(entry.deed, Operation::Leave(_)) {
             return true;
         }
     }
@@ -82,7 +82,7 @@ fn entries_of(history: &[Entry], worker: u32) -> usize
         .count()
 }
 
-impl<B: Room> Locked<B> {
+impl<B: PoolName> Locked<B> {
     /// A pool without a history, with the keeper that made the seats.
     pub(crate) fn new(pool: Pool, workers: u32, keeper: Token) -> Self
         requires keeper { (keeper.table_id ≡ B.table) × (cell_view keeper ≡ knower workers []) }
@@ -268,7 +268,7 @@ impl<B: Room> Locked<B> {
     }
 
     /// The same for steps that have a name: the pool takes them before the item is noted.
-    fn found_as<S: Given, R: Wait>(
+    fn found_as<S: StepsName, R: Wait>(
         &mut self,
         rt: &R,
         alloc: Global,

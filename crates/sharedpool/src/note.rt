@@ -5,7 +5,7 @@ ghost use Rattle.crossbeam_utils.specs.Seq.{cell_view};
 ghost use Rattle.sharedpool.specs.Seats.{AreReady, AreMatched, AreNoted};
 
 use crate::passes::{add, blank, join, look, part};
-use crate::room::{Cell, Named, Token};
+use crate::room::{Cell, ItemName, Token};
 use std::mem;
 use std::sync::Wait;
 
@@ -27,7 +27,7 @@ pub(crate) fn match_lists<R: Wait>(rt: &R, cell: &Cell, keeper: &mut Token, seat
 
 /// Adds an item to the keeper's list and to the seat's, which was its worker's items so far. The worker,
 /// the call and its reply are passed for contracts alone: the caller picks the item from them.
-pub(crate) fn note<J: Named, C, A, R: Wait>(
+pub(crate) fn note<J: ItemName, C, A, R: Wait>(
     rt: &R,
     cell: &Cell,
     keeper: &mut Token,

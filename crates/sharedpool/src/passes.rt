@@ -4,7 +4,7 @@ ghost use Rattle.std.specs.Prelude.{◌≡◌, ◌<◌, ◌∷◌, true, []};
 ghost use Rattle.crossbeam_utils.specs.Seq.{cell_view};
 ghost use Rattle.sharedpool.specs.Views.{one_more, next_seat, taker, with_seat, with_item, keeper_of, seat_of, items_of, AllBelow, AreDifferent};
 
-use crate::room::{Adds, Blank, Cell, Looks, Named, NextSeat, TakesBack, Token, WithSeat};
+use crate::room::{Adds, Blank, Cell, Looks, ItemName, NextSeat, TakesBack, Token, WithSeat};
 use std::sync::Wait;
 
 /// A seat for the next worker.
@@ -44,7 +44,7 @@ pub(crate) fn join(cell: &Cell, keeper: &mut Token, seat: Token)
 }
 
 /// Adds an item to both lists of a keeper with a seat, whose list was its worker's items so far.
-pub(crate) fn add<J: Named, R: Wait>(rt: &R, cell: &Cell, keeper: &mut Token)
+pub(crate) fn add<J: ItemName, R: Wait>(rt: &R, cell: &Cell, keeper: &mut Token)
     requires keeper_of { keeper.old.table_id ≡ cell.now.table.shared.table_id }
     requires keeps { (cell_view keeper.old).keeps ≡ true }
     requires sits { (cell_view keeper.old).sits ≡ true }

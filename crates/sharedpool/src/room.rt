@@ -3,25 +3,25 @@
 use atomic_table::{Join, Split};
 use crossbeam_utils::atomic::seq_cell::{Pass, RuledSeqCell};
 use crossbeam_utils::rule::{Outcome, Protocol};
-use pool::Item;
+use pool::LoggedCall;
 use std::collections::LinkedList;
 use std::marker::{Brand, PhantomData};
 
 /// Names one shared pool: its cell, the pool that it began with, and how many workers it has. The call
 /// that opens a room picks the three, for [`Brand`].
-pub trait Room {
+pub trait PoolName {
     ghost use Rattle.std.specs.Prelude.{ℕ};
     ghost use Rattle.atomic_table.specs.Seated.{TableId};
-    ghost use Rattle.pool.specs.States.{Held};
+    ghost use Rattle.pool.specs.States.{PoolState};
 
     ghost table: { TableId };
 
-    ghost opening: { Held };
+    ghost opening: { PoolState };
 
     ghost workers: { ℕ };
 }
 
-impl Room for Brand {
+impl PoolName for Brand {
     ghost use Rattle.sharedpool.specs.Nothing.{no_table, no_pool};
 
     ghost table = { no_table };
@@ -32,27 +32,27 @@ impl Room for Brand {
 }
 
 /// Names the item that one call adds.
-pub trait Named {
-    ghost use Rattle.pool.specs.declared.entry.Item.{Item};
+pub trait ItemName {
+    ghost use Rattle.pool.specs.declared.entry.LoggedCall.{LoggedCall};
 
-    ghost item: { Item };
+    ghost item: { LoggedCall };
 }
 
-impl Named for Brand {
+impl ItemName for Brand {
     ghost use Rattle.sharedpool.specs.Nothing.{no_item};
 
     ghost item = { no_item };
 }
 
 /// Names the steps that one call is given.
-pub trait Given {
+pub trait StepsName {
     ghost use Rattle.std.specs.Prelude.{List};
     ghost use Rattle.semantics.specs.declared.state.Step.{Step};
 
     ghost steps: { List Step };
 }
 
-impl Given for Brand {
+impl StepsName for Brand {
     ghost use Rattle.std.specs.Prelude.{[]};
 
     ghost steps = { [] };
@@ -63,11 +63,11 @@ impl Given for Brand {
 pub struct View {
     pub keeps: bool,
     pub workers: u64,
-    pub all: LinkedList<Item>,
+    pub all: LinkedList<LoggedCall>,
     pub taken: LinkedList<u64>,
     pub sits: bool,
     pub worker: u64,
-    pub mine: LinkedList<Item>,
+    pub mine: LinkedList<LoggedCall>,
 }
 
 /// The rule of the cell, whose one word never changes.
@@ -83,11 +83,11 @@ impl Protocol<[u64; 1], View> for Seated {
 }
 
 /// The item is added to both lists of a keeper that has a seat joined.
-pub struct Adds<J: Named> {
+pub struct Adds<J: ItemName> {
     of: PhantomData<J>,
 }
 
-impl<J: Named> Outcome<[u64; 1], View> for Adds<J> {
+impl<J: ItemName> Outcome<[u64; 1], View> for Adds<J> {
     ghost use Rattle.sharedpool.specs.Views.{Added};
 
     ghost then = { Added J.item };

@@ -8,7 +8,7 @@ ghost use Rattle.sharedpool.specs.Told.{GoesOn, IsDerivedFrom};
 ghost use Rattle.sharedpool.specs.Views.{taker, items_of, AllBelow, AreDifferent};
 
 use crate::passes::{join, take_back};
-use crate::room::{Cell, Room, Token};
+use crate::room::{Cell, PoolName, Token};
 use batches::Batch;
 use clauses::Formula;
 use pages::{Lines, Log};
@@ -20,13 +20,13 @@ use std::sync::Wait;
 
 /// The worker's number, and the pass that knows the items of its calls.
 #[derive(Drop)]
-pub(crate) struct Ticket<B: Room> {
+pub(crate) struct Ticket<B: PoolName> {
     pub(crate) worker: u32,
     pub(crate) pass: Token,
     pub(crate) room: PhantomData<B>,
 }
 
-impl<B: Room> Model for Ticket<B> {
+impl<B: PoolName> Model for Ticket<B> {
     ghost use Rattle.crossbeam_utils.specs.Seq.{cell_view};
     ghost use Rattle.sharedpool.specs.Seats.{Chair, IsSeat};
 
@@ -41,13 +41,13 @@ impl<B: Room> Model for Ticket<B> {
 ///
 /// It has the lines that the fetches with it told, too, so that a batch is checked over them before the lock is taken.
 #[derive(Drop)]
-pub struct Seat<B: Room> {
+pub struct Seat<B: PoolName> {
     pub(crate) ticket: Ticket<B>,
     pub(crate) view: Log,
     pub(crate) known: PartialAssignment,
 }
 
-impl<B: Room> Model for Seat<B> {
+impl<B: PoolName> Model for Seat<B> {
     ghost use Rattle.std.specs.Prelude.{◌≡◌, ◌+◌, length};
     ghost use Rattle.sharedpool.specs.Seats.{Chair};
     ghost use Rattle.sharedpool.specs.Told.{IsTold};
@@ -95,7 +95,7 @@ pub(crate) fn follow(alloc: Global, view: &mut Log, from: usize, reply: &Result<
     }
 }
 
-impl<B: Room> Seat<B> {
+impl<B: PoolName> Seat<B> {
     /// A seat for this worker, with which no call was made.
     pub(crate) fn new(
         alloc: Global,

@@ -12,7 +12,7 @@ ghost use Rattle.sharedpool.specs.Seats.{AreNumbered, workers_of, HoldsOver, IsF
 
 use crate::locked::Locked;
 use crate::passes::take_seat;
-use crate::room::{Cell, Room, Token};
+use crate::room::{Cell, PoolName, Token};
 use crate::seat::{Seat, derived_from, follow};
 use batches::Batch;
 use clauses::{Formula, Lit};
@@ -30,7 +30,7 @@ use thiserror::Error;
 
 /// A pool under one lock, which workers call with their seats.
 #[derive(Drop)]
-pub struct SharedPool<B: Room> {
+pub struct SharedPool<B: PoolName> {
     encoded: Arc<Encoded>,
     cell: Cell,
     lock: Mutex<Locked<B>>,
@@ -57,7 +57,7 @@ pub fn open_room(alloc: Global) -> Result<(Cell, Token), AllocError>
 }
 
 /// A seat for each worker, numbered from 0.
-fn make_seats<B: Room>(
+fn make_seats<B: PoolName>(
     alloc: Global,
     cell: &Cell,
     formula: &Formula,
@@ -81,7 +81,7 @@ fn make_seats<B: Room>(
 }
 
 /// A seat for each worker, with a place in the pool's history for its first leave.
-fn seats_with_places<B: Room>(
+fn seats_with_places<B: PoolName>(
     alloc: Global,
     cell: &Cell,
     pool: &mut Pool,
@@ -101,7 +101,7 @@ fn seats_with_places<B: Room>(
 }
 
 /// How many entries each worker has.
-fn counts<B: Room>(
+fn counts<B: PoolName>(
     alloc: Global,
     locked: &Locked<B>,
     workers: u32,
@@ -114,7 +114,7 @@ fn counts<B: Room>(
 }
 
 /// Takes all seats back. Each is another worker's, and its list is its worker's items.
-fn take_all_back<R: Wait, B: Room>(rt: &R, cell: &Cell, mut keeper: Token, seats: Vec<Seat<B>>)
+fn take_all_back<R: Wait, B: PoolName>(rt: &R, cell: &Cell, mut keeper: Token, seats: Vec<Seat<B>>)
     requires room { cell.now.table.shared.table_id ≡ B.table }
     requires keeper_of { keeper.table_id ≡ B.table }
     requires knows { cell_view keeper ≡ knower (cell_view keeper).workers (cell_view keeper).all }
@@ -128,7 +128,7 @@ fn take_all_back<R: Wait, B: Room>(rt: &R, cell: &Cell, mut keeper: Token, seats
     }
 }
 
-impl<B: Room> SharedPool<B> {
+impl<B: PoolName> SharedPool<B> {
     /// A pool without a history under a lock, and a seat for each worker, in order of their numbers. The
     /// room is named after the cell, the pool and the number of workers. One to 64 workers. Each seat has a
     /// place in the history for its first leave, so that this one never wants memory.
@@ -209,7 +209,7 @@ impl<B: Room> SharedPool<B> {
     }
 }
 
-impl<B: Room> Share for SharedPool<B> {
+impl<B: PoolName> Share for SharedPool<B> {
     type Seat = Seat<B>;
 
     fn publish<R: Wait>(

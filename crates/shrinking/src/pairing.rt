@@ -4,7 +4,7 @@
 use crate::lines::{count_calls, is_call, lines_of};
 use balance::{Imbalance, imbalances};
 use callorder::{Kind, Program};
-use misses::{Part, misses_in};
+use misses::{Mismatch, misses_in};
 use plaintext::words_of;
 use std::alloc::{AllocError, Global};
 
@@ -77,9 +77,9 @@ fn is_near(program: &Program, send: usize, taker: usize, near: Near) -> bool {
         Near::SameRanks => {
             message.destination == taken.rank && pattern.source.is_none_or(|rank| rank == sent.rank)
         }
-        Near::OtherSource => misses_in(program, send, taker) == Some(Part::Source),
+        Near::OtherSource => misses_in(program, send, taker) == Some(Mismatch::Source),
         Near::OtherDestination => {
-            misses_in(program, send, taker) == Some(Part::Destination) && sent.rank != taken.rank
+            misses_in(program, send, taker) == Some(Mismatch::Destination) && sent.rank != taken.rank
         }
     }
 }

@@ -7,7 +7,7 @@ use cdcl::{Found, SolveFault};
 use encode::Encoded;
 use pages::Lines;
 use refutations::Line;
-use matchset_search::{Claims, Closing, SHORT, StateSearch};
+use matchset_search::{InProgress, ClosedState, SHORT, StateSearch};
 use std::alloc::{AllocError, Global};
 use std::mem;
 use std::ops::Range;
@@ -26,14 +26,14 @@ struct Searcher<'e> {
 struct Shared<'e> {
     encoded: &'e Encoded,
     lines: Vec<Line>,
-    closed: Vec<Closing>,
+    closed: Vec<ClosedState>,
 }
 
 /// Has so many searches take turns with this budget, each of a turn of its own, until one closes the program: `COUNT BUDGET MOST`. Tells whether there
 /// are no more lines than so many then. The first one may take one turn alone and leave.
 pub fn beside(encoded: &Encoded, words: &str, leaves: bool, given: &mut Given) {
     let (count, words) = cut_number(words, given);
-    let claims = Claims::new(given.alloc);
+    let claims = InProgress::new(given.alloc);
     let mut searchers = Vec::new(given.alloc);
     begin(encoded, &claims, count, &mut searchers, given);
     if !given.is_refused() {
@@ -44,7 +44,7 @@ pub fn beside(encoded: &Encoded, words: &str, leaves: bool, given: &mut Given) {
 
 fn begin<'e>(
     encoded: &'e Encoded,
-    claims: &'e Claims,
+    claims: &'e InProgress,
     count: u32,
     searchers: &mut Vec<Searcher<'e>>,
     given: &mut Given,
@@ -56,7 +56,7 @@ fn begin<'e>(
 
 fn begin_one<'e>(
     encoded: &'e Encoded,
-    claims: &'e Claims,
+    claims: &'e InProgress,
     number: u32,
     searchers: &mut Vec<Searcher<'e>>,
     given: &mut Given,
@@ -67,7 +67,7 @@ fn begin_one<'e>(
     }
 }
 
-fn begun<'e>(mut search: StateSearch<'e>, claims: &'e Claims, number: u32) -> Searcher<'e> {
+fn begun<'e>(mut search: StateSearch<'e>, claims: &'e InProgress, number: u32) -> Searcher<'e> {
     search.share(claims, number);
     Searcher {
         search,
@@ -121,7 +121,7 @@ pub fn misled(encoded: &Encoded, words: &str, given: &mut Given) {
 /// Has one more search go on until it closes the program, which is told of all that was closed so far,
 /// but imports no line of others. Answers whether it does.
 fn search_alone(shared: &mut Shared<'_>, budget: u64, given: &mut Given) -> bool {
-    let claims = Claims::new(given.alloc);
+    let claims = InProgress::new(given.alloc);
     let mut searchers = Vec::new(given.alloc);
     begin(shared.encoded, &claims, 1, &mut searchers, given);
     for searcher in searchers.iter_mut() {
@@ -135,7 +135,7 @@ fn search_alone(shared: &mut Shared<'_>, budget: u64, given: &mut Given) -> bool
 }
 
 /// Gives each the line of the next one.
-fn mislead(closings: &mut [Closing]) {
+fn mislead(closings: &mut [ClosedState]) {
     for place in 1..closings.len() {
         let number = closings[place].number;
         closings[place].number = closings[place - 1].number;
@@ -327,7 +327,7 @@ fn tell(searcher: &mut Searcher<'_>, shared: &mut Shared<'_>, batch: &Batch, giv
     }
 }
 
-fn add_all(closed: &mut Vec<Closing>, closings: &[Closing], given: &mut Given) {
+fn add_all(closed: &mut Vec<ClosedState>, closings: &[ClosedState], given: &mut Given) {
     for closing in closings {
         add(closed, *closing, given);
     }

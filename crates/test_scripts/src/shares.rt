@@ -16,7 +16,7 @@ use clauses::LARGEST_VARIABLE;
 use encode::Encoded;
 use pool::{DerivedLines, Event, Pool, Reply, Share, Status, derived_lines, run};
 use refutations::PartialAssignment;
-use sharedpool::{Cell, Room, SharedPool, Token, open_room};
+use sharedpool::{Cell, PoolName, SharedPool, Token, open_room};
 use std::alloc::{AllocError, Global};
 use std::marker::Brand;
 use std::mem;
@@ -376,7 +376,7 @@ fn finished_in<R: Wait>(
 }
 
 /// The pool after the calls, in a room that has a name, and how many calls each worker made.
-fn finished<B: Room, R: Wait>(
+fn finished<B: PoolName, R: Wait>(
     rt: &R,
     cell: Cell,
     keeper: Token,

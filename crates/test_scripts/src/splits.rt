@@ -5,7 +5,7 @@ use crate::report::Report;
 use crate::scripts::{Section, Subject, judge_calls};
 use clauses::LARGEST_VARIABLE;
 use refutations::{Node, is_numbered};
-use trees::{Kind, Tree};
+use trees::{NodeKind, Tree};
 
 pub fn judge(section: Section<'_>, given: &mut Given, report: &mut Report) {
     let variables = number(section.heading, given);
@@ -55,13 +55,13 @@ fn split(tree: &mut Tree, words: &str, given: &mut Given) {
 }
 
 /// Such as `split 1 3 4`: the variable, and the nodes where it is true and where it is false.
-impl Show for Option<Kind> {
+impl Show for Option<NodeKind> {
     fn put(&self, given: &mut Given) {
         match *self {
             None => given.put("none"),
-            Some(Kind::Leaf) => given.put("leaf"),
+            Some(NodeKind::Leaf) => given.put("leaf"),
             Some(
-                Kind::Split {
+                NodeKind::Split {
                     variable,
                     if_true,
                     if_false,

@@ -23,7 +23,7 @@ use std::thread::Threads;
 use steal::{Supply, deal};
 use trail::{Noted, Trail};
 use trees::Tree;
-use workers::{Begun, ClosedStates, Common, Cubes, EventCount, Exploring, KeptLines, open, work};
+use workers::{Opening, ClosedStates, SearchContext, Cubes, EventCount, Exploring, KeptLines, open, work};
 
 /// More conflicts than any search here needs.
 const ENOUGH: u32 = 1_000_000;
@@ -156,14 +156,14 @@ fn worked_on<R: Threads + Wait + Sync, C: Cubes>(
     let events = EventCount::new();
     let kept = KeptLines::new();
     let closed = ClosedStates::new(alloc);
-    let common = Common {
+    let common = SearchContext {
         encoded,
         shared: share,
         gate: share,
         events: &events,
         budget,
         exploring,
-        begun: Begun::nothing(),
+        begun: Opening::nothing(),
         kept: &kept,
         closed: &closed,
     };
@@ -276,14 +276,14 @@ fn ended_in<R: Threads + Wait + Sync>(
     let events = EventCount::new();
     let kept = KeptLines::new();
     let closed = ClosedStates::new(alloc);
-    let common = Common {
+    let common = SearchContext {
         encoded,
         shared: share,
         gate: share,
         events: &events,
         budget: FEW,
         exploring,
-        begun: Begun::nothing(),
+        begun: Opening::nothing(),
         kept: &kept,
         closed: &closed,
     };

@@ -3,7 +3,7 @@ use Rattle.std.proofs.Common.{◌≡◌, ℕ, ◌+◌, ◌<◌, ◌≤◌, true,
 use Rattle.std.proofs.lemmas.Bool.{cases_lt}
 use Rattle.std.proofs.lemmas.List.{set-append_left, length-append, get_or_append_left, get_or_read}
 use Rattle.refutations.specs.Trees.{branch}
-use Rattle.trees.specs.declared.tree.Kind.TheVariants.{Leaf, Split}
+use Rattle.trees.specs.declared.tree.NodeKind.TheVariants.{Leaf, Split}
 use Rattle.trees.specs.Trees.{TreeNode, TreeState, leaf_with, path_at, IsLeaf, split_at, one_leaf, one_more, HasNoRoom, IsGrown}
 use Rattle.trees.proofs.Splits.{kind_within, length_after, shallow_after, first_shallow}
 

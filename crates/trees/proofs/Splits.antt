@@ -8,8 +8,8 @@ use Rattle.std.proofs.lemmas.Option.{slice_get-get_or, slice_get_past}
 use Rattle.clauses.specs.Clauses.{Literal, TruthAssignment, holds}
 use Rattle.refutations.specs.BinaryTrees.{Tree, leaf, split}
 use Rattle.refutations.specs.Trees.{branch, IsRefuted, Refutes}
-use Rattle.trees.specs.declared.tree.Kind.{Kind}
-use Rattle.trees.specs.declared.tree.Kind.TheVariants.{Leaf, Split}
+use Rattle.trees.specs.declared.tree.NodeKind.{NodeKind}
+use Rattle.trees.specs.declared.tree.NodeKind.TheVariants.{Leaf, Split}
 use Rattle.trees.specs.Trees.{TreeNode, leaf_with, path_at, kind_at, IsLeaf, split_at, Grows, one_leaf, one_more, IsShallow, IsBelow}
 use Rattle.trees.specs.Laws.{IsReachedLeaf, OneLeafForEachAssignment, AreLeavesRefuted, ClosedLeavesRefute, IsSplitSound, SplitsAreSound, SplitsChangeOneLeaf, is_path_within, PathsAreWithin}
 
@@ -22,7 +22,7 @@ node_at nodes k = get_or nodes k (leaf_with [])
 pub kind_of_node : (nodes : List TreeNode) (k : ℕ) → k < length nodes → kind_at nodes k ≡ Some (node_at nodes k).kind
 kind_of_node nodes k there = ap (option_map (λ (n : TreeNode). n.kind)) (slice_get-get_or nodes k (leaf_with []) there)
 
-pub kind_within : (nodes : List TreeNode) (k : ℕ) (kind : Kind) → kind_at nodes k ≡ Some kind → k < length nodes
+pub kind_within : (nodes : List TreeNode) (k : ℕ) (kind : NodeKind) → kind_at nodes k ≡ Some kind → k < length nodes
 kind_within nodes k kind e =
     elim (cases_lt k (length nodes)) [
       | inl there ↦ there
@@ -223,7 +223,7 @@ module _ (nodes : List TreeNode) (place v : ℕ) (there : place < length nodes) 
   sound_after variables low high sound node w if_true if_false is =
       elim (stands node (kind_within after node (Split w if_true if_false) is)) [
         | is_split here ↦
-            let told : ◌≡◌ {A = Option Kind} (Some (Split v count (count + 1))) (Some (Split w if_true if_false)) = sym kind_here ∙ sym (ap (kind_at after) here) ∙ is in
+            let told : ◌≡◌ {A = Option NodeKind} (Some (Split v count (count + 1))) (Some (Split w if_true if_false)) = sym kind_here ∙ sym (ap (kind_at after) here) ∙ is in
             let one : v ≡ w = cc in
             let two : count ≡ if_true = cc in
             let three : count + 1 ≡ if_false = cc in
@@ -265,10 +265,10 @@ module _ (nodes : List TreeNode) (place v : ℕ) (there : place < length nodes) 
 
 -- ---- the first tree
 
-first_place : (k : ℕ) (kind : Kind) → kind_at (leaf_with [] ∷ []) k ≡ Some kind → (k ≡ 0) × (kind ≡ Leaf)
+first_place : (k : ℕ) (kind : NodeKind) → kind_at (leaf_with [] ∷ []) k ≡ Some kind → (k ≡ 0) × (kind ≡ Leaf)
 first_place k kind is =
     let low : k ≡ 0 = omega (arith, kind_within (leaf_with [] ∷ []) k kind is) in
-    let told : ◌≡◌ {A = Option Kind} (Some Leaf) (Some kind) = sym (ap (kind_at (leaf_with [] ∷ [])) low) ∙ is in
+    let told : ◌≡◌ {A = Option NodeKind} (Some Leaf) (Some kind) = sym (ap (kind_at (leaf_with [] ∷ [])) low) ∙ is in
     (low, cc)
 
 pub first_shallow : IsShallow (leaf_with [] ∷ [])

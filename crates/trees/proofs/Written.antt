@@ -9,8 +9,8 @@ use Rattle.refutations.specs.BinaryTrees.{Tree, leaf, split, preorder}
 use Rattle.refutations.specs.Proofs.{are_trees, is_tree, is_number, number_of, are_numbered}
 use Rattle.refutations.specs.declared.tree.Node.{Node}
 use Rattle.refutations.specs.declared.tree.Node.TheVariants.{Split as SplitNode, Leaf as LeafNode}
-use Rattle.trees.specs.declared.tree.Kind.{Kind}
-use Rattle.trees.specs.declared.tree.Kind.TheVariants.{Leaf, Split}
+use Rattle.trees.specs.declared.tree.NodeKind.{NodeKind}
+use Rattle.trees.specs.declared.tree.NodeKind.TheVariants.{Leaf, Split}
 use Rattle.trees.specs.Trees.{TreeNode, kind_at, Grows, IsBelow, AreLeavesNumbered}
 use Rattle.trees.specs.Laws.{IsSplitSound}
 use Rattle.trees.specs.Preorders.{proof_node, nodes_below, tree_by, tree_to_depth, tree_below}
@@ -22,7 +22,7 @@ data KindAt (nodes : List TreeNode) (node : ℕ) : Type 0 where
   is_leaf : kind_at nodes node ≡ Some Leaf → KindAt nodes node
   is_split : (v if_true if_false : ℕ) → kind_at nodes node ≡ Some (Split v if_true if_false) → KindAt nodes node
 
-kind_cases : (nodes : List TreeNode) (node : ℕ) (kind : Option Kind) → kind_at nodes node ≡ kind → KindAt nodes node
+kind_cases : (nodes : List TreeNode) (node : ℕ) (kind : Option NodeKind) → kind_at nodes node ≡ kind → KindAt nodes node
 kind_cases nodes node None e = is_none e
 kind_cases nodes node (Some Leaf) e = is_leaf e
 kind_cases nodes node (Some (Split v if_true if_false)) e = is_split v if_true if_false e
@@ -55,16 +55,16 @@ module _ (variables : ℕ) (nodes : List TreeNode) (numbers : List ℕ) (grows :
   deeper_leaf : (depth node : ℕ) → kind_at nodes node ≡ Some Leaf → tree_to_depth depth nodes numbers node ≡ leaf (number_at node)
   unfolding tree_to_depth
   deeper_leaf zero node e = refl
-  deeper_leaf (suc depth) node e = ap (λ (kind : Option Kind). tree_by kind (number_at node) (λ k. tree_to_depth depth nodes numbers k)) e
+  deeper_leaf (suc depth) node e = ap (λ (kind : Option NodeKind). tree_by kind (number_at node) (λ k. tree_to_depth depth nodes numbers k)) e
 
   deeper_none : (depth node : ℕ) → kind_at nodes node ≡ None → tree_to_depth depth nodes numbers node ≡ leaf (number_at node)
   unfolding tree_to_depth
   deeper_none zero node e = refl
-  deeper_none (suc depth) node e = ap (λ (kind : Option Kind). tree_by kind (number_at node) (λ k. tree_to_depth depth nodes numbers k)) e
+  deeper_none (suc depth) node e = ap (λ (kind : Option NodeKind). tree_by kind (number_at node) (λ k. tree_to_depth depth nodes numbers k)) e
 
   deeper_split : (depth node v if_true if_false : ℕ) → kind_at nodes node ≡ Some (Split v if_true if_false) → tree_to_depth (suc depth) nodes numbers node ≡ split v (tree_to_depth depth nodes numbers if_true) (tree_to_depth depth nodes numbers if_false)
   deeper_split depth node v a b e =
-      deeper depth node ∙ ap (λ (kind : Option Kind). tree_by kind (number_at node) (λ k. tree_to_depth depth nodes numbers k)) e
+      deeper depth node ∙ ap (λ (kind : Option NodeKind). tree_by kind (number_at node) (λ k. tree_to_depth depth nodes numbers k)) e
 
   -- depths that suffice give one tree
   same_depths : (one other node : ℕ) → length nodes ≤ node + one → length nodes ≤ node + other → tree_to_depth one nodes numbers node ≡ tree_to_depth other nodes numbers node
@@ -138,7 +138,7 @@ module _ (variables : ℕ) (nodes : List TreeNode) (numbers : List ℕ) (grows :
       ∙ append_assoc (preorder (tree_below nodes numbers node)) (left_of nodes numbers waiting) (preorder (tree_below nodes numbers first))
 
   -- the node that comes first is written, and those below it wait
-  pub left_more : (waiting : List ℕ) (node : ℕ) (kind : Kind) → kind_at nodes node ≡ Some kind → left_of nodes numbers (waiting ++ node ∷ []) ≡ proof_node kind (number_at node) ∷ left_of nodes numbers (waiting ++ nodes_below kind)
+  pub left_more : (waiting : List ℕ) (node : ℕ) (kind : NodeKind) → kind_at nodes node ≡ Some kind → left_of nodes numbers (waiting ++ node ∷ []) ≡ proof_node kind (number_at node) ∷ left_of nodes numbers (waiting ++ nodes_below kind)
   left_more waiting node Leaf e =
       left_push waiting node
       ∙ ap (λ (t : Tree). preorder t ++ left_of nodes numbers waiting) (below_leaf node e)
@@ -156,7 +156,7 @@ module _ (variables : ℕ) (nodes : List TreeNode) (numbers : List ℕ) (grows :
       ∙ ap (λ (ns : List Node). SplitNode v ∷ ns) (append_assoc one two (left_of nodes numbers waiting) ∙ sym further)
 
   -- what is written and what is left make up the same, where one node more is written
-  pub one_written : (all done more : List Node) (waiting front after : List ℕ) (node : ℕ) (kind : Kind) (made : Node) → done ++ left_of nodes numbers waiting ≡ all → waiting ≡ front ++ node ∷ [] → kind_at nodes node ≡ Some kind → more ≡ done ++ made ∷ [] → made ≡ proof_node kind (number_at node) → after ≡ front ++ nodes_below kind → more ++ left_of nodes numbers after ≡ all
+  pub one_written : (all done more : List Node) (waiting front after : List ℕ) (node : ℕ) (kind : NodeKind) (made : Node) → done ++ left_of nodes numbers waiting ≡ all → waiting ≡ front ++ node ∷ [] → kind_at nodes node ≡ Some kind → more ≡ done ++ made ∷ [] → made ≡ proof_node kind (number_at node) → after ≡ front ++ nodes_below kind → more ++ left_of nodes numbers after ≡ all
   one_written all done more waiting front after node kind made whole cut is one_more is_written then_left =
       let written : List Node = proof_node kind (number_at node) ∷ [] in
       ap (λ (ns : List Node). ns ++ left_of nodes numbers after) one_more
@@ -168,18 +168,18 @@ module _ (variables : ℕ) (nodes : List TreeNode) (numbers : List ℕ) (grows :
       ∙ whole
 
   -- and less is left
-  pub less_left : (waiting front after : List ℕ) (node : ℕ) (kind : Kind) → waiting ≡ front ++ node ∷ [] → kind_at nodes node ≡ Some kind → after ≡ front ++ nodes_below kind → length (left_of nodes numbers after) < length (left_of nodes numbers waiting)
+  pub less_left : (waiting front after : List ℕ) (node : ℕ) (kind : NodeKind) → waiting ≡ front ++ node ∷ [] → kind_at nodes node ≡ Some kind → after ≡ front ++ nodes_below kind → length (left_of nodes numbers after) < length (left_of nodes numbers waiting)
   less_left waiting front after node kind cut is then_left =
       let before = ap (λ (ns : List ℕ). length (left_of nodes numbers ns)) cut ∙ ap length (left_more front node kind is) in
       omega (arith, before, ap (λ (ns : List ℕ). length (left_of nodes numbers ns)) then_left)
 
-  below_within : (node : ℕ) (kind : Kind) → kind_at nodes node ≡ Some kind → All (λ n. n < length nodes) (nodes_below kind)
+  below_within : (node : ℕ) (kind : NodeKind) → kind_at nodes node ≡ Some kind → All (λ n. n < length nodes) (nodes_below kind)
   below_within node Leaf is = All-nil (λ n. n < length nodes)
   below_within node (Split v a b) is =
       let s = sound node v a b is in
       All-cons (λ n. n < length nodes) b (a ∷ []) s.there (All-cons (λ n. n < length nodes) a [] (omega (arith, s.adjacent, s.there)) (All-nil (λ n. n < length nodes)))
 
   -- all that waits is a node
-  pub within_more : (front after : List ℕ) (node : ℕ) (kind : Kind) → All (λ n. n < length nodes) front → kind_at nodes node ≡ Some kind → after ≡ front ++ nodes_below kind → All (λ n. n < length nodes) after
+  pub within_more : (front after : List ℕ) (node : ℕ) (kind : NodeKind) → All (λ n. n < length nodes) front → kind_at nodes node ≡ Some kind → after ≡ front ++ nodes_below kind → All (λ n. n < length nodes) after
   within_more front after node kind within is then_left =
       All-same (λ n. n < length nodes) after (front ++ nodes_below kind) then_left (All-append (λ n. n < length nodes) front (nodes_below kind) within (below_within node kind is))

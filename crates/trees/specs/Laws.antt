@@ -4,7 +4,7 @@ use Rattle.std.specs.List.{list_all}
 use Rattle.clauses.specs.Clauses.{Literal, TruthAssignment, holds}
 use Rattle.refutations.specs.BinaryTrees.{Tree}
 use Rattle.refutations.specs.Trees.{branch, IsRefuted, Refutes}
-use Rattle.trees.specs.declared.tree.Kind.TheVariants.{Split}
+use Rattle.trees.specs.declared.tree.NodeKind.TheVariants.{Split}
 use Rattle.trees.specs.Trees.{TreeNode, Grows, IsLeaf, IsBelow, path_at, kind_at, split_at}
 
 -- there is a leaf of this number, all of whose literals are true

@@ -3,22 +3,22 @@ use Rattle.std.specs.Prelude.{ℕ, zero, suc, ◌-◌, List, [], ◌∷◌, Opti
 use Rattle.refutations.specs.BinaryTrees.{Tree, leaf, split}
 use Rattle.refutations.specs.declared.tree.Node.{Node}
 use Rattle.refutations.specs.declared.tree.Node.TheVariants.{Split as SplitNode, Leaf as LeafNode}
-use Rattle.trees.specs.declared.tree.Kind.{Kind}
-use Rattle.trees.specs.declared.tree.Kind.TheVariants.{Leaf, Split}
+use Rattle.trees.specs.declared.tree.NodeKind.{NodeKind}
+use Rattle.trees.specs.declared.tree.NodeKind.TheVariants.{Leaf, Split}
 use Rattle.trees.specs.Trees.{TreeNode, kind_at}
 
 -- the node of a refutation's tree for a node, which has this number where it is a leaf
-abbrev pub proof_node : Kind → ℕ → Node
+abbrev pub proof_node : NodeKind → ℕ → Node
 proof_node Leaf number = LeafNode number
 proof_node (Split v if_true if_false) number = SplitNode v
 
 -- the nodes directly below, where the one that comes first stands last
-abbrev pub nodes_below : Kind → List ℕ
+abbrev pub nodes_below : NodeKind → List ℕ
 nodes_below Leaf = []
 nodes_below (Split v if_true if_false) = if_false ∷ if_true ∷ []
 
 -- the tree of a node by what it is, its number and the trees of other nodes
-abbrev pub tree_by : Option Kind → ℕ → (ℕ → Tree) → Tree
+abbrev pub tree_by : Option NodeKind → ℕ → (ℕ → Tree) → Tree
 tree_by None number below = leaf number
 tree_by (Some Leaf) number below = leaf number
 tree_by (Some (Split v if_true if_false)) number below = split v (below if_true) (below if_false)

@@ -5,13 +5,13 @@ use Rattle.clauses.specs.Clauses.{Literal}
 use Rattle.refutations.specs.BinaryTrees.{Tree, leaf, split}
 use Rattle.refutations.specs.Proofs.{is_number}
 use Rattle.refutations.specs.Trees.{branch}
-use Rattle.trees.specs.declared.tree.Kind.{Kind}
-use Rattle.trees.specs.declared.tree.Kind.TheVariants.{Leaf, Split}
+use Rattle.trees.specs.declared.tree.NodeKind.{NodeKind}
+use Rattle.trees.specs.declared.tree.NodeKind.TheVariants.{Leaf, Split}
 
 -- the literals from a node up to the root, and what the node is
 pub record TreeNode : Type 0 where
   pub path : List Literal
-  pub kind : Kind
+  pub kind : NodeKind
 
 -- over how many variables the tree is, and its nodes by their numbers
 pub record TreeState : Type 0 where
@@ -26,7 +26,7 @@ abbrev pub path_at : List TreeNode → ℕ → List Literal
 path_at nodes node = (slice_index_or nodes node (leaf_with [])).path
 
 -- what the node of this number is; there is none past the last one
-abbrev pub kind_at : List TreeNode → ℕ → Option Kind
+abbrev pub kind_at : List TreeNode → ℕ → Option NodeKind
 kind_at nodes node = option_map (λ n. n.kind) (slice_get nodes node)
 
 -- there is a node of this number, and it is a leaf

@@ -5,24 +5,24 @@ ghost use Rattle.refutations.specs.BinaryTrees.{Tree as BinaryTree, preorder};
 ghost use Rattle.trees.specs.Trees.{IsBelow, AreLeavesNumbered};
 ghost use Rattle.trees.specs.Preorders.{proof_node, nodes_below, tree_below};
 
-use crate::tree::{Kind, Tree};
+use crate::tree::{NodeKind, Tree};
 use refutations::{Node, ProofTree};
 use std::alloc::{AllocError, Global};
 
-fn proof_node(kind: &Kind, number: u32) -> Node
+fn proof_node(kind: &NodeKind, number: u32) -> Node
     ensures { result ≡ proof_node kind.now number }
 {
     match *kind {
-        Kind::Leaf => Node::Leaf(number),
-        Kind::Split { variable, .. } => Node::Split(variable),
+        NodeKind::Leaf => Node::Leaf(number),
+        NodeKind::Split { variable, .. } => Node::Split(variable),
     }
 }
 
 /// Puts the nodes below a node before all that wait, which come from the end on.
-fn push_below(waiting: &mut Vec<u32>, kind: &Kind) -> Result<(), AllocError>
+fn push_below(waiting: &mut Vec<u32>, kind: &NodeKind) -> Result<(), AllocError>
     ensures { OnOk result (waiting.new.items ≡ waiting.old.items ++ nodes_below kind.now) }
 {
-    if let Kind::Split {
+    if let NodeKind::Split {
         if_true,
         if_false,
         ..

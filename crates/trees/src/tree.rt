@@ -17,7 +17,7 @@ pub const GREATEST_DEPTH: usize = 64;
 
 /// What a node is.
 #[derive(Clone, Copy, Debug, PartialEq, Eq)]
-pub enum Kind {
+pub enum NodeKind {
     /// Nothing hangs below it.
     Leaf,
     /// It is split on a variable, numbered from 1, into two nodes.
@@ -34,7 +34,7 @@ pub enum Kind {
 #[derive(Drop)]
 pub(crate) struct Node {
     pub(crate) path: Vec<Lit>,
-    pub(crate) kind: Kind,
+    pub(crate) kind: NodeKind,
 }
 
 impl Model for Node {
@@ -89,7 +89,7 @@ fn leaf_below(alloc: Global, node: &Node, variable: u32, value: bool) -> Result<
     let path = branch(alloc, variable, value, node.path.as_slice())?;
     Ok(Node {
         path,
-        kind: Kind::Leaf,
+        kind: NodeKind::Leaf,
     })
 }
 
@@ -110,9 +110,9 @@ fn push_two(nodes: &mut Vec<Node>, first: Node, second: Node) -> Result<(), Allo
 
 fn make_split(node: &mut Node, variable: u32, if_true: u32)
     requires { if_true < MOST_NODES }
-    ensures { node.new ≡ record { path = node.old.path; kind = Kind.Split variable if_true (if_true + 1) } }
+    ensures { node.new ≡ record { path = node.old.path; kind = NodeKind.Split variable if_true (if_true + 1) } }
 {
-    node.kind = Kind::Split {
+    node.kind = NodeKind::Split {
         variable,
         if_true,
         if_false: if_true + 1,
@@ -150,7 +150,7 @@ impl Tree {
         let mut nodes = Vec::new(alloc);
         nodes.push(Node {
             path: Vec::new(alloc),
-            kind: Kind::Leaf,
+            kind: NodeKind::Leaf,
         })?;
         Ok(Tree { variables, nodes })
     }
@@ -173,7 +173,7 @@ impl Tree {
     }
 
     /// What the node of this number is. There is none past the last one.
-    pub fn kind(&self, node: u32) -> Option<Kind>
+    pub fn kind(&self, node: u32) -> Option<NodeKind>
         ensures same { result ≡ kind_at self.now.nodes node }
         ensures within { IfSome result (λ _. node < length self.now.nodes) }
     {
@@ -188,11 +188,11 @@ impl Tree {
         ensures same { IsTrue result ↔ IsLeaf self.now.nodes node }
         ensures within { IsTrue result → node < length self.now.nodes }
     {
-        self.kind(node) == Some(Kind::Leaf)
+        self.kind(node) == Some(NodeKind::Leaf)
     }
 
     /// What the node of this number is.
-    pub(crate) fn kind_of(&self, node: u32) -> Kind
+    pub(crate) fn kind_of(&self, node: u32) -> NodeKind
         requires { node < length self.now.nodes }
         ensures same { kind_at self.now.nodes node ≡ Some result }
         ensures grown { IsGrown self.now }

@@ -1,6 +1,6 @@
 //! Which states the searches over sets of matched calls have closed, and which lemmas they made.
 
-use matchset_search::{Claims, Closing};
+use matchset_search::{InProgress, ClosedState};
 use std::alloc::{AllocError, Global};
 use std::sync::{Mutex, Wait};
 
@@ -8,7 +8,7 @@ use std::sync::{Mutex, Wait};
 #[derive(Clone, Copy)]
 struct Entry {
     worker: u32,
-    closing: Closing,
+    closing: ClosedState,
 }
 
 /// The states that any worker's search over sets of matched calls has closed, and the lemmas that it has made, in the order in which that was told, and the
@@ -16,7 +16,7 @@ struct Entry {
 #[derive(Drop)]
 pub struct ClosedStates {
     entries: Mutex<Vec<Entry>>,
-    pub(crate) claims: Claims,
+    pub(crate) claims: InProgress,
 }
 
 impl ClosedStates {
@@ -24,7 +24,7 @@ impl ClosedStates {
     pub fn new(alloc: Global) -> ClosedStates {
         ClosedStates {
             entries: Mutex::new(Vec::new(alloc)),
-            claims: Claims::new(alloc),
+            claims: InProgress::new(alloc),
         }
     }
 
@@ -33,7 +33,7 @@ impl ClosedStates {
         &self,
         rt: &R,
         worker: u32,
-        closings: &[Closing],
+        closings: &[ClosedState],
     ) -> Result<(), AllocError> {
         let mut entries = self.entries.lock(rt);
         for closing in closings {
@@ -52,7 +52,7 @@ impl ClosedStates {
         alloc: Global,
         worker: u32,
         from: usize,
-    ) -> Result<(Vec<Closing>, usize), AllocError> {
+    ) -> Result<(Vec<ClosedState>, usize), AllocError> {
         let entries = self.entries.lock(rt);
         let mut closings = Vec::new(alloc);
         for place in from..entries.len() {

@@ -20,7 +20,7 @@ pub enum Exploring {
 
 /// What was done before the workers began.
 #[derive(Clone, Copy, PartialEq, Eq)]
-pub struct Begun {
+pub struct Opening {
     /// How many conflicts of worker 0's budget were counted.
     pub conflicts: u64,
     /// Whether the match variables were probed.
@@ -31,10 +31,10 @@ pub struct Begun {
     pub why: Option<Why>,
 }
 
-impl Begun {
+impl Opening {
     /// Nothing was done.
-    pub fn nothing() -> Begun {
-        Begun {
+    pub fn nothing() -> Opening {
+        Opening {
             conflicts: 0,
             is_probed: false,
             whole: 0,
@@ -45,7 +45,7 @@ impl Begun {
 
 /// What all workers of a search have in common.
 #[derive(Drop)]
-pub struct Common<'s, S, G> {
+pub struct SearchContext<'s, S, G> {
     /// The program that is shared, with its formula.
     pub encoded: &'s Encoded,
     /// The pool, or a share of it.
@@ -59,14 +59,14 @@ pub struct Common<'s, S, G> {
     /// When workers search over sets of matched calls.
     pub exploring: Exploring,
     /// What was done before.
-    pub begun: Begun,
+    pub begun: Opening,
     /// What is kept of the log.
     pub kept: &'s KeptLines,
     /// The states that are closed.
     pub closed: &'s ClosedStates,
 }
 
-impl<S, G> Common<'_, S, G> {
+impl<S, G> SearchContext<'_, S, G> {
     /// How many conflicts this worker, from 0, may still count.
     pub(crate) fn left(&self, worker: u32) -> u64 {
         let budget = u64::from(self.budget);

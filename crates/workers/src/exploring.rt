@@ -1,6 +1,6 @@
 //! A worker that searches over sets of matched calls.
 
-use crate::common::{Common, Exploring};
+use crate::common::{SearchContext, Exploring};
 use crate::gate::{Gate, Searched};
 use crate::kept::KeptLines;
 use crate::numbers::{line_place, number_of};
@@ -95,7 +95,7 @@ impl<'e> Exploration<'e> {
     /// The exploration of the worker of this number, from 0; none where none explores.
     pub(crate) fn make<S, G>(
         alloc: Global,
-        common: &Common<'e, S, G>,
+        common: &SearchContext<'e, S, G>,
         worker: u32,
     ) -> Result<Option<Exploration<'e>>, AllocError> {
         if common.exploring == Exploring::Never {
@@ -162,7 +162,7 @@ impl<'e> Exploration<'e> {
         &mut self,
         rt: &R,
         alloc: Global,
-        common: &Common<S, G>,
+        common: &SearchContext<S, G>,
         worker: u32,
         first: usize,
         lines: Lines,
@@ -209,7 +209,7 @@ impl Worker<'_> {
     fn publish_states<S: Share, G, R: Wait>(
         &mut self,
         rt: &R,
-        common: &Common<S, G>,
+        common: &SearchContext<S, G>,
         seat: &mut S::Seat,
         worker: u32,
         batch: &Batch,
@@ -228,7 +228,7 @@ impl Worker<'_> {
     fn hand_on_states<S: Share, G, R: Wait>(
         &mut self,
         rt: &R,
-        common: &Common<S, G>,
+        common: &SearchContext<S, G>,
         seat: &mut S::Seat,
         worker: u32,
         found: &Found,
@@ -268,7 +268,7 @@ impl Worker<'_> {
     fn tell_states<S: Share, G: Gate, R: Wait>(
         &mut self,
         rt: &R,
-        common: &Common<S, G>,
+        common: &SearchContext<S, G>,
         seat: &mut S::Seat,
         worker: u32,
         found: &Found,
@@ -287,7 +287,7 @@ impl Worker<'_> {
     fn learn_of_others<S: Share, G, R: Wait>(
         &mut self,
         rt: &R,
-        common: &Common<S, G>,
+        common: &SearchContext<S, G>,
         seat: &mut S::Seat,
         worker: u32,
     ) -> Result<(), Stop> {
@@ -304,7 +304,7 @@ impl Worker<'_> {
     pub(crate) fn explore<S: Share, G: Gate, R: Wait>(
         &mut self,
         rt: &R,
-        common: &Common<S, G>,
+        common: &SearchContext<S, G>,
         seat: &mut S::Seat,
         worker: u32,
     ) -> Result<(), Stop> {

@@ -1,6 +1,6 @@
 //! What is searched with no cube, before the workers begin and beside them.
 
-use crate::common::{Begun, Common};
+use crate::common::{Opening, SearchContext};
 use crate::gate::{Gate, Searched};
 use crate::numbers::number_of;
 use crate::stop::Stop;
@@ -64,7 +64,7 @@ impl Worker<'_> {
     fn search_whole<S: Share, G: Gate, R: Wait>(
         &mut self,
         rt: &R,
-        common: &Common<S, G>,
+        common: &SearchContext<S, G>,
         seat: &mut S::Seat,
         cubes: &[u32],
         most: u64,
@@ -83,7 +83,7 @@ impl Worker<'_> {
     pub(crate) fn go_on_whole<S: Share, G: Gate, R: Wait>(
         &mut self,
         rt: &R,
-        common: &Common<S, G>,
+        common: &SearchContext<S, G>,
         seat: &mut S::Seat,
     ) -> Result<(), Stop> {
         self.catch_up(rt, common.shared, seat)?;
@@ -104,7 +104,7 @@ impl Worker<'_> {
 fn search_first<S: Share, G: Gate, R: Wait>(
     rt: &R,
     alloc: Global,
-    common: &Common<S, G>,
+    common: &SearchContext<S, G>,
     seat: &mut S::Seat,
     cubes: &[u32],
     most: u64,
@@ -134,20 +134,20 @@ fn first_conflicts(clauses: usize, workers: u32) -> u64 {
 pub fn open<S: Share, G: Gate, R: Wait>(
     rt: &R,
     alloc: Global,
-    common: &Common<S, G>,
+    common: &SearchContext<S, G>,
     seat: &mut S::Seat,
     cubes: &[u32],
     workers: u32,
-) -> Begun {
+) -> Opening {
     let most = first_conflicts(common.encoded.formula().len(), workers);
     match search_first(rt, alloc, common, seat, cubes, most) {
-        Ok(conflicts) => Begun {
+        Ok(conflicts) => Opening {
             conflicts,
             is_probed: true,
             whole: MOST_CONFLICTS.saturating_sub(most),
             why: None,
         },
-        Err(stop) => Begun {
+        Err(stop) => Opening {
             conflicts: 0,
             is_probed: true,
             whole: 0,

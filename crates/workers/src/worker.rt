@@ -3,7 +3,7 @@
 ghost use Rattle.std.specs.Prelude.{◌≡◌};
 
 use crate::branching::{branching_variable, most_active};
-use crate::common::Common;
+use crate::common::SearchContext;
 use crate::events::EventCount;
 use crate::exploring::Exploration;
 use crate::gate::{Gate, Searched};
@@ -118,7 +118,7 @@ fn solver_of<'e>(
 impl<'e> Worker<'e> {
     pub(crate) fn new<S, G>(
         alloc: Global,
-        common: &Common<'e, S, G>,
+        common: &SearchContext<'e, S, G>,
         worker: u32,
     ) -> Result<Worker<'e>, AllocError> {
         let encoded = common.encoded;
@@ -142,7 +142,7 @@ impl<'e> Worker<'e> {
     /// Makes the worker of this number search over sets of matched calls too, where that is wanted.
     fn explore_too<S, G>(
         &mut self,
-        common: &Common<'e, S, G>,
+        common: &SearchContext<'e, S, G>,
         worker: u32,
     ) -> Result<(), AllocError> {
         self.exploration = Exploration::make(self.alloc, common, worker)?;
@@ -152,7 +152,7 @@ impl<'e> Worker<'e> {
     /// The worker of this number, from 0.
     fn explorer<S, G>(
         alloc: Global,
-        common: &Common<'e, S, G>,
+        common: &SearchContext<'e, S, G>,
         worker: u32,
     ) -> Result<Worker<'e>, AllocError> {
         let mut made = Worker::new(alloc, common, worker)?;
@@ -409,7 +409,7 @@ impl<'e> Worker<'e> {
     fn tell_found<S: Share, C: Cubes, G: Gate, R: Wait>(
         &mut self,
         rt: &R,
-        common: &Common<S, G>,
+        common: &SearchContext<S, G>,
         seat: &mut S::Seat,
         cubes: &mut C,
         worker: u32,
@@ -432,7 +432,7 @@ impl<'e> Worker<'e> {
     fn search_below<S: Share, C: Cubes, G: Gate, R: Wait>(
         &mut self,
         rt: &R,
-        common: &Common<S, G>,
+        common: &SearchContext<S, G>,
         seat: &mut S::Seat,
         cubes: &mut C,
         worker: u32,
@@ -451,7 +451,7 @@ impl<'e> Worker<'e> {
     fn step<S: Share, C: Cubes, G: Gate, R: Wait>(
         &mut self,
         rt: &R,
-        common: &Common<S, G>,
+        common: &SearchContext<S, G>,
         seat: &mut S::Seat,
         cubes: &mut C,
         worker: u32,
@@ -473,7 +473,7 @@ impl<'e> Worker<'e> {
     fn searches_all<S: Share, G: Gate, R: Wait>(
         &mut self,
         rt: &R,
-        common: &Common<S, G>,
+        common: &SearchContext<S, G>,
         seat: &mut S::Seat,
         worker: u32,
     ) -> Result<bool, Stop> {
@@ -492,7 +492,7 @@ impl<'e> Worker<'e> {
     fn do_without<S: Share, G: Gate, R: Wait>(
         &mut self,
         rt: &R,
-        common: &Common<S, G>,
+        common: &SearchContext<S, G>,
         seat: &mut S::Seat,
         worker: u32,
         seen: u32,
@@ -512,7 +512,7 @@ impl<'e> Worker<'e> {
     fn run<S: Share, C: Cubes, G: Gate, R: Wait>(
         &mut self,
         rt: &R,
-        common: &Common<S, G>,
+        common: &SearchContext<S, G>,
         seat: &mut S::Seat,
         cubes: &mut C,
         worker: u32,
@@ -574,7 +574,7 @@ fn reason_of(end: Result<(), Stop>) -> Option<Why> {
 fn reason<S: Share, C: Cubes, G: Gate, R: Wait>(
     rt: &R,
     alloc: Global,
-    common: &Common<S, G>,
+    common: &SearchContext<S, G>,
     seat: &mut S::Seat,
     cubes: &mut C,
     worker: u32,
@@ -623,7 +623,7 @@ fn reason<S: Share, C: Cubes, G: Gate, R: Wait>(
 pub fn work<S: Share, C: Cubes, G: Gate, R: Wait>(
     rt: &R,
     alloc: Global,
-    common: &Common<S, G>,
+    common: &SearchContext<S, G>,
     seat: &mut S::Seat,
     cubes: &mut C,
     worker: u32,

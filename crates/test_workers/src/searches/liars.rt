@@ -8,9 +8,9 @@ use crate::searches::{ENOUGH, MANNERS, RELAY, encoded, shown_by, tree_of};
 use batches::{Batch, BatchLine, Hint};
 use clauses::{Clause, Lit};
 use encode::Encoded;
-use pool::{CloseFault, Deed, Entry, FoundFault, Pool, PublishFault, Share};
+use pool::{CloseFault, Operation, Entry, FoundFault, Pool, PublishFault, Share};
 use prooflog::{Evidence, write_evidence};
-use sharedpool::{Cell, Room, Seat, SharedPool, Token, open_room};
+use sharedpool::{Cell, PoolName, Seat, SharedPool, Token, open_room};
 use std::alloc::Global;
 use std::marker::Brand;
 use std::process::Abort;
@@ -20,7 +20,7 @@ use std::test::Fail;
 use std::thread;
 use std::thread::Threads;
 use steal::{Supply, deal};
-use workers::{Begun, ClosedStates, Common, EventCount, Exploring, Gate, KeptLines, work};
+use workers::{Opening, ClosedStates, SearchContext, EventCount, Exploring, Gate, KeptLines, work};
 
 /// How often each liar makes each of its three calls.
 const ROUNDS: u32 = 1_000;
@@ -42,7 +42,7 @@ struct Cast {
 
 /// What a worker's thread is handed.
 #[derive(Drop)]
-struct Station<B: Room> {
+struct WorkerPlace<B: PoolName> {
     seat: Seat<B>,
     supply: Supply,
 }
@@ -120,7 +120,7 @@ fn await_honest<S: Share, R: Wait>(rt: &R, shared: &S) {
 fn tell_lies<S: Share, R: Wait>(
     rt: &R,
     alloc: Global,
-    common: &Common<S, Lies>,
+    common: &SearchContext<S, Lies>,
     lie: &Batch,
     seat: &mut S::Seat,
 ) {
@@ -137,13 +137,13 @@ fn tell_lies<S: Share, R: Wait>(
 }
 
 /// Lets a liar lie, and an honest worker work.
-fn act<B: Room, R: Wait>(
+fn act<B: PoolName, R: Wait>(
     rt: &R,
     alloc: Global,
-    common: &Common<SharedPool<B>, Lies>,
+    common: &SearchContext<SharedPool<B>, Lies>,
     lie: &Batch,
     cast: Cast,
-    station: &mut Station<B>,
+    station: &mut WorkerPlace<B>,
 ) {
     let worker = station.seat.worker();
     let seat = &mut station.seat;
@@ -155,14 +155,14 @@ fn act<B: Room, R: Wait>(
 }
 
 /// Lets each act in a thread of its own.
-fn all_act<B: Room + Send + Sync, R: Threads + Wait + Sync>(
+fn all_act<B: PoolName + Send + Sync, R: Threads + Wait + Sync>(
     rt: &R,
     alloc: Global,
     shared: &SharedPool<B>,
     encoded: &Encoded,
     lie: &Batch,
     cast: Cast,
-    stations: &mut [Station<B>],
+    stations: &mut [WorkerPlace<B>],
 ) {
     let gate = Lies {
         told: AtomicU64::new(0),
@@ -171,14 +171,14 @@ fn all_act<B: Room + Send + Sync, R: Threads + Wait + Sync>(
     let events = EventCount::new();
     let kept = KeptLines::new();
     let closed = ClosedStates::new(alloc);
-    let common = Common {
+    let common = SearchContext {
         encoded,
         shared,
         gate: &gate,
         events: &events,
         budget: ENOUGH,
         exploring: cast.exploring,
-        begun: Begun::nothing(),
+        begun: Opening::nothing(),
         kept: &kept,
         closed: &closed,
     };
@@ -187,18 +187,18 @@ fn all_act<B: Room + Send + Sync, R: Threads + Wait + Sync>(
         rt,
         stations,
         threads,
-        &|_place, station: &mut Station<B>| {
+        &|_place, station: &mut WorkerPlace<B>| {
             act(rt, alloc, &common, lie, cast, station);
         },
     );
 }
 
 /// A station for each seat. All cubes lie in the first deque, whose owner is a liar, so that each is stolen.
-fn stations<B: Room>(
+fn stations<B: PoolName>(
     alloc: Global,
     seats: Vec<Seat<B>>,
     workers: u32,
-) -> Result<Vec<Station<B>>, Fail>
+) -> Result<Vec<WorkerPlace<B>>, Fail>
     requires { workers ≤ 64 }
 {
     let mut supplies = deal(alloc, workers)?;
@@ -212,13 +212,13 @@ fn stations<B: Room>(
     let mut stations = Vec::new(alloc);
     for seat in seats {
         let supply = supplies.next().ok_or("no supply")?;
-        stations.push(Station { seat, supply })?;
+        stations.push(WorkerPlace { seat, supply })?;
     }
     Ok(stations)
 }
 
 /// The seats of these stations.
-fn seats_of<B: Room>(alloc: Global, stations: Vec<Station<B>>) -> Result<Vec<Seat<B>>, Fail> {
+fn seats_of<B: PoolName>(alloc: Global, stations: Vec<WorkerPlace<B>>) -> Result<Vec<Seat<B>>, Fail> {
     let mut seats = Vec::new(alloc);
     for station in stations {
         seats.push(station.seat)?;
@@ -227,7 +227,7 @@ fn seats_of<B: Room>(alloc: Global, stations: Vec<Station<B>>) -> Result<Vec<Sea
 }
 
 /// The seats, once all have acted.
-fn acted<B: Room + Send + Sync, R: Threads + Wait + Sync>(
+fn acted<B: PoolName + Send + Sync, R: Threads + Wait + Sync>(
     rt: &R,
     alloc: Global,
     shared: &SharedPool<B>,
@@ -253,7 +253,7 @@ fn acted<B: Room + Send + Sync, R: Threads + Wait + Sync>(
 }
 
 /// The pool that is left where all these seats come back.
-fn finished<B: Room, R: Wait>(
+fn finished<B: PoolName, R: Wait>(
     rt: &R,
     alloc: Global,
     shared: SharedPool<B>,
@@ -266,7 +266,7 @@ fn finished<B: Room, R: Wait>(
 }
 
 /// The pool that all leave, in a room that has a name.
-fn left_by<B: Room + Send + Sync, R: Threads + Wait + Sync>(
+fn left_by<B: PoolName + Send + Sync, R: Threads + Wait + Sync>(
     rt: &R,
     alloc: Global,
     cell: Cell,
@@ -298,24 +298,24 @@ fn opened(rt: &(impl Threads + Sync), alloc: Global) -> Result<Pool, Fail>
 }
 
 /// Whether a liar's call is refused, for the reason that there is.
-fn is_refused(deed: &Deed) -> bool {
+fn is_refused(deed: &Operation) -> bool {
     match deed {
-        Deed::Publish(2, Err(PublishFault::NotDerived(1))) => true,
-        Deed::Close(_, 1, Err(CloseFault::NotRefuted)) => true,
-        Deed::Close(_, 1, Err(CloseFault::NotOpen)) => true,
-        Deed::Found(0, Err(FoundFault::NotStuck)) => true,
+        Operation::Publish(2, Err(PublishFault::NotDerived(1))) => true,
+        Operation::Close(_, 1, Err(CloseFault::NotRefuted)) => true,
+        Operation::Close(_, 1, Err(CloseFault::NotOpen)) => true,
+        Operation::Found(0, Err(FoundFault::NotStuck)) => true,
         _ => false,
     }
 }
 
-fn is_at_open(deed: &Deed) -> bool {
-    matches!(deed, Deed::Close(_, _, Err(CloseFault::NotRefuted)))
+fn is_at_open(deed: &Operation) -> bool {
+    matches!(deed, Operation::Close(_, _, Err(CloseFault::NotRefuted)))
 }
 
 /// How many lines this call appended to the log.
-fn lines_of(deed: &Deed) -> usize {
+fn lines_of(deed: &Operation) -> usize {
     match deed {
-        Deed::Publish(count, Ok(_base)) => *count,
+        Operation::Publish(count, Ok(_base)) => *count,
         _ => 0,
     }
 }

@@ -8,7 +8,7 @@ use std::sync::Wait;
 use std::test::Fail;
 use std::thread::Threads;
 use steal::Supply;
-use workers::{Begun, ClosedStates, Common, Cubes, EventCount, Exploring, KeptLines, work};
+use workers::{Opening, ClosedStates, SearchContext, Cubes, EventCount, Exploring, KeptLines, work};
 
 /// Ten ranks that each send to one rank. It has no deadlock, which clauses learnt from some thousand conflicts don't show.
 const MANY: &str =
@@ -76,14 +76,14 @@ fn worked_on<R: Threads + Wait + Sync, C: Cubes>(
 ) -> Result<(), Fail> {
     let events = EventCount::new();
     let closed = ClosedStates::new(alloc);
-    let common = Common {
+    let common = SearchContext {
         encoded,
         shared: share,
         gate: share,
         events: &events,
         budget: ENOUGH,
         exploring,
-        begun: Begun::nothing(),
+        begun: Opening::nothing(),
         kept,
         closed: &closed,
     };

@@ -1,7 +1,7 @@
 use Rattle.std.proofs.Common.{subst}
 use Rattle.prooflog.specs.Grammar.{schedule_line, refutation_line}
 use Rattle.prooflog.specs.Reading.{IsOpened}
-use Rattle.prooflog.specs.declared.reader.Kind.TheVariants.{Schedule, Refutation}
+use Rattle.prooflog.specs.declared.reader.EvidenceKind.TheVariants.{Schedule, Refutation}
 use Rattle.prooflog.specs.declared.refutation.Version.TheVariants.{One}
 use Rattle.prooflog.proofs.Headings.{after_headings, is_schedule_text, is_refutation_text}
 use Rattle.prooflog.proofs.reader.read_opened.Goals as goal

@@ -2,7 +2,7 @@
 use Rattle.std.proofs.Common.{subst, sym}
 use Rattle.session.specs.Lines.{IsLine}
 use Rattle.session.specs.Texts.{AreAlikeEvidences, AreAlikePrograms, StandsFor}
-use Rattle.session.specs.declared.told.Told.{Told}
+use Rattle.session.specs.declared.told.Outcome.{Outcome}
 use Rattle.session.proofs.WholeTexts.{whole_verdict}
 use Rattle.session.proofs.commands.check_page.Goals as goal
 
@@ -18,5 +18,5 @@ returns-clause-page g c =
       all_p,
       all_e,
       whole_verdict c.deref.result.now program c.deref-2.result.now evidence c.verdict_in.result alike_p alike_e c.verdict_in.ensures.is.judges,
-      subst (λ (t : Told). IsLine t c.args.asked.json page.text.items page.status) c.from-told.ensures c.in_ok-page_of.ensures,
+      subst (λ (t : Outcome). IsLine t c.args.asked.json page.text.items page.status) c.from-told.ensures c.in_ok-page_of.ensures,
     )

@@ -13,8 +13,8 @@ use Rattle.session.specs.Texts.{AreAlikeEvidences, AreAlikePrograms, StandsFor}
 use Rattle.session.specs.declared.commands.Stop.{Stop}
 use Rattle.session.specs.declared.commands.Stop.TheVariants as stop
 use Rattle.session.specs.declared.page.Page.{Page}
-use Rattle.session.specs.declared.told.Told.{Told}
-use Rattle.session.specs.declared.told.Told.TheVariants as told
+use Rattle.session.specs.declared.told.Outcome.{Outcome}
+use Rattle.session.specs.declared.told.Outcome.TheVariants as told
 use Rattle.session.proofs.WholeAnswers.{whole_proof}
 use Rattle.session.proofs.WholeTexts.{whole_verdict}
 use Rattle.session.proofs.commands.export_page.Goals as goal
@@ -91,5 +91,5 @@ returns-clause-page g c =
       whole_verdict c.deref.result.now program c.deref-2.result.now evidence v alike_p alike_e c.in-Err.ensures.judges,
       unexported g.F.FileSet.tells_written held (g.F.FileSet.held c.read_both.new.files) c.args.asked.out.now program evidence v c.in-Err.ensures.other
           c.in_ok-program.ensures.same,
-      subst (λ (t : Told). IsLine t false page.text.items page.status) c.from.ensures c.in_ok-page_of-in-Err.ensures,
+      subst (λ (t : Outcome). IsLine t false page.text.items page.status) c.from.ensures c.in_ok-page_of-in-Err.ensures,
     )

@@ -2,7 +2,7 @@
 use Rattle.std.proofs.Common.{◌∙◌, ap, codes, string_bytes, ℕ, List}
 use Rattle.std.specs.Global.{Vec}
 use Rattle.session.specs.Lines.{object_with, told_status}
-use Rattle.session.specs.declared.told.Told.TheVariants as told
+use Rattle.session.specs.declared.told.Outcome.TheVariants as told
 use Rattle.session.proofs.commands.object_page.Goals as goal
 
 pub returns : goal.returns

@@ -10,7 +10,7 @@ use Rattle.session.specs.Texts.{AreAlikeEvidences, StandsFor}
 use Rattle.session.specs.declared.commands.Stop.{Stop}
 use Rattle.session.specs.declared.commands.Stop.TheVariants as stop
 use Rattle.session.specs.declared.page.Page.{Page}
-use Rattle.session.specs.declared.told.Told.{Told}
+use Rattle.session.specs.declared.told.Outcome.{Outcome}
 use Rattle.session.proofs.WholeAnswers.{whole_shorter, whole_untrimmed}
 use Rattle.session.proofs.commands.trim_page.Goals as goal
 
@@ -58,6 +58,6 @@ returns-clause-page g c =
         c.in-Err.why,
         whole_untrimmed c.deref.result.now whole c.in-Err.why alike c.in-Err.ensures.why,
         c.in_ok-bytes.ensures.same,
-        subst (λ (t : Told). IsLine t c.args.asked.json page.text.items page.status) c.from.ensures c.in_ok-page_of-in-Err.ensures,
+        subst (λ (t : Outcome). IsLine t c.args.asked.json page.text.items page.status) c.from.ensures c.in_ok-page_of-in-Err.ensures,
       ),
     )

@@ -7,7 +7,7 @@ use Rattle.sharedpool.proofs.shared.take_all_back.Given as goal
 abbrev pub invariant-loop-seat : goal.invariant-loop-seat
 invariant-loop-seat g l =
     record {
-      of : l.keeper.table_id ≡ g.B.Room.table;
+      of : l.keeper.table_id ≡ g.B.PoolName.table;
       knows : cell_view l.keeper ≡ taker (cell_view l.initial.keeper).workers (cell_view l.initial.keeper).all (cell_view l.keeper).taken;
       mine : All (λ seat. seat.mine ≡ items_of seat.worker (cell_view l.initial.keeper).all) l.yielded;
       below : All (λ seat. seat.worker < (cell_view l.initial.keeper).workers) l.yielded;

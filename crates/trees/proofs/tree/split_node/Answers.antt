@@ -1,7 +1,7 @@
 use Rattle.std.proofs.Common.{◌≡◌, ℕ, arith, [], ◌∷◌, ap, ◌∙◌, true, false, ◌+◌, length, List}
 use Rattle.clauses.specs.Clauses.{Literal}
 use Rattle.refutations.specs.Trees.{branch}
-use Rattle.trees.specs.declared.tree.Kind.TheVariants.{Split}
+use Rattle.trees.specs.declared.tree.NodeKind.TheVariants.{Split}
 use Rattle.trees.specs.Trees.{TreeNode, leaf_with}
 use Rattle.trees.proofs.Grown.{split_made, path_read, path_read_before}
 use Rattle.trees.proofs.tree.split_node.Goals as goal

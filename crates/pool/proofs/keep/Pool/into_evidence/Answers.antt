@@ -3,7 +3,7 @@ use Rattle.std.specs.Arc.{arc_value}
 use Rattle.clauses.specs.Clauses.{Conjunction}
 use Rattle.refutations.specs.Refutations.{Accepts, AreDerived}
 use Rattle.encode.specs.Encodings.{EncodedProgram}
-use Rattle.pool.specs.States.{Kept, IsOpen, IsRefutationOf, IsTreeOf, IsUndecided}
+use Rattle.pool.specs.States.{PoolWithHistory, IsOpen, IsRefutationOf, IsTreeOf, IsUndecided}
 use Rattle.pool.proofs.Assembling.{all_refuted, none_mapped, refuted_as}
 use Rattle.pool.proofs.OpenLeaves.{open_counts, some_open}
 use Rattle.pool.proofs.keep.Pool.into_evidence.Goals as goal
@@ -12,7 +12,7 @@ pub returns-then-open_leaves-gt0-clause-open : goal.returns-then-open_leaves-gt0
 returns-then-open_leaves-gt0-clause-open c = (
   λ _.
       let some = some_open c.self.inside.tree.nodes c.self.inside.closed.items (omega (arith, c.if-open_leaves-gt0.true, c.self.invariant.1)) in
-      subst (λ (k : Kept). IsUndecided k.held) c.self.view_is
+      subst (λ (k : PoolWithHistory). IsUndecided k.held) c.self.view_is
       (none_mapped _ c.self.inside.schedule c.in_default.is, some.0, (some.1, some.2)),
   λ _. refl,
 )
@@ -29,7 +29,7 @@ refutation_by-requires-clause-refuted c =
 pub returns-in-Ok-clause-evidence : goal.returns-in-Ok-clause-evidence
 returns-in-Ok-clause-evidence c =
     let formula_is : c.formula.result.now ≡ (arc_value c.self.inside.encoded).formula = c.formula.ensures.same ∙ ap (λ (e : EncodedProgram). e.formula) c.deref-2.ensures in
-    subst (λ (k : Kept). IsRefutationOf k.held c.in-Ok.moved) c.self.view_is
+    subst (λ (k : PoolWithHistory). IsRefutationOf k.held c.in-Ok.moved) c.self.view_is
     (record {
       none_found = none_mapped _ c.self.inside.schedule c.in_default.is;
       none_open = λ leaf is. omega (arith, c.if-open_leaves-gt0.false, c.self.invariant.1, open_counts c.self.inside.tree.nodes c.self.inside.closed.items leaf is.0 is.1);
@@ -45,7 +45,7 @@ pub returns-in-Ok-clause-open : goal.returns-in-Ok-clause-open
 returns-in-Ok-clause-open c = (
   λ e. absurd (cc),
   λ u.
-      let is = subst (λ (k : Kept). IsOpen k.held u.1) (sym c.self.view_is) u.2 in
+      let is = subst (λ (k : PoolWithHistory). IsOpen k.held u.1) (sym c.self.view_is) u.2 in
       absurd (omega (arith, c.if-open_leaves-gt0.false, c.self.invariant.1, open_counts c.self.inside.tree.nodes c.self.inside.closed.items u.1 is.0 is.1)),
 )
 
@@ -53,6 +53,6 @@ pub returns-clause-open : goal.returns-clause-open
 returns-clause-open c = (
   λ e. absurd (cc),
   λ u.
-      let is = subst (λ (k : Kept). IsOpen k.held u.1) (sym c.self.view_is) u.2 in
+      let is = subst (λ (k : PoolWithHistory). IsOpen k.held u.1) (sym c.self.view_is) u.2 in
       absurd (omega (arith, c.if-open_leaves-gt0.false, c.self.invariant.1, open_counts c.self.inside.tree.nodes c.self.inside.closed.items u.1 is.0 is.1)),
 )

@@ -16,8 +16,8 @@ invariant_of-self-2 g c =
     let worker = c.seat.inside.worker in
     let result = c.found-reply.result in
     locked_more _ _ _ _ _ _ _ _ _ _ c.self.invariant c.note.ensures
-    (reply.pool ∙ ap (λ steps. after_found h worker steps result) c.requires.steps ∙ found_noted h worker g.S.Given.steps result answered)
-    (found_step h.held worker g.S.Given.steps result answered (subst (λ steps. IsFound h.held steps result) c.requires.steps reply.reply))
+    (reply.pool ∙ ap (λ steps. after_found h worker steps result) c.requires.steps ∙ found_noted h worker g.S.StepsName.steps result answered)
+    (found_step h.held worker g.S.StepsName.steps result answered (subst (λ steps. IsFound h.held steps result) c.requires.steps reply.reply))
 
 pub returns-clause-seat : goal.returns-clause-seat
 returns-clause-seat g c = search rules

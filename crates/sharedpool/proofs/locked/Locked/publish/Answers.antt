@@ -23,7 +23,7 @@ invariant_of-self-2 g c =
 pub returns-clause-not_derived : goal.returns-clause-not_derived
 returns-clause-not_derived g c place is =
     let batch = c.args.batch.now.lines.items in
-    subst (λ (s : Chair). IsRefusedOver g.B.Room.opening.formula s.mine batch place) (c.seat.view_is ∙ c.match_seat.ensures.seat)
+    subst (λ (s : Chair). IsRefusedOver g.B.PoolName.opening.formula s.mine batch place) (c.seat.view_is ∙ c.match_seat.ensures.seat)
     (refused_call _ _ _ _ _ _ _ _ _ _ batch c.publish_as-reply.result c.self.invariant c.seat.invariant c.note.ensures c.publish_as-reply.ensures.reply place is)
 
 pub returns-clause-seat : goal.returns-clause-seat

@@ -1,8 +1,8 @@
 use Rattle.std.proofs.Common.{◌≡◌, ◌<◌, ℕ, List, All, map, length, sym, ap, ◌∙◌, subst, arith}
 use Rattle.std.specs.List.{range_with_len}
 use Rattle.crossbeam_utils.specs.Seq.{cell_view}
-use Rattle.pool.specs.declared.entry.Item.{Item}
-use Rattle.pool.specs.States.{Held}
+use Rattle.pool.specs.declared.entry.LoggedCall.{LoggedCall}
+use Rattle.pool.specs.States.{PoolState}
 use Rattle.pool.proofs.Growth.{same_program, same_formula}
 use Rattle.sharedpool.specs.declared.room.View.{View}
 use Rattle.sharedpool.specs.Views.{items_of, AllBelow}
@@ -25,15 +25,15 @@ returns-clause-finished g c =
       legal = c.into_parts-pool.ensures.legal;
       different = t.different;
       below = subst (λ (n : ℕ). All (λ (seat : Chair). seat.worker < n) seats) made t.below;
-      lists = subst (λ (l : List Item). All (λ (seat : Chair). seat.mine ≡ items_of seat.worker l) seats) all t.mine;
+      lists = subst (λ (l : List LoggedCall). All (λ (seat : Chair). seat.mine ≡ items_of seat.worker l) seats) all t.mine;
       others = subst (λ (n : ℕ). AllBelow n locked.items) made (subst (AllBelow keeper.workers) all (t.others some));
       counts_are = c.in-Ok.ensures ∙ ap (λ n. map (λ worker. length (items_of worker locked.items)) (range_with_len 0 n)) (sym many);
     }
 
 pub returns-clause-program : goal.returns-clause-program
 returns-clause-program g c =
-    ap (λ (h : Held). h.program) c.into_parts-pool.ensures.legal.ends ∙ same_program g.B.Room.opening c.into_inner-locked.result.items
+    ap (λ (h : PoolState). h.program) c.into_parts-pool.ensures.legal.ends ∙ same_program g.B.PoolName.opening c.into_inner-locked.result.items
 
 pub returns-clause-formula : goal.returns-clause-formula
 returns-clause-formula g c =
-    ap (λ (h : Held). h.formula) c.into_parts-pool.ensures.legal.ends ∙ same_formula g.B.Room.opening c.into_inner-locked.result.items
+    ap (λ (h : PoolState). h.formula) c.into_parts-pool.ensures.legal.ends ∙ same_formula g.B.PoolName.opening c.into_inner-locked.result.items
