@@ -6,7 +6,8 @@ use crate::probing::most_in_vain;
 use crate::stamps::Stamps;
 use clauses::{Clause, Formula, Lit};
 use propagation::{
-    Marks, NONE, OWN, ClauseArena, Trail, Truth, Watches, bring_unset, code_of, propagate, variable_of,
+    ClauseArena, Marks, NONE, OWN, Trail, Truth, Watches, bring_unset, code_of, propagate,
+    variable_of,
 };
 use std::alloc::{AllocError, Global};
 

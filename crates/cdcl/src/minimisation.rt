@@ -1,7 +1,7 @@
 //! Leaving out literals of a learnt clause that follow from its other literals.
 
 use crate::analysis::{Literals, Resolved};
-use propagation::{Marks, NONE, ClauseArena, Trail, variable_of};
+use propagation::{ClauseArena, Marks, NONE, Trail, variable_of};
 use std::alloc::AllocError;
 
 /// The bit of a level, which it shares with each 64th.

@@ -1,7 +1,7 @@
 //! Dropping clauses between searches.
 
 use crate::engine::Engine;
-use propagation::{OWN, ClauseArena, Truth, variable_of};
+use propagation::{ClauseArena, OWN, Truth, variable_of};
 use std::alloc::{AllocError, Global};
 use std::mem;
 
@@ -98,7 +98,12 @@ impl Engine {
         Ok(numbered)
     }
 
-    fn take_over(&mut self, alloc: Global, old: &ClauseArena, places: &[u32]) -> Result<(), AllocError> {
+    fn take_over(
+        &mut self,
+        alloc: Global,
+        old: &ClauseArena,
+        places: &[u32],
+    ) -> Result<(), AllocError> {
         let mut codes = Vec::new(alloc);
         for place in places {
             codes.clear();

@@ -15,8 +15,8 @@ use callorder::Program;
 use candidates::Pairs;
 use encode::Encoded;
 use formula::{Fact, Meaning};
-use std::alloc::{AllocError, Global};
 use formula_tables::Variables;
+use std::alloc::{AllocError, Global};
 use trees::Tree;
 
 /// The greatest depth of a tree of cubes.

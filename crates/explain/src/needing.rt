@@ -238,7 +238,11 @@ fn put_wanted(out: &mut String, front: &str, number: Option<u32>) -> Result<(), 
 fn put_looked_for(out: &mut String, pattern: &Pattern, part: Mismatch) -> Result<(), AllocError> {
     match part {
         Mismatch::Destination => out.push_str("waits"),
-        Mismatch::Communicator => put_wanted(out, "waits on communicator ", Some(pattern.communicator)),
+        Mismatch::Communicator => put_wanted(
+            out,
+            "waits on communicator ",
+            Some(pattern.communicator),
+        ),
         Mismatch::Source => put_wanted(out, "waits for rank ", pattern.source),
         Mismatch::Tag => put_wanted(out, "waits for tag ", pattern.tag),
     }

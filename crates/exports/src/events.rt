@@ -8,8 +8,8 @@ ghost use Rattle.formula.specs.Families.{events as events_of, is_finder};
 
 use callorder::Program;
 use formula::Event;
-use std::alloc::{AllocError, Global};
 use formula_tables::is_finder;
+use std::alloc::{AllocError, Global};
 
 fn issues(alloc: Global, program: &Program) -> Result<Vec<Event>, AllocError>
     ensures { IfOk result (λ events. events.items ≡ map issue_of (places program.now)) }

@@ -9,10 +9,10 @@ ghost use Rattle.formula.specs.Families.{sends_of, last_calls};
 ghost use Rattle.finishing.specs.Formula.{is_met, all_calls_are_issued, last_calls_have_returned, all_ranks_finish};
 
 use callorder::Program;
-use formula_families::Symbolic;
 use formula::{Condition, Fact, Statement};
-use std::alloc::{AllocError, Global};
+use formula_families::Symbolic;
 use formula_tables::{is_last, when_returned};
+use std::alloc::{AllocError, Global};
 
 /// The send is matched with some taker.
 fn is_taken(alloc: Global, program: &Program, send: usize) -> Result<Vec<Statement>, AllocError>

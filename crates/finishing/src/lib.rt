@@ -6,8 +6,8 @@
 mod asking;
 mod checking;
 mod endings;
-mod following;
 mod finishing_formula;
+mod following;
 mod laws;
 mod searching;
 

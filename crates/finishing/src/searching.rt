@@ -5,8 +5,8 @@ ghost use Rattle.frequency.specs.Frequencies.{IsFrequency};
 ghost use Rattle.finishing.specs.Formula.{finishing_formula_of};
 
 use crate::checking::is_refuted;
-use crate::following::finished_run;
 use crate::finishing_formula::finishing_formula;
+use crate::following::finished_run;
 use cdcl::{Found, SolveFault, Solver};
 use clauses::Formula;
 use encode::Encoded;

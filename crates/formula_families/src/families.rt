@@ -12,8 +12,8 @@ use crate::{matches, returns};
 use callorder::Program;
 use calltext::Policy;
 use formula::{Event, Fact, Statement};
-use std::alloc::{AllocError, Global};
 use formula_tables::{ProgramTables, is_last, is_standard, previous, rank_of, when_returned};
+use std::alloc::{AllocError, Global};
 
 /// A family of clauses. Some have a block of clauses for each call, some for each pair, and one has one block in all.
 #[derive(Clone, Copy, PartialEq, Eq)]

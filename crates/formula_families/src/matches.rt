@@ -12,8 +12,8 @@ ghost use Rattle.formula.specs.Families.{sends_of, see_clauses, issued_before_ma
 use crate::lists::{push_sends, push_takers};
 use crate::symbolic::Symbolic;
 use formula::{Event, Fact, Statement};
-use std::alloc::{AllocError, Global};
 use formula_tables::ProgramTables;
+use std::alloc::{AllocError, Global};
 
 /// Adds the clauses that say: where the pair is matched, or seen, both calls are issued, and before. The only error is want of
 /// memory.

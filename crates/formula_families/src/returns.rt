@@ -12,8 +12,8 @@ ghost use Rattle.formula.specs.Families.{fetch_of, receive_on_handle, where_fetc
 use crate::lists::{push_sends, push_takers};
 use crate::symbolic::Symbolic;
 use formula::{Condition, Event, Fact, Statement};
-use std::alloc::{AllocError, Global};
 use formula_tables::{ProgramTables, fetch_of, receive_on_handle, when_returned};
+use std::alloc::{AllocError, Global};
 
 /// Where the call is issued and the send is fetched, the statement is right.
 fn where_fetched(

@@ -10,8 +10,8 @@ ghost use Rattle.formula_families.specs.Marks.{AreMarks, orders_of, orders_of_fa
 use crate::families::{Block, Family, ordering_families, put_block, size_of};
 use crate::symbolic::Symbolic;
 use formula::Statement;
-use std::alloc::{AllocError, Global};
 use formula_tables::{Events, ProgramTables};
+use std::alloc::{AllocError, Global};
 
 /// Marks two events, either way round, where both are among so many.
 fn mark(marks: &mut [bool], most: usize, first: usize, second: usize)

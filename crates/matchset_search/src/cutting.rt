@@ -3,8 +3,8 @@
 use crate::engine::Engine;
 use crate::others::SharedClosed;
 use batches::Batch;
-use propagation::{Trail, negated};
 use matchsets::{Cycle, Shape};
+use propagation::{Trail, negated};
 use std::alloc::{AllocError, Global};
 
 /// The pairs of neighbours on the cycle.

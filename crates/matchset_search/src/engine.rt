@@ -3,11 +3,11 @@
 use crate::others::SharedClosed;
 use batches::Batch;
 use clauses::{Formula, Lit};
+use matchsets::mixed;
 use propagation::{
-    Marks, NONE, OWN, ClauseArena, Trail, Truth, Watches, add_line, code_of, negated, propagate,
+    ClauseArena, Marks, NONE, OWN, Trail, Truth, Watches, add_line, code_of, negated, propagate,
     variable_of,
 };
-use matchsets::mixed;
 use std::alloc::{AllocError, Global};
 use std::mem;
 

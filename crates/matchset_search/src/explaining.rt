@@ -2,7 +2,7 @@
 
 use crate::engine::{Conflict, Engine, Written};
 use batches::Batch;
-use propagation::{Marks, NONE, ClauseArena, Trail, negated, variable_of};
+use propagation::{ClauseArena, Marks, NONE, Trail, negated, variable_of};
 use std::alloc::{AllocError, Global};
 
 /// For how many places there is room at first.

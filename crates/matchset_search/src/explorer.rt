@@ -12,9 +12,9 @@ use batches::Batch;
 use cdcl::Solver;
 use clauses::Clause;
 use encode::Encoded;
+use matchsets::{Key, Shape, State, choose, find_cycle, mixed, read_off};
 use pages::Lines;
 use propagation::OWN;
-use matchsets::{Key, Shape, State, choose, find_cycle, mixed, read_off};
 use std::alloc::{AllocError, Global};
 use std::collections::HashMap;
 
@@ -172,7 +172,11 @@ impl<'e> Explorer<'e> {
     }
 
     /// The states that were closed in the last batch, whose first line has this number, and the lemmas that were made.
-    pub(crate) fn closings(&self, alloc: Global, base: u32) -> Result<Vec<ClosedState>, AllocError> {
+    pub(crate) fn closings(
+        &self,
+        alloc: Global,
+        base: u32,
+    ) -> Result<Vec<ClosedState>, AllocError> {
         let mut closings = Vec::with_capacity(alloc, self.others.told.len())?;
         for told in &self.others.told {
             let tag = self.engine.store.tag(told.clause);

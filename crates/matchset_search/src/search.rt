@@ -11,8 +11,8 @@ use batches::{Batch, BatchLine, Hint};
 use cdcl::{Found, Solver};
 use clauses::{Assignment, Formula, Lit};
 use encode::Encoded;
-use propagation::{NONE, OWN, hint_of, literal_of};
 use matchsets::State;
+use propagation::{NONE, OWN, hint_of, literal_of};
 use std::alloc::{AllocError, Global};
 
 /// How many steps there are for each line that may be written, and how many at first.

@@ -1,7 +1,7 @@
 //! The state that is told by what holds.
 
 use crate::reality::which_are_real;
-use crate::shape::{CallShape, PairShape, Role, RankShape, Shape};
+use crate::shape::{CallShape, PairShape, RankShape, Role, Shape};
 use crate::state::{Progress, State, ends_at};
 use callorder::Policy;
 use propagation::Trail;

@@ -5,9 +5,9 @@ use calltext::Mode;
 use candidates::Pairs;
 use encode::Encoded;
 use formula::{Condition, Fact, Meaning};
+use formula_tables::{Variables, is_last, rank_of, receive_on_handle, when_returned};
 use propagation::{code_of, negated};
 use std::alloc::{AllocError, Global};
-use formula_tables::{Variables, is_last, rank_of, receive_on_handle, when_returned};
 
 /// What a call is to a match.
 #[derive(Clone, Copy, PartialEq, Eq)]

@@ -17,7 +17,7 @@ ghost use Rattle.semantics.specs.Machine.{IsStuckRun};
 use crate::assembly::{AssembleFault, lines_of, refutation_by, refutation_of, schedule_of_run};
 use crate::derived::DerivedLines;
 use crate::entry::{
-    CloseFault, Operation, Entry, FetchFault, FoundFault, PathFault, PublishFault, SplitFault,
+    CloseFault, Entry, FetchFault, FoundFault, Operation, PathFault, PublishFault, SplitFault,
 };
 use crate::extend::extend;
 use crate::ledger::Ledger;
@@ -415,7 +415,8 @@ impl Pool {
             derived,
         ) {
             Ok(()) => {
-                self.ledger.note(worker, Operation::Publish(count, Ok(base)));
+                self.ledger
+                    .note(worker, Operation::Publish(count, Ok(base)));
                 Ok(base)
             }
             Err(PublishFault::Memory) => Err(PublishFault::Memory),
@@ -448,7 +449,8 @@ impl Pool {
         let Ok(lines) = self.log.after(alloc, from) else {
             return Err(FetchFault::Memory);
         };
-        self.ledger.note(worker, Operation::Fetch(from, Ok(lines.len())));
+        self.ledger
+            .note(worker, Operation::Fetch(from, Ok(lines.len())));
         Ok(lines)
     }
 
@@ -464,17 +466,20 @@ impl Pool {
         }
         if !self.is_open(leaf) {
             let reply = Err(CloseFault::NotOpen);
-            self.ledger.note(worker, Operation::Close(leaf, number, reply));
+            self.ledger
+                .note(worker, Operation::Close(leaf, number, reply));
             return Err(CloseFault::NotOpen);
         }
         if !self.is_closed_by(leaf, number) {
             let reply = Err(CloseFault::NotRefuted);
-            self.ledger.note(worker, Operation::Close(leaf, number, reply));
+            self.ledger
+                .note(worker, Operation::Close(leaf, number, reply));
             return Err(CloseFault::NotRefuted);
         }
         self.closed[leaf as usize] = number;
         self.open_leaves -= 1;
-        self.ledger.note(worker, Operation::Close(leaf, number, Ok(())));
+        self.ledger
+            .note(worker, Operation::Close(leaf, number, Ok(())));
         Ok(())
     }
 

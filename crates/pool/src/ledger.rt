@@ -5,7 +5,7 @@ ghost use Rattle.pool.specs.Ledgers.{FitsCall, FitsReason, IsSameLedger};
 ghost use Rattle.pool.specs.Reasons.{IsSmallest};
 ghost use Rattle.pool.specs.States.{with_reason};
 
-use crate::entry::{Operation, Entry};
+use crate::entry::{Entry, Operation};
 use crate::why::{Why, smallest};
 use std::alloc::{AllocError, Global};
 use std::marker::Model;

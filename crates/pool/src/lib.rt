@@ -22,7 +22,8 @@ mod why;
 pub use assembly::{AssembleFault, schedule_of_run};
 pub use derived::DerivedLines;
 pub use entry::{
-    CloseFault, Operation, Entry, FetchFault, FoundFault, LoggedCall, PathFault, PublishFault, SplitFault,
+    CloseFault, Entry, FetchFault, FoundFault, LoggedCall, Operation, PathFault, PublishFault,
+    SplitFault,
 };
 pub use events::{Event, Reply, run};
 pub use extend::MOST_LINES;

@@ -8,8 +8,8 @@ ghost use Rattle.prover.specs.Searches.{smallest_with};
 
 use cubes::{CubeFault, split};
 use encode::Encoded;
-use pool::{Pool, Share, Why, smaller};
 use options::{Options, Searches};
+use pool::{Pool, Share, Why, smaller};
 use sharedpool::{Cell, FinishFault, PoolName, Seat, SharedPool, Token, open_room};
 use std::alloc::{AllocError, Global};
 use std::marker::Brand;
@@ -19,7 +19,9 @@ use std::thread::Threads;
 use std::{mem, thread};
 use steal::{Supply, deal, settle_all};
 use trees::Tree;
-use workers::{Opening, ClosedStates, SearchContext, EventCount, Exploring, Gate, KeptLines, open, work};
+use workers::{
+    ClosedStates, EventCount, Exploring, Gate, KeptLines, Opening, SearchContext, open, work,
+};
 
 /// What a worker's thread is handed.
 #[derive(Drop)]

@@ -7,9 +7,9 @@ ghost use Rattle.reports.specs.Sizes.{choices};
 
 use crate::sizes::{choices, messages, open_sends, wildcards};
 use callorder::{Call, LongProgram, Program};
+use options::Form;
 use prooflog::Refutation;
 use refutations::Node;
-use options::Form;
 use std::alloc::{AllocError, Global};
 use writing::{Part, put_parts, put_text};
 

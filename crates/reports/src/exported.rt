@@ -8,10 +8,10 @@ ghost use Rattle.reports.specs.Exports.{Exports, IsProofOf};
 use checker::{PieceGate, Reason, Refuted, Verdict, refuted_in};
 use clauses::Formula;
 use exports::lrat_text;
-use tree_lines::joining_lines;
 use prooflog::Refutation;
 use std::alloc::{AllocError, Global};
 use std::thread::Threads;
+use tree_lines::joining_lines;
 
 /// The text of the lines of a refutation, and of those that join its tree.
 fn proof_text(

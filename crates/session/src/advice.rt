@@ -6,8 +6,8 @@ ghost use Rattle.session.specs.Advice.{IsAdvisedOn, advice_line, next_line};
 
 use calltext::Limits;
 use files::store;
-use refusal_help::help;
 use prover::{Answer, Reason, Why};
+use refusal_help::help;
 use std::alloc::{AllocError, Global};
 use std::io::Write;
 

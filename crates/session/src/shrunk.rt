@@ -17,9 +17,9 @@ use crate::told::Outcome;
 use command_line::ToShrink;
 use deciding::Undecided;
 use files::FileSet;
+use options::Form;
 use prooflog::Text;
 use prover::Reason;
-use options::Form;
 use shrinking::{NotShrunk, NotShrunkLong, Shrunk, left_line, left_map, shrink, shrink_long};
 use std::alloc::{AllocError, Global};
 

@@ -11,14 +11,14 @@ ghost use Rattle.sharedpool.specs.Seats.{HoldsOver, IsRefusedOver, told_publish,
 ghost use Rattle.sharedpool.specs.Told.{IsTold, IsDerivedFrom};
 
 use crate::note::{match_lists, note};
-use crate::room::{Cell, StepsName, PoolName, Token};
+use crate::room::{Cell, PoolName, StepsName, Token};
 use crate::seat::Ticket;
 use batches::Batch;
 use clauses::Lit;
 use pages::{Lines, Log};
 use pool::{
-    AssembleFault, CloseFault, Operation, DerivedLines, Entry, FetchFault, FoundFault, PathFault, Pool,
-    PublishFault, SplitFault, Status, Why,
+    AssembleFault, CloseFault, DerivedLines, Entry, FetchFault, FoundFault, Operation, PathFault,
+    Pool, PublishFault, SplitFault, Status, Why,
 };
 use prooflog::Evidence;
 use semantics::Step;

@@ -79,7 +79,8 @@ fn is_near(program: &Program, send: usize, taker: usize, near: Near) -> bool {
         }
         Near::OtherSource => misses_in(program, send, taker) == Some(Mismatch::Source),
         Near::OtherDestination => {
-            misses_in(program, send, taker) == Some(Mismatch::Destination) && sent.rank != taken.rank
+            misses_in(program, send, taker) == Some(Mismatch::Destination)
+                && sent.rank != taken.rank
         }
     }
 }

@@ -1,10 +1,10 @@
 //! Lines that join the leaves of a tree that code makes.
 use clauses::{Clause, Formula, Lit};
-use tree_lines::joining_lines;
 use pieces::check_all;
 use refutations::{Line, Node, ProofTree, check_tree};
 use std::alloc::Global;
 use std::test::Fail;
+use tree_lines::joining_lines;
 
 /// Whether the lines refute the formula, the last of which is empty.
 fn refutes_without_tree(alloc: Global, formula: &Formula, lines: &[Line]) -> Result<bool, Fail> {

@@ -6,10 +6,10 @@ use crate::reading::{Part, all, assignment, cut, cut_number, formula, number, tr
 use crate::report::{Call, Report};
 use crate::scripts::Section;
 use clauses::{Formula, Lit};
-use tree_lines::joining_lines;
 use pieces::{PieceGate, check_all, check_piece, check_pieces};
 use refutations::{Line, PartialAssignment, ProofTree, check_line, check_line_in, check_tree};
 use std::thread::Threads;
+use tree_lines::joining_lines;
 use trimming::first_unneeded;
 
 /// Lets each piece pass.

@@ -11,11 +11,11 @@ use cubes::{branching_variables, split};
 use encode::{Encoded, encode};
 use extract::schedule_of;
 use formula::{Event, Fact, Meaning};
+use formula_tables::Variables;
 use nonovertake::earlier;
 use std::alloc::Global;
 use std::mem;
 use std::thread::Threads;
-use formula_tables::Variables;
 
 pub fn judge<R: Threads + Sync>(
     rt: &R,

@@ -23,7 +23,9 @@ use std::thread::Threads;
 use steal::{Supply, deal};
 use trail::{Noted, Trail};
 use trees::Tree;
-use workers::{Opening, ClosedStates, SearchContext, Cubes, EventCount, Exploring, KeptLines, open, work};
+use workers::{
+    ClosedStates, Cubes, EventCount, Exploring, KeptLines, Opening, SearchContext, open, work,
+};
 
 /// More conflicts than any search here needs.
 const ENOUGH: u32 = 1_000_000;

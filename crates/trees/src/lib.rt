@@ -14,4 +14,4 @@ pub use laws::{
     closed_leaves_refute, one_leaf_for_each_assignment, paths_are_within, splits_are_sound,
     splits_change_one_leaf,
 };
-pub use tree::{GREATEST_DEPTH, NodeKind, MOST_NODES, Tree};
+pub use tree::{GREATEST_DEPTH, MOST_NODES, NodeKind, Tree};

@@ -1,6 +1,6 @@
 //! Which states the searches over sets of matched calls have closed, and which lemmas they made.
 
-use matchset_search::{InProgress, ClosedState};
+use matchset_search::{ClosedState, InProgress};
 use std::alloc::{AllocError, Global};
 use std::sync::{Mutex, Wait};
 

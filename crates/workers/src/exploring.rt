@@ -1,6 +1,6 @@
 //! A worker that searches over sets of matched calls.
 
-use crate::common::{SearchContext, Exploring};
+use crate::common::{Exploring, SearchContext};
 use crate::gate::{Gate, Searched};
 use crate::kept::KeptLines;
 use crate::numbers::{line_place, number_of};
@@ -9,9 +9,9 @@ use crate::worker::Worker;
 use batches::Batch;
 use cdcl::Found;
 use clauses::Clause;
+use matchset_search::{SHORT, StateSearch};
 use pages::Lines;
 use pool::{MOST_LINES, Share, Why};
-use matchset_search::{SHORT, StateSearch};
 use std::alloc::{AllocError, Global};
 use std::mem;
 use std::ops::Range;

@@ -1,7 +1,7 @@
 //! Which lines of others a worker takes in.
 
-use pages::Lines;
 use matchset_search::SHORT;
+use pages::Lines;
 
 /// How many lines of others are taken in at a time, beside those short ones.
 const MOST_LINES: usize = 1_000;

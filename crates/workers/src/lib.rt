@@ -20,7 +20,7 @@ mod stop;
 mod worker;
 
 pub use closed::ClosedStates;
-pub use common::{Opening, SearchContext, Exploring};
+pub use common::{Exploring, Opening, SearchContext};
 pub use events::EventCount;
 pub use gate::{Gate, Searched};
 pub use kept::KeptLines;

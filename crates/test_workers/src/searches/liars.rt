@@ -8,7 +8,7 @@ use crate::searches::{ENOUGH, MANNERS, RELAY, encoded, shown_by, tree_of};
 use batches::{Batch, BatchLine, Hint};
 use clauses::{Clause, Lit};
 use encode::Encoded;
-use pool::{CloseFault, Operation, Entry, FoundFault, Pool, PublishFault, Share};
+use pool::{CloseFault, Entry, FoundFault, Operation, Pool, PublishFault, Share};
 use prooflog::{Evidence, write_evidence};
 use sharedpool::{Cell, PoolName, Seat, SharedPool, Token, open_room};
 use std::alloc::Global;
@@ -20,7 +20,7 @@ use std::test::Fail;
 use std::thread;
 use std::thread::Threads;
 use steal::{Supply, deal};
-use workers::{Opening, ClosedStates, SearchContext, EventCount, Exploring, Gate, KeptLines, work};
+use workers::{ClosedStates, EventCount, Exploring, Gate, KeptLines, Opening, SearchContext, work};
 
 /// How often each liar makes each of its three calls.
 const ROUNDS: u32 = 1_000;
@@ -218,7 +218,10 @@ fn stations<B: PoolName>(
 }
 
 /// The seats of these stations.
-fn seats_of<B: PoolName>(alloc: Global, stations: Vec<WorkerPlace<B>>) -> Result<Vec<Seat<B>>, Fail> {
+fn seats_of<B: PoolName>(
+    alloc: Global,
+    stations: Vec<WorkerPlace<B>>,
+) -> Result<Vec<Seat<B>>, Fail> {
     let mut seats = Vec::new(alloc);
     for station in stations {
         seats.push(station.seat)?;

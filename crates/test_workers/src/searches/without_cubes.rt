@@ -8,7 +8,9 @@ use std::sync::Wait;
 use std::test::Fail;
 use std::thread::Threads;
 use steal::Supply;
-use workers::{Opening, ClosedStates, SearchContext, Cubes, EventCount, Exploring, KeptLines, work};
+use workers::{
+    ClosedStates, Cubes, EventCount, Exploring, KeptLines, Opening, SearchContext, work,
+};
 
 /// Ten ranks that each send to one rank. It has no deadlock, which clauses learnt from some thousand conflicts don't show.
 const MANY: &str =
