@@ -123,7 +123,8 @@ is_taker p c channel h off = by (call_at p c) refl h off
 
 -- ---- a channel's takers each have a send of their own
 
--- at these places of the two lists stand a first and a second, and the second's partner is the first
+-- at these places of the two lists stand a first and a second, and the second's partner is the
+-- first
 record Goes (e : Configuration) (firsts seconds : List ℕ) (i k : ℕ) : Type 0 where
   first : ℕ
   second : ℕ

@@ -102,8 +102,9 @@ Rise places = (i j c d : ℕ) → i < j → slice_get places i ≡ Some c → sl
 abbrev pub IsAmong : Imbalance → ℕ → Type 0
 IsAmong sides c = ((i : ℕ) × (slice_get sides.sends.items i ≡ Some c)) ⊎ ((i : ℕ) × (slice_get sides.takers.items i ≡ Some c))
 
--- Each channel whose sends and takers differ in number is told once, and no other one; the calls of each rise, and the channels stand
--- in the order of their first calls: before each call of a channel is one of each channel that is told before.
+-- Each channel whose sends and takers differ in number is told once, and no other one; the calls of
+-- each rise, and the channels stand in the order of their first calls: before each call of a
+-- channel is one of each channel that is told before.
 pub record AreImbalances (p : MpiProgram) (told : List Imbalance) : Type 0 where
   pub each : (i : ℕ) (sides : Imbalance) → slice_get told i ≡ Some sides → IsImbalance p sides
   pub all : (channel : Channel) (sends takers : List ℕ) → ArePlaces (IsSendIn p channel) sends → ArePlaces (IsTakerIn p channel) takers → length sends ≢ length takers

@@ -28,7 +28,8 @@ MissingSendsStick =
     (p : MpiProgram) (sides : Imbalance) (steps : List Step) → IsInRankOrder p → StartsAreWaitedFor p → RanksExist p → IsImbalance p sides
     → length sides.sends.items < length sides.takers.items → IsFinishedRun p steps → ⊥
 
--- Where a channel has more sends than takers, in each run that finishes some message of it is taken by nobody.
+-- Where a channel has more sends than takers, in each run that finishes some message of it is taken
+-- by nobody.
 abbrev pub MissingTakersLeaveMessages : Type 0
 MissingTakersLeaveMessages =
     (p : MpiProgram) (sides : Imbalance) (steps : List Step) → IsInRankOrder p → IsImbalance p sides

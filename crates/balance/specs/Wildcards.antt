@@ -22,7 +22,8 @@ address_sent call (Some message) = Some (record { destination = message.destinat
 abbrev pub address_of : Call → Option Address
 address_of call = address_sent call (message_of call.kind)
 
--- Numbers of names: two names have the same number exactly where they are equal. A test that tells equal names is behind it.
+-- Numbers of names: two names have the same number exactly where they are equal. A test that tells
+-- equal names is behind it.
 pub record AreNumbers {K : Type 0} (names : List (Option K)) (numbers : List (Option ℕ)) : Type 0 where
   pub test : K → K → Bool
   pub tests : (a b : K) → (test a b ≡ true) ↔ (a ≡ b)

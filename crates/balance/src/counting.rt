@@ -81,8 +81,8 @@ fn sides_of(
     Ok(table)
 }
 
-/// The channels whose sends and takers differ in number, in the order of their first calls. The only
-/// error is want of memory.
+/// The channels whose sends and takers differ in number, in the order of their first calls. The
+/// only error is want of memory.
 ///
 /// The time is linear in the calls.
 pub fn imbalances(alloc: Global, program: &LongProgram) -> Result<Vec<Imbalance>, AllocError>

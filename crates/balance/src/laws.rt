@@ -12,7 +12,8 @@ pub fn programs_have_ranks()
     ensures { ProgramsHaveRanks }
 {}
 
-/// Where a channel has more takers than sends, no run finishes: each run gets stuck, however it goes on.
+/// Where a channel has more takers than sends, no run finishes: each run gets stuck, however it
+/// goes on.
 pub fn missing_sends_stick()
     ensures { MissingSendsStick }
 {}

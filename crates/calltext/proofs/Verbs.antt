@@ -1,4 +1,5 @@
--- Call lines as verbs and operands. The verbs' words differ: the place of a word in their list is its verb's own.
+-- Call lines as verbs and operands. The verbs' words differ: the place of a word in their list is
+-- its verb's own.
 use Rattle.std.proofs.Common.{◌≡◌, ◌≢◌, ℕ, zero, suc, ◌+◌, ◌*◌, ◌<◌, ◌≤◌, Bool, true, false, List, [], ◌∷◌, ◌++◌, Some, None, length, get_or, map, refl, sym, ap, subst, ◌∙◌, arith}
 use Rattle.std.specs.Prelude.{codes, ◌&&◌, ◌||◌, nat_le, nat_lt, position, bytes_eq, unwrap_or}
 use Rattle.std.specs.List.{list_all}

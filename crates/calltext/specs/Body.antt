@@ -20,7 +20,8 @@ pub record HasRanks (l : Limits) (total : ℕ) (bytes : List ℕ) (ranks : List 
   pub count : length ranks ≡ total
   pub fit : AllByRecursion (AllByRecursion (CallFits l)) ranks
 
--- The lines begin as those of these ranks, and then comes a line, of this number, that is wrong there.
+-- The lines begin as those of these ranks, and then comes a line, of this number, that is wrong
+-- there.
 pub record StopsAt (l : Limits) (fault : LineFault) (number total : ℕ) (bytes : List ℕ) : Type 0 where
   pub done : List (List CallLine)
   pub line : List ℕ

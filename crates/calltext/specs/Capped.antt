@@ -1,4 +1,5 @@
--- A call line as it is first read: each number above 2,147,483,647 as 2,147,483,648, which is above every limit.
+-- A call line as it is first read: each number above 2,147,483,647 as 2,147,483,648, which is above
+-- every limit.
 use Rattle.std.specs.Prelude.{ℕ, min, Option, Some, None}
 use Rattle.calltext.specs.declared.call.CallLine.{CallLine}
 use Rattle.calltext.specs.declared.call.CallLine.TheVariants.{Send, Receive, MatchedProbe, Probe, MatchedReceive, Wait, WaitAll, SendReceive}

@@ -1,5 +1,6 @@
--- The text of a program. It is defined by its printer: a value has one text. Numbers may be of any size here, and the limits
--- stand apart, so that a number out of range is told apart from a line of the wrong shape.
+-- The text of a program. It is defined by its printer: a value has one text. Numbers may be of any
+-- size here, and the limits stand apart, so that a number out of range is told apart from a line of
+-- the wrong shape.
 use Rattle.std.specs.Prelude.{codes, ◌≡◌, ℕ, ◌+◌, ◌≤◌, List, [], ◌∷◌, ◌++◌, length, map, Option, Some, None, IfSome, IsTrue, ⊤}
 use Rattle.std.specs.List.{AllByRecursion, flat_map}
 use Rattle.plaintext.specs.Plain.{numeral, line_of}
@@ -13,7 +14,8 @@ use Rattle.calltext.specs.Names.{is_name, AreNames}
 use Rattle.calltext.specs.Limits.{short}
 use Rattle.calltext.specs.declared.limits.Limits.{Limits}
 
--- What a program's text says: the policy for standard sends, and the call lines of each rank, from rank 0 on.
+-- What a program's text says: the policy for standard sends, and the call lines of each rank, from
+-- rank 0 on.
 pub record ProgramText : Type 0 where
   pub policy : Policy
   pub ranks : List (List CallLine)
@@ -41,9 +43,10 @@ send_word Standard = codes "send"
 send_word Synchronous = codes "ssend"
 send_word Buffered = codes "bsend"
 
--- A send names its destination and tag; a receive, a matched probe and a probe name a source and a tag; each of them may name
--- a communicator. The receive on a matched probe's handle names the handle, a wait its request. A joined send and receive names
--- its destination and send tag, then its source and receive tag.
+-- A send names its destination and tag; a receive, a matched probe and a probe name a source and a
+-- tag; each of them may name a communicator. The receive on a matched probe's handle names the
+-- handle, a wait its request. A joined send and receive names its destination and send tag, then
+-- its source and receive tag.
 abbrev pub call_words : CallLine → List (List ℕ)
 call_words (Send mode request destination tag communicator) = started request (send_word mode) (numeral destination ∷ numeral tag ∷ communicator_words communicator)
 call_words (Receive request source tag communicator) = started request (codes "recv") (or_star source ∷ or_star tag ∷ communicator_words communicator)
@@ -129,13 +132,15 @@ CallFits l call = HasNames call × IsInRange l call
 abbrev pub AllHaveNames : ProgramText → Type 0
 AllHaveNames p = AllByRecursion (AllByRecursion HasNames) p.ranks
 
--- A program is within the limits if it has one rank or more, no more than they allow, and each call's numbers are in range.
+-- A program is within the limits if it has one rank or more, no more than they allow, and each
+-- call's numbers are in range.
 pub record Fits (l : Limits) (p : ProgramText) : Type 0 where
   pub some : 1 ≤ length p.ranks
   pub ranks : length p.ranks ≤ l.ranks
   pub calls : AllByRecursion (AllByRecursion (CallFits l)) p.ranks
 
--- The bytes are the text of the program, which is within the limits, and they are no more than these allow.
+-- The bytes are the text of the program, which is within the limits, and they are no more than
+-- these allow.
 pub record IsTextWithin (l : Limits) (bytes : List ℕ) (p : ProgramText) : Type 0 where
   pub fits : Fits l p
   pub small : length bytes ≤ l.bytes

@@ -1,4 +1,5 @@
--- The words that are refused by name: the first words of calls of MPI that a program's text can't hold.
+-- The words that are refused by name: the first words of calls of MPI that a program's text can't
+-- hold.
 use Rattle.std.specs.Prelude.{codes, ℕ, List, [], ◌∷◌, ◌++◌, map, get_or, position, bytes_eq, unwrap_or}
 
 -- Nonblocking probes, and calls that test, wait for some of several, cancel, or free a request.
@@ -15,7 +16,8 @@ operations =
 abbrev others : List (List ℕ)
 others = codes "put" ∷ codes "get" ∷ codes "accumulate" ∷ codes "win_create" ∷ codes "comm_dup" ∷ codes "comm_split" ∷ codes "comm_create" ∷ []
 
--- The collective calls (MPI 4.1, chapter 6); each is refused in its non-blocking form too, which has an `i` before it.
+-- The collective calls (MPI 4.1, chapter 6); each is refused in its non-blocking form too, which
+-- has an `i` before it.
 abbrev collectives : List (List ℕ)
 collectives =
     codes "barrier" ∷ codes "bcast" ∷ codes "gather" ∷ codes "gatherv" ∷ codes "scatter" ∷ codes "scatterv" ∷ codes "allgather" ∷ codes "allgatherv" ∷ codes "alltoall" ∷ codes "alltoallv" ∷ codes "alltoallw"

@@ -1,4 +1,5 @@
--- A call line's words as its verb, which is the first of them, and its operands, which are the others.
+-- A call line's words as its verb, which is the first of them, and its operands, which are the
+-- others.
 use Rattle.std.specs.Prelude.{codes, ◌≡◌, ◌≢◌, ℕ, Bool, true, false, List, [], ◌∷◌, ◌++◌, Option, Some, None, IfSome, IsTrue}
 use Rattle.plaintext.specs.Plain.{numeral}
 use Rattle.calltext.specs.declared.call.CallLine.{CallLine}
@@ -108,7 +109,8 @@ AreNoOperands verb.WaitAll words = AreNames words → ⊥
 AreNoOperands verb.SendReceive words =
     (destination send_tag : ℕ) (source receive_tag communicator : Option ℕ) → numeral destination ∷ numeral send_tag ∷ pattern_words source receive_tag communicator ≢ words
 
--- What the operands of a verb are read as: some call that has names has this verb and these operands, and is found with its numbers capped; or none has.
+-- What the operands of a verb are read as: some call that has names has this verb and these
+-- operands, and is found with its numbers capped; or none has.
 abbrev pub IsReadAs : Verb → List (List ℕ) → Option CallLine → Type 0
 IsReadAs verb words None = AreNoOperands verb words
 IsReadAs verb words (Some found) = (call : CallLine) × HasNames call × (verb_of call ≡ verb) × (operands call ≡ words) × (found ≡ capped_call call)

@@ -1,5 +1,6 @@
-//! What texts and faults are, apart from any reader. Together the laws say that an answer of `read` is the only one beside
-//! want of memory: bytes are the text of one program at most, have one fault at most, and never both.
+//! What texts and faults are, apart from any reader. Together the laws say that an answer of `read`
+//! is the only one beside want of memory: bytes are the text of one program at most, have one fault
+//! at most, and never both.
 
 ghost use Rattle.calltext.specs.Fault.{OneFault, OneValue, SameTextWithin, TextHasNoFault};
 ghost use Rattle.calltext.specs.Limits.{ShortIsWithinLong};
@@ -19,7 +20,8 @@ pub fn one_fault()
     ensures { OneFault }
 {}
 
-/// Bytes that are a text within some limits are the same program's text within any wider ones, and no other's.
+/// Bytes that are a text within some limits are the same program's text within any wider ones, and
+/// no other's.
 pub fn same_text_within()
     ensures { SameTextWithin }
 {}

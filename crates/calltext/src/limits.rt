@@ -3,8 +3,9 @@
 ghost use Rattle.std.specs.Prelude.{◌≡◌};
 ghost use Rattle.calltext.specs.Limits.{long, short};
 
-/// The limits of a program's text. A text is read within limits, and its grammar is the same whatever they are: what lies
-/// beyond a limit is told as that, and never as a line of the wrong shape.
+/// The limits of a program's text. A text is read within limits, and its grammar is the same
+/// whatever they are: what lies beyond a limit is told as that, and never as a line of the wrong
+/// shape.
 #[derive(Clone, Copy)]
 pub struct Limits {
     /// The most bytes of a text.
@@ -36,7 +37,8 @@ impl Limits {
         }
     }
 
-    /// The limits of a text of any length: numbers are of 31 bits, and bytes and calls as many as memory holds.
+    /// The limits of a text of any length: numbers are of 31 bits, and bytes and calls as many as
+    /// memory holds.
     pub fn long() -> Limits
         ensures { result ≡ long }
     {

@@ -68,8 +68,9 @@ pub fn read(alloc: Global, bytes: &[u8]) -> Result<Source, ReadFault>
     }
 }
 
-/// The program that the bytes are the text of, or the fault that they have, as `read` tells it, for a text of any length: the
-/// limits are the long ones. A text within the short ones is the same program for both.
+/// The program that the bytes are the text of, or the fault that they have, as `read` tells it, for
+/// a text of any length: the limits are the long ones. A text within the short ones is the same
+/// program for both.
 pub fn read_long(alloc: Global, bytes: &[u8]) -> Result<LongSource, ReadFault>
     ensures text { IfOk result (λ source. IsTextWithin long bytes.now source) }
     ensures fault { IfErr result (λ fault. HasFaultWithin long bytes.now fault) }

@@ -9,7 +9,8 @@ use crate::call::{CallLine, Policy};
 use std::marker::Model;
 use std::ops::Deref;
 
-/// What a program's text says, within the long limits. `read_long` makes one, and each `Source` is one.
+/// What a program's text says, within the long limits. `read_long` makes one, and each `Source` is
+/// one.
 #[derive(Drop)]
 pub struct LongSource {
     policy: Policy,
@@ -95,7 +96,8 @@ impl Model for Source {
 impl Deref for Source {
     type Target = LongSource;
 
-    /// The same program, of which no more than the long limits is known: what takes a text of any length takes this one.
+    /// The same program, of which no more than the long limits is known: what takes a text of any
+    /// length takes this one.
     fn deref(&self) -> &LongSource
         ensures { result.now ≡ self.now }
     {

@@ -27,10 +27,12 @@ pub(crate) struct Engine {
     /// The clauses of the last batch's lines, and how many of them were imported since.
     pub(crate) pending: Vec<u32>,
     pub(crate) returned: usize,
-    /// How many clauses of more than one level there are beside the formula's, and how many are too many.
+    /// How many clauses of more than one level there are beside the formula's, and how many are too
+    /// many.
     pub(crate) learnt: usize,
     pub(crate) limit: usize,
-    /// The literals to probe, which of them is probed next, and how many are still probed where none fails.
+    /// The literals to probe, which of them is probed next, and how many are still probed where
+    /// none fails.
     pub(crate) probes: Vec<u32>,
     pub(crate) probe_place: usize,
     pub(crate) probes_left: usize,
@@ -136,7 +138,8 @@ impl Engine {
         Ok(())
     }
 
-    /// Takes in a clause that was derived, and its number. One whose number no hint can have is left out.
+    /// Takes in a clause that was derived, and its number. One whose number no hint can have is
+    /// left out.
     pub(crate) fn import(
         &mut self,
         alloc: Global,
@@ -194,7 +197,8 @@ impl Engine {
         }
     }
 
-    /// Takes back all levels above this one. The variables that lose their value may be decided again.
+    /// Takes back all levels above this one. The variables that lose their value may be decided
+    /// again.
     pub(crate) fn back(&mut self, level: usize) {
         if let Some(length) = self.trail.length_at(level) {
             self.free_from(length);
@@ -226,8 +230,8 @@ impl Engine {
         Ok(codes)
     }
 
-    /// How often the variable of this number took part in conflicts, later ones counting more; none where it has a value at one of the
-    /// first so many levels.
+    /// How often the variable of this number took part in conflicts, later ones counting more; none
+    /// where it has a value at one of the first so many levels.
     pub(crate) fn weight(&self, variable: u32, levels: usize) -> Option<u64> {
         let place = variable.checked_sub(1)?;
         if self.trail.value(place.saturating_mul(2)) != Truth::Open

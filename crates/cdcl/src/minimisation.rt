@@ -18,8 +18,8 @@ fn level_bits(trail: &Trail, literals: &[u32]) -> u64 {
     bits
 }
 
-/// Takes in the variables of a reason that aren't marked. False where one of them rests on a decision, or on a level that
-/// no literal of the clause has.
+/// Takes in the variables of a reason that aren't marked. False where one of them rests on a
+/// decision, or on a level that no literal of the clause has.
 fn take_reason(
     store: &ClauseArena,
     trail: &Trail,
@@ -48,7 +48,8 @@ fn take_reason(
     Ok(true)
 }
 
-/// Resolves the variables from this place of the list on, and those that they rest on, down to marked ones.
+/// Resolves the variables from this place of the list on, and those that they rest on, down to
+/// marked ones.
 fn resolve_from(
     store: &ClauseArena,
     trail: &Trail,
@@ -69,7 +70,8 @@ fn resolve_from(
     Ok(true)
 }
 
-/// Whether the literal follows from marked variables; then all that this rests on is resolved and marked.
+/// Whether the literal follows from marked variables; then all that this rests on is resolved and
+/// marked.
 fn leave_out(
     store: &ClauseArena,
     trail: &Trail,

@@ -4,8 +4,8 @@ use crate::engine::Engine;
 use propagation::Truth;
 use std::alloc::{AllocError, Global};
 
-/// How many variables in a row are probed in vain at most. A probe is as dear as a conflict where the formula is large, and those that fail
-/// mostly follow on each other.
+/// How many variables in a row are probed in vain at most. A probe is as dear as a conflict where
+/// the formula is large, and those that fail mostly follow on each other.
 const MOST_IN_VAIN: usize = 512;
 
 /// How many of so many variables are probed at most where none fails.
@@ -25,7 +25,8 @@ impl Engine {
         code
     }
 
-    /// Makes this literal true alone. What follows isn't kept as phases: they would be those of many different cases.
+    /// Makes this literal true alone. What follows isn't kept as phases: they would be those of
+    /// many different cases.
     fn propagate_alone(&mut self, alloc: Global, code: u32) -> Result<Option<u32>, AllocError> {
         self.trail.set_keeps_phases(false);
         self.decide(code)?;
@@ -34,7 +35,8 @@ impl Engine {
         Ok(conflict)
     }
 
-    /// Makes the next variable true alone, and takes that back unless a clause has become false, which is answered.
+    /// Makes the next variable true alone, and takes that back unless a clause has become false,
+    /// which is answered.
     fn probe_next(&mut self, alloc: Global) -> Result<Option<u32>, AllocError> {
         let Some(code) = self.next_probe() else {
             return Ok(None);

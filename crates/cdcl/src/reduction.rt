@@ -61,8 +61,8 @@ impl Engine {
             .any(|code| self.trail.value(*code) == Truth::True)
     }
 
-    /// Whether a learnt clause stays, whose rank has to be below the last one. What gives a value at level 0 stays, since clauses
-    /// that it settles are dropped for good.
+    /// Whether a learnt clause stays, whose rank has to be below the last one. What gives a value
+    /// at level 0 stays, since clauses that it settles are dropped for good.
     fn is_chosen(&self, place: u32, most: u64) -> bool {
         if self.is_reason(place) {
             return true;
@@ -87,7 +87,8 @@ impl Engine {
         Ok(chosen)
     }
 
-    /// Those of these clauses that have a number: a line of the last batch that never came back has none.
+    /// Those of these clauses that have a number: a line of the last batch that never came back has
+    /// none.
     fn numbered(&self, alloc: Global, places: &[u32]) -> Result<Vec<u32>, AllocError> {
         let mut numbered = Vec::new(alloc);
         for place in places {
@@ -113,7 +114,8 @@ impl Engine {
         Ok(())
     }
 
-    /// Drops lines that have no number. What they gave a value has none any more, so all begins anew.
+    /// Drops lines that have no number. What they gave a value has none any more, so all begins
+    /// anew.
     fn drop_lost(&mut self, alloc: Global) -> Result<(), AllocError> {
         let learnt = learnt_places(alloc, &self.store)?;
         let learnt = self.numbered(alloc, &learnt)?;
@@ -138,7 +140,8 @@ impl Engine {
             .count()
     }
 
-    /// Drops half of the learnt clauses, and those that level 0 settles, which are no longer watched either.
+    /// Drops half of the learnt clauses, and those that level 0 settles, which are no longer
+    /// watched either.
     fn reduce(&mut self, alloc: Global) -> Result<(), AllocError> {
         if self.propagate(alloc)?.is_some() {
             return Ok(());
@@ -154,7 +157,8 @@ impl Engine {
         Ok(())
     }
 
-    /// Goes back to level 0, and drops lines that never came back, and then others where many were learnt.
+    /// Goes back to level 0, and drops lines that never came back, and then others where many were
+    /// learnt.
     pub(crate) fn begin(&mut self, alloc: Global) -> Result<(), AllocError> {
         self.back(0);
         let is_lost = self.returned < self.pending.len();

@@ -39,8 +39,8 @@ pub(crate) enum Ending {
 /// What comes of going on to the next stop.
 #[derive(Drop)]
 pub(crate) enum Step {
-    /// A conflict after which the search goes on. What would end it counts as one, too, where that can't be told: a line
-    /// that no number is left for, or an assignment that isn't a model.
+    /// A conflict after which the search goes on. What would end it counts as one, too, where that
+    /// can't be told: a line that no number is left for, or an assignment that isn't a model.
     Counted,
     /// A conflict, which ended the search.
     Last(Ending),
@@ -55,8 +55,8 @@ pub(crate) struct Counted {
     pub(crate) conflicts: u64,
 }
 
-/// The clause that closes the cube: the one that is named alone, or one more line of these literals,
-/// which are sorted for it.
+/// The clause that closes the cube: the one that is named alone, or one more line of these
+/// literals, which are sorted for it.
 fn close(
     alloc: Global,
     literals: &mut [u32],
@@ -346,7 +346,8 @@ impl Engine {
         }
     }
 
-    /// Searches from level 0 on until an end is met or as many conflicts as the budget were counted.
+    /// Searches from level 0 on until an end is met or as many conflicts as the budget were
+    /// counted.
     pub(crate) fn run(
         &mut self,
         alloc: Global,

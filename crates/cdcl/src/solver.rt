@@ -23,7 +23,8 @@ pub enum SolveFault {
     /// Memory ran out before. The solver is unchanged.
     #[error("spent")]
     Spent,
-    /// A variable isn't one of the formula's, or the cube holds a variable with both signs. The solver is unchanged.
+    /// A variable isn't one of the formula's, or the cube holds a variable with both signs. The
+    /// solver is unchanged.
     #[error("foreign")]
     Foreign,
 }
@@ -31,8 +32,8 @@ pub enum SolveFault {
 /// What a search found, and the lines that it learnt on the way.
 #[derive(Drop)]
 pub enum Found {
-    /// Nothing satisfies the formula and the cube, as this clause says after these lines: each of its literals is the
-    /// negation of one of the cube.
+    /// Nothing satisfies the formula and the cube, as this clause says after these lines: each of
+    /// its literals is the negation of one of the cube.
     Closed(Batch, Hint),
     /// This assignment satisfies the formula and the cube.
     Model(Assignment),
@@ -94,10 +95,12 @@ fn is_foreign(variables: u32, cube: &[Lit]) -> bool
 }
 
 impl<'f> Solver<'f> {
-    /// A solver of this formula. The variables of the numbers `probed` are probed at the start of the first search, in this order and again from
-    /// the first on, until 512 in a row, or all, were probed in vain: each that can't be true alone gets its value without a decision. Numbers that
-    /// are no variable of the formula are left out. Clauses from number 2^31 on are left out, too, since no line could name them, and so are clauses past 2^32 words
-    /// of all clauses, of which each takes three more than it has literals.
+    /// A solver of this formula. The variables of the numbers `probed` are probed at the start of
+    /// the first search, in this order and again from the first on, until 512 in a row, or all,
+    /// were probed in vain: each that can't be true alone gets its value without a decision.
+    /// Numbers that are no variable of the formula are left out. Clauses from number 2^31 on are
+    /// left out, too, since no line could name them, and so are clauses past 2^32 words of all
+    /// clauses, of which each takes three more than it has literals.
     pub fn new(
         alloc: Global,
         formula: &'f Formula,
@@ -114,12 +117,14 @@ impl<'f> Solver<'f> {
         })
     }
 
-    /// Takes in a clause that was derived from the formula, under this number. Where clauses come back as they stand in the
-    /// last batch, in its order, their lines get these numbers; a line that didn't come back before the next search is
-    /// forgotten. A clause whose number is 0 or from 2^31 on is left out, since no line could name it.
+    /// Takes in a clause that was derived from the formula, under this number. Where clauses come
+    /// back as they stand in the last batch, in its order, their lines get these numbers; a line
+    /// that didn't come back before the next search is forgotten. A clause whose number is 0 or
+    /// from 2^31 on is left out, since no line could name it.
     ///
-    /// Refused with [`SolveFault::Spent`] exactly where memory ran out before, and else with [`SolveFault::Foreign`] exactly
-    /// where the clause has a variable that isn't one of the formula's.
+    /// Refused with [`SolveFault::Spent`] exactly where memory ran out before, and else with
+    /// [`SolveFault::Foreign`] exactly where the clause has a variable that isn't one of the
+    /// formula's.
     pub fn import(&mut self, alloc: Global, number: u32, clause: &Clause) -> Result<(), SolveFault>
         ensures { Imported self.old self.new clause.now result }
     {
@@ -138,15 +143,17 @@ impl<'f> Solver<'f> {
         }
     }
 
-    /// Searches for an assignment that satisfies the formula and the cube, which is a list of literals in any order, until
-    /// one is found, or none is left, or as many conflicts as the budget were counted. A conflict is a clause with all
-    /// literals false that propagation met, in probing too; a model that fails its test, or a line for which no number is
-    /// left, would count as one. With budget 0 it answers at once, with no line, and what was
-    /// learnt stays as it is. A batch has less than 2^31 lines: a search that needs more goes on to its budget without them.
-    /// Whether the cube is foreign takes time by the square of its length.
+    /// Searches for an assignment that satisfies the formula and the cube, which is a list of
+    /// literals in any order, until one is found, or none is left, or as many conflicts as the
+    /// budget were counted. A conflict is a clause with all literals false that propagation met, in
+    /// probing too; a model that fails its test, or a line for which no number is left, would count
+    /// as one. With budget 0 it answers at once, with no line, and what was learnt stays as it is.
+    /// A batch has less than 2^31 lines: a search that needs more goes on to its budget without
+    /// them. Whether the cube is foreign takes time by the square of its length.
     ///
-    /// Refused with [`SolveFault::Spent`] exactly where memory ran out before, and else with [`SolveFault::Foreign`] exactly
-    /// where the cube has a variable that isn't one of the formula's, or one with both signs.
+    /// Refused with [`SolveFault::Spent`] exactly where memory ran out before, and else with
+    /// [`SolveFault::Foreign`] exactly where the cube has a variable that isn't one of the
+    /// formula's, or one with both signs.
     pub fn search(&mut self, alloc: Global, cube: &[Lit], budget: u64) -> Result<Found, SolveFault>
         ensures { Searched self.old self.new cube.now budget result }
     {
@@ -176,15 +183,16 @@ impl<'f> Solver<'f> {
         }
     }
 
-    /// How often the variable of this number took part in conflicts, later ones counting more. None for a number that is no variable, and
-    /// where the first so many literals of the last search's cube gave the variable a value, as far as was known when the search ended. Nothing
-    /// is promised of the answer: it helps to find a variable that a cube is worth splitting on.
+    /// How often the variable of this number took part in conflicts, later ones counting more. None
+    /// for a number that is no variable, and where the first so many literals of the last search's
+    /// cube gave the variable a value, as far as was known when the search ended. Nothing is
+    /// promised of the answer: it helps to find a variable that a cube is worth splitting on.
     pub fn weight(&self, variable: u32, literals: usize) -> Option<u64> {
         self.engine.weight(variable, literals)
     }
 
-    /// How many conflicts were counted in the last search that was neither refused as foreign nor as spent; 0 before the
-    /// first.
+    /// How many conflicts were counted in the last search that was neither refused as foreign nor
+    /// as spent; 0 before the first.
     pub fn conflicts(&self) -> u64
         ensures { result ≡ self.now.conflicts }
     {

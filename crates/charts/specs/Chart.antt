@@ -1,4 +1,5 @@
--- A message sequence chart: a heading, a row for each step, and a row of where each rank stands at the end. Each rank has a column.
+-- A message sequence chart: a heading, a row for each step, and a row of where each rank stands at
+-- the end. Each rank has a column.
 use Rattle.std.specs.Prelude.{codes, ℕ, zero, suc, ◌-◌, ◌==◌, ◌&&◌, ◌||◌, nat_le, nat_lt, Bool, true, false, if◌then◌else◌, List, [], ◌∷◌, ◌++◌, length, drop, replicate, Option, Some, None, slice_get}
 use Rattle.std.specs.List.{flat_map}
 use Rattle.plaintext.specs.Plain.{numeral}
@@ -55,8 +56,8 @@ abbrev pub sign_of : Bool → List ℕ
 sign_of false = []
 sign_of true = codes "b "
 
--- the words of the call, cut to 15 characters, with `b ` before them where it is a buffered send; where columns are narrow, `i` or `b` and
--- the number of its line
+-- the words of the call, cut to 15 characters, with `b ` before them where it is a buffered send;
+-- where columns are narrow, `i` or `b` and the number of its line
 abbrev pub issue_mark : ℕ → Label → Bool → List ℕ
 issue_mark ranks told buffered =
     if are_narrow ranks then letter_of buffered ++ numeral told.line else shortened 15 (sign_of buffered ++ told.words)
@@ -78,7 +79,8 @@ issue_row_of ranks (Some told) buffered = issue_row ranks told.rank (issue_mark 
 abbrev pub is_crossed : ℕ → ℕ → ℕ → Bool
 is_crossed from to rank = nat_le from rank && nat_lt rank to || nat_le to rank && nat_lt rank from
 
--- `o` in the sender's column, `>` or `<` in the taker's, and `@` where both are one; the arrow's stroke between them, and a line elsewhere
+-- `o` in the sender's column, `>` or `<` in the taker's, and `@` where both are one; the arrow's
+-- stroke between them, and a line elsewhere
 abbrev pub find_mark : ℕ → ℕ → ℕ → ℕ → ℕ
 find_mark from to stroke rank =
     if rank == from then (if from == to then 64 else 111) else if rank == to then (if nat_lt from to then 62 else 60) else if is_crossed from to rank then stroke else 124

@@ -30,9 +30,11 @@ wait_line p calls c = line_if (is_wait p c) (slice_get calls c)
 abbrev pub AreWaitsOfOneLine : MpiProgram → List Label → ℕ → ℕ → Type 0
 AreWaitsOfOneLine p calls c d = (line : ℕ) × (wait_line p calls c ≡ Some line) × (wait_line p calls d ≡ Some line)
 
--- What the column u of a step and the column v of a later one keep. Issues of one rank rise, but that waits of one line may share a column.
--- A message is not taken or seen left of where its send, or the call that finds it, is issued. What a rank issues after a message of
--- its own was taken or seen stands right of that; a wait alone may stand left of it, in the column of an earlier wait of its line.
+-- What the column u of a step and the column v of a later one keep. Issues of one rank rise, but
+-- that waits of one line may share a column. A message is not taken or seen left of where its send,
+-- or the call that finds it, is issued. What a rank issues after a message of its own was taken or
+-- seen stands right of that; a wait alone may stand left of it, in the column of an earlier wait of
+-- its line.
 abbrev pub KeepsOrder : MpiProgram → List Label → Act → ℕ → Act → ℕ → Type 0
 KeepsOrder p calls (Issue c b) u (Issue d e) v = IsTrue (are_of_one_rank p c d) → (u < v) ⊎ ((u ≡ v) × AreWaitsOfOneLine p calls c d)
 KeepsOrder p calls (Issue c b) u (Match s t) v = (c ≡ s) ⊎ (c ≡ t) → u ≤ v
@@ -47,9 +49,10 @@ KeepsOrder p calls (See s f) u (See q r) v = Unit {0}
 abbrev pub AreInOrder : MpiProgram → List Label → Placed → Placed → Type 0
 AreInOrder p calls one other = KeepsOrder p calls one.act one.column other.act other.column
 
--- These steps stand in so many columns, each in one. A reader may rely on it that a box further right is a later call of its rank, and that
--- what an arrow points to was issued no later than the column where the arrow ends. Columns of different ranks that no message
--- ties together say nothing of which came first, and a step need not stand in the first column that it could have.
+-- These steps stand in so many columns, each in one. A reader may rely on it that a box further
+-- right is a later call of its rank, and that what an arrow points to was issued no later than the
+-- column where the arrow ends. Columns of different ranks that no message ties together say nothing
+-- of which came first, and a step need not stand in the first column that it could have.
 pub record AreColumns (p : MpiProgram) (calls : List Label) (acts : List Act) (count : ℕ) (steps : List Placed) : Type 0 where
   pub each : map (λ (step : Placed). step.act) steps ≡ acts
   pub within : All (λ (step : Placed). step.column < count) steps

@@ -4,7 +4,8 @@ use Rattle.plaintext.specs.Plain.{numeral}
 use Rattle.callorder.specs.Programs.{MpiProgram}
 use Rattle.scene.specs.Sizes.{is_large}
 
--- How many of so many steps come before the drawn ones: of a run of a large program the last 400 are drawn, else all.
+-- How many of so many steps come before the drawn ones: of a run of a large program the last 400
+-- are drawn, else all.
 abbrev pub undrawn : MpiProgram → ℕ → ℕ
 undrawn p steps = if is_large p then steps - 400 else 0
 

@@ -1,4 +1,5 @@
--- A timeline as a picture, in SVG: a row for each rank, from the top, and time to the right. Numbers are pixels; x counts from the left, y from the top.
+-- A timeline as a picture, in SVG: a row for each rank, from the top, and time to the right.
+-- Numbers are pixels; x counts from the left, y from the top.
 use Rattle.std.specs.Prelude.{◌≡◌, ◌↔◌, ◌⊎◌, IsTrue, codes, ℕ, ◌+◌, ◌-◌, ◌*◌, ◌==◌, ◌&&◌, nat_le, nat_lt, not, Bool, true, false, if◌then◌else◌, is_some, List, [], ◌∷◌, ◌++◌, length, drop, take_while, Option, Some, None, slice_get, slice_index}
 use Rattle.std.specs.List.{flat_map, list_any, slice_index_or}
 use Rattle.std.specs.Option.{unwrap_or}
@@ -27,7 +28,8 @@ use Rattle.charts.specs.Cuts.{undrawn, undrawn_text}
 
 -- ---- places and words
 
--- Of three numbers the first where there are up to 14 columns, the second where there are up to 40, else the third.
+-- Of three numbers the first where there are up to 14 columns, the second where there are up to 40,
+-- else the third.
 abbrev pub by_width : ℕ → ℕ → ℕ → ℕ → ℕ
 by_width count wide middle narrow = if nat_le count 14 then wide else if nat_le count 40 then middle else narrow
 
@@ -156,7 +158,8 @@ abbrev pub hop : ℕ → ℕ → ℕ → List ℕ
 hop from_x to_x y =
     codes "M" ++ (numeral from_x ++ (codes " " ++ (numeral (y + 16) ++ (codes "C" ++ (numeral from_x ++ (codes " " ++ (numeral y ++ (codes " " ++ (numeral to_x ++ (codes " " ++ (numeral y ++ (codes " " ++ (numeral to_x ++ (codes " " ++ (numeral (y + 15) ++ codes "\"")))))))))))))))
 
--- the way of a message from its sender's row to that of the rank that finds it, at these places from the left
+-- the way of a message from its sender's row to that of the rank that finds it, at these places
+-- from the left
 abbrev pub way : ℕ → ℕ → ℕ → ℕ → ℕ → List ℕ
 way ranks from to from_x to_x =
     if from == to then hop from_x to_x (y_of ranks from) else if nat_lt from to then straight from_x (y_of ranks from + 32) to_x (y_of ranks to + 15) else straight from_x (y_of ranks from + 16) to_x (y_of ranks to + 33)
@@ -245,7 +248,8 @@ row p m calls count at cycle rank =
 abbrev pub bend : ℕ → ℕ → ℕ
 bend from to = if from + 1 == to then 40 else if to + 1 == from then 26 else if nat_lt from to then 58 else 46
 
--- an arc from a place to another, which is as far to the right as `past`; `far` tells how far it bends
+-- an arc from a place to another, which is as far to the right as `past`; `far` tells how far it
+-- bends
 abbrev pub arc_between : ℕ → ℕ → ℕ → ℕ → ℕ → List ℕ
 arc_between x past far from to =
     codes "<path d=\"M"
@@ -280,9 +284,10 @@ head well width height =
 abbrev pub top : Bool → ℕ → ℕ → List ℕ
 top well ranks count = head well (edge count + 460) (y_of ranks ranks + 20)
 
--- The parts of a picture: the head, how many steps come before the drawn ones, a row for each rank, a box for each issue, in order, an arrow
--- for each message that is taken or seen, in order, an arc for each rank of the cycle, and the foot. Whether all ranks finish, so many columns,
--- the steps in them, the cycle, and the marks of those that find a chosen message are given.
+-- The parts of a picture: the head, how many steps come before the drawn ones, a row for each rank,
+-- a box for each issue, in order, an arrow for each message that is taken or seen, in order, an arc
+-- for each rank of the cycle, and the foot. Whether all ranks finish, so many columns, the steps in
+-- them, the cycle, and the marks of those that find a chosen message are given.
 abbrev pub picture_at : Bool → MpiProgram → Configuration → List Label → ℕ → (ℕ → ℕ) → List Placed → List ℕ → List Bool → ℕ → List ℕ
 picture_at well p m calls count at steps cycle marks before =
     top well p.ranks count
@@ -295,8 +300,9 @@ picture_with well p m calls count steps cycle marks before = picture_at well p m
 abbrev pub IsRunToEnd : MpiProgram → List Step → Type 0
 IsRunToEnd p steps = IsStuckRun p steps ⊎ IsFinishedRun p steps
 
--- The text draws the run of these steps: those that are drawn stand in columns, and the cycle is one of ranks that wait for one another at the
--- run's end, or none where there is none. Its title tells whether all ranks finish. Which messages are marked as chosen is left open.
+-- The text draws the run of these steps: those that are drawn stand in columns, and the cycle is
+-- one of ranks that wait for one another at the run's end, or none where there is none. Its title
+-- tells whether all ranks finish. Which messages are marked as chosen is left open.
 pub record IsPicture (text : List ℕ) (source : ProgramText) (p : MpiProgram) (steps : List Step) (picture : List ℕ) : Type 0 where
   pub well : Bool
   pub count : ℕ

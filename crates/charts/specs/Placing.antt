@@ -57,8 +57,8 @@ pub record IsRaised (p : MpiProgram) (c column : ℕ) (old new : List Row) : Typ
   pub is_call : call_at p c ≡ Some call
   pub is_new : new ≡ slice_set old call.rank (raised (row_at old call.rank) column)
 
--- The column is left of the row's first free one, and of that of the waits that were issued last, or it is theirs, and the call is one of
--- them.
+-- The column is left of the row's first free one, and of that of the waits that were issued last,
+-- or it is theirs, and the call is one of them.
 pub record IsIssuedBefore (p : MpiProgram) (calls : List Label) (row : Row) (c column : ℕ) : Type 0 where
   pub free : column < row.free
   pub waits : (shared : Shared) → row.waits ≡ Some shared → (column < shared.column) ⊎ ((column ≡ shared.column) × (wait_line p calls c ≡ Some shared.line))
@@ -89,7 +89,8 @@ IsFind send finder (Issue c b) = ⊥
 IsFind send finder (Match s t) = (s ≡ send) × (t ≡ finder)
 IsFind send finder (See s f) = (s ≡ send) × (f ≡ finder)
 
--- The steps so far stand in so many columns; rows and issues, of which there are as many as ranks and calls, are known.
+-- The steps so far stand in so many columns; rows and issues, of which there are as many as ranks
+-- and calls, are known.
 pub record ArePlaced (p : MpiProgram) (calls : List Label) (rows : List Row) (issues : List ℕ) (count : ℕ) (steps : List Placed) : Type 0 where
   pub program : IsProgramWithin long p
   pub all_rows : length rows ≡ p.ranks

@@ -388,14 +388,17 @@ fn put_end(out: &mut Vec<u8>, program: &LongProgram, end: &State) -> Result<(), 
     end_line(out)
 }
 
-/// A message sequence chart of a run of a program that ends stuck, in plain ASCII: time goes downwards, and each rank has a column, 16
-/// characters wide, with its name on top. Each step has a row. An issue shows the words of the call's line in its rank's column, cut
-/// to 15 characters, a buffered send with `b ` before them. A match is an arrow from `o` in the sender's column to `>` or `<` in that of
-/// the rank that takes the message, or `@` where both are one rank, and the lines of the two calls behind it; a see is such an arrow
-/// of dots. The last row has `waits` or `done` for each rank. More than 8 ranks have columns 6 wide, headed `r0` and so on, and no
-/// words: `i4` is the issue of a call in line 4, and `b4` that of a buffered send. Of a run of a program of more than 64 ranks or 1,024 calls
-/// the last 400 steps are drawn, below a line that tells how many come before. `text` is the program's text, `source` what it says, and
-/// `program` its calls. The only error is want of memory.
+/// A message sequence chart of a run of a program that ends stuck, in plain ASCII: time goes
+/// downwards, and each rank has a column, 16 characters wide, with its name on top. Each step has a
+/// row. An issue shows the words of the call's line in its rank's column, cut to 15 characters, a
+/// buffered send with `b ` before them. A match is an arrow from `o` in the sender's column to `>`
+/// or `<` in that of the rank that takes the message, or `@` where both are one rank, and the lines
+/// of the two calls behind it; a see is such an arrow of dots. The last row has `waits` or `done`
+/// for each rank. More than 8 ranks have columns 6 wide, headed `r0` and so on, and no words: `i4`
+/// is the issue of a call in line 4, and `b4` that of a buffered send. Of a run of a program of
+/// more than 64 ranks or 1,024 calls the last 400 steps are drawn, below a line that tells how many
+/// come before. `text` is the program's text, `source` what it says, and `program` its calls. The
+/// only error is want of memory.
 pub fn chart(
     alloc: Global,
     text: &[u8],

@@ -11,7 +11,8 @@ use writing::{Part, put_parts, put_text};
 /// The most steps of a run of a large program that are drawn.
 const MOST_STEPS: usize = 400;
 
-/// How many of so many steps come before the drawn ones: of a run of a large program the last 400 are drawn, else all.
+/// How many of so many steps come before the drawn ones: of a run of a large program the last 400
+/// are drawn, else all.
 pub fn undrawn(program: &LongProgram, steps: usize) -> usize
     ensures value { result ≡ undrawn program.now steps }
     ensures few { result ≤ steps }

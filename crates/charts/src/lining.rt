@@ -111,10 +111,12 @@ fn put_lines(out: &mut Vec<u8>, calls: &[CallLabel], acts: &[Act]) -> Result<(),
     Ok(())
 }
 
-/// A line for each step of a run of a program that ends stuck, and then `stuck`, in plain ASCII: of an issue the rank, the line and its
-/// words, with ` (buffered)` behind them where the step buffers a send, and of a match or a see the rank and the line of the send and
-/// of the call that takes or sees its message. Words are cut after 60 characters; behind those of a `sendrecv` stands which part of it
-/// the call is. `text` is the program's text, `source` what it says, and `program` its calls. The only error is want of memory.
+/// A line for each step of a run of a program that ends stuck, and then `stuck`, in plain ASCII: of
+/// an issue the rank, the line and its words, with ` (buffered)` behind them where the step buffers
+/// a send, and of a match or a see the rank and the line of the send and of the call that takes or
+/// sees its message. Words are cut after 60 characters; behind those of a `sendrecv` stands which
+/// part of it the call is. `text` is the program's text, `source` what it says, and `program` its
+/// calls. The only error is want of memory.
 pub fn lined_steps(
     alloc: Global,
     text: &[u8],

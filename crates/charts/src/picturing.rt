@@ -543,7 +543,8 @@ fn is_chosen(marks: &[bool], finder: usize) -> bool
     marks.get(finder).copied().unwrap_or(false)
 }
 
-/// Writes the group of a message that the call at a place finds, of the send at another, which is issued in a column.
+/// Writes the group of a message that the call at a place finds, of the send at another, which is
+/// issued in a column.
 fn put_find(
     out: &mut Vec<u8>,
     ranks: u32,
@@ -985,7 +986,8 @@ fn put_top(out: &mut Vec<u8>, well: bool, ranks: u32, count: usize) -> Result<()
     Ok(())
 }
 
-/// Of each call whether it finds a message where others fitted too. Of large programs it isn't asked, since that takes long.
+/// Of each call whether it finds a message where others fitted too. Of large programs it isn't
+/// asked, since that takes long.
 fn marks_of(alloc: Global, program: &LongProgram, steps: &[Step]) -> Result<Vec<bool>, AllocError>
     requires { IsRun program.now (opening program.now) steps.now }
 {
@@ -1057,19 +1059,24 @@ fn picture_of(
     Ok(out)
 }
 
-/// A timeline of a run of a program that ends stuck, or in which all ranks finish, as a picture in SVG that stands alone: each rank has a
-/// row, rank 0 the uppermost, time goes to the right, and steps that don't wait for one another may share a column. An issue is a group
-/// of class `step` with a box in its rank's row, in which the call's line stands, and its verb where there are up to 14 columns; waits of
-/// one line, as those of a `waitall`, lie over one another. Sends are blue, buffered ones pale, receives green, probes purple, waits
-/// grey; a send whose message is never received has a red stub. A match is a group of class `step` with an arrow from the box of the send
-/// to the row of the rank that takes the message, and a see a dashed one; it is orange where the call could have found another message
-/// too, which isn't asked of programs of more than 64 ranks or 1,024 calls. In the row of a rank that waits at the end a red bar leads
-/// from the call that it waits in to the right edge, behind which the call's line and words stand; behind the other rows stands
-/// `finished`. Ranks of a cycle of ranks that wait for one another have a red name, and red arcs lead from each to the next. Each group
-/// has a title with ranks, lines and words. Where all ranks finish there is no bar and no cycle, behind each row stands `finished`, and
-/// the picture's title says that the run ends well. Of a run of a program of more than 64 ranks or 1,024 calls the last 400 steps are
-/// drawn, however it ends, and above the rows stands how many come before. `text` is the program's text, `source` what it says, and
-/// `program` its calls. The only error is want of memory.
+/// A timeline of a run of a program that ends stuck, or in which all ranks finish, as a picture in
+/// SVG that stands alone: each rank has a row, rank 0 the uppermost, time goes to the right, and
+/// steps that don't wait for one another may share a column. An issue is a group of class `step`
+/// with a box in its rank's row, in which the call's line stands, and its verb where there are up
+/// to 14 columns; waits of one line, as those of a `waitall`, lie over one another. Sends are blue,
+/// buffered ones pale, receives green, probes purple, waits grey; a send whose message is never
+/// received has a red stub. A match is a group of class `step` with an arrow from the box of the
+/// send to the row of the rank that takes the message, and a see a dashed one; it is orange where
+/// the call could have found another message too, which isn't asked of programs of more than 64
+/// ranks or 1,024 calls. In the row of a rank that waits at the end a red bar leads from the call
+/// that it waits in to the right edge, behind which the call's line and words stand; behind the
+/// other rows stands `finished`. Ranks of a cycle of ranks that wait for one another have a red
+/// name, and red arcs lead from each to the next. Each group has a title with ranks, lines and
+/// words. Where all ranks finish there is no bar and no cycle, behind each row stands `finished`,
+/// and the picture's title says that the run ends well. Of a run of a program of more than 64 ranks
+/// or 1,024 calls the last 400 steps are drawn, however it ends, and above the rows stands how many
+/// come before. `text` is the program's text, `source` what it says, and `program` its calls. The
+/// only error is want of memory.
 pub fn picture(
     alloc: Global,
     text: &[u8],

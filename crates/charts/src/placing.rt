@@ -163,7 +163,8 @@ pub fn issued_in(issues: &[usize], call: usize) -> usize
     issues.get(call).copied().unwrap_or(0)
 }
 
-/// Leaves no column up to this one free in the row of a call's rank. That there is no such call is told as want of memory.
+/// Leaves no column up to this one free in the row of a call's rank. That there is no such call is
+/// told as want of memory.
 fn raise(
     rows: &mut Vec<Row>,
     program: &LongProgram,
@@ -258,7 +259,8 @@ impl Columns {
     }
 }
 
-/// The steps of a part of a run in columns, each as far to the left as earlier ones let it stand. The only error is want of memory.
+/// The steps of a part of a run in columns, each as far to the left as earlier ones let it stand.
+/// The only error is want of memory.
 pub fn columns_of(
     alloc: Global,
     program: &LongProgram,

@@ -119,7 +119,8 @@ point p claim (verdicts.Refused (reasons.NotStuck end)) is = absurd is
 
 -- ---- each point has one verdict, and rules out the ones below it
 
--- two verdicts, each reached here as the same one or further below: where not both can be, they are equal
+-- two verdicts, each reached here as the same one or further below: where not both can be, they are
+-- equal
 here_or_below : (Here Past One Other : Type 0) (v w reached : Verdict) → (Here → Past → ⊥) → (One → Other → v ≡ w)
     → (Here × (v ≡ reached)) ⊎ (Past × One) → (Here × (w ≡ reached)) ⊎ (Past × Other) → v ≡ w
 here_or_below Here Past One Other v w reached apart below (inl a) (inl b) = a.1 ∙ sym b.1

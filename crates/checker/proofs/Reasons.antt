@@ -34,7 +34,8 @@ is_no_run program evidence (reasons.Unneeded number) is = absurd (let never = is
 is_no_run program evidence (reasons.Replay at) is = absurd (let never = is.0 in cc)
 is_no_run program evidence (reasons.NotStuck end) is = absurd (let never = is.0 in cc)
 
--- a refutation with the counts of the program's formula doesn't refute the program where it isn't accepted for that formula
+-- a refutation with the counts of the program's formula doesn't refute the program where it isn't
+-- accepted for that formula
 unaccepted_is_unrefuted : (p : MpiProgram) (claim : ClaimedRefutation) (reason : Reason) → HasCounts p claim → IsUnaccepted reason (formula_of p) claim → IsUnrefuted reason p claim
 unaccepted_is_unrefuted p claim (reasons.Line found) counts why = (counts, why)
 unaccepted_is_unrefuted p claim (reasons.Tree fault) counts why = (counts, why)

@@ -35,13 +35,14 @@ use Rattle.checker.specs.declared.reason.Verdict.TheVariants as verdicts
 
 -- ---- the headline
 
--- The program's bytes are the text of a program, and no list of steps is a run of it that ends where a rank is unfinished and no
--- step is enabled.
+-- The program's bytes are the text of a program, and no list of steps is a run of it that ends
+-- where a rank is unfinished and no step is enabled.
 abbrev pub IsNeverStuck : List ℕ → Type 0
 IsNeverStuck = IsNeverStuckWithin short
 
--- The program's bytes are the text of a program, the evidence's bytes are the text of a schedule, and the schedule is
--- a run of that program that ends where a rank is unfinished and no step is enabled.
+-- The program's bytes are the text of a program, the evidence's bytes are the text of a schedule,
+-- and the schedule is a run of that program that ends where a rank is unfinished and no step is
+-- enabled.
 pub record Shows (program evidence : List ℕ) : Type 0 where
   pub p : MpiProgram
   pub steps : List Step
@@ -51,7 +52,8 @@ pub record Shows (program evidence : List ℕ) : Type 0 where
 
 -- ---- texts
 
--- the program's text has a value, the evidence's text is a schedule's, and this holds of the program and the steps
+-- the program's text has a value, the evidence's text is a schedule's, and this holds of the
+-- program and the steps
 pub record OfSchedule (program evidence : List ℕ) (Holds : MpiProgram → List Step → Type 0) : Type 0 where
   pub p : MpiProgram
   pub steps : List Step
@@ -59,7 +61,8 @@ pub record OfSchedule (program evidence : List ℕ) (Holds : MpiProgram → List
   pub schedule : IsEvidenceText evidence (Schedule steps)
   pub holds : Holds p steps
 
--- the program's text has a value, the evidence's text is a refutation's, and this holds of the program and the refutation
+-- the program's text has a value, the evidence's text is a refutation's, and this holds of the
+-- program and the refutation
 pub record OfRefutation (program evidence : List ℕ) (Holds : MpiProgram → ClaimedRefutation → Type 0) : Type 0 where
   pub p : MpiProgram
   pub claim : ClaimedRefutation
@@ -73,8 +76,9 @@ IsARefutation program evidence = OfRefutation program evidence (λ p claim. Unit
 
 -- ---- refutations of a program
 
--- The formula of the program is within the limits: at most 8,192 fitting pairs of a send and a receive, matched probe or probe,
--- 1,024 events and 4,000,000 clauses. An event is the issue of a call, the match of a taker or the see of a probe.
+-- The formula of the program is within the limits: at most 8,192 fitting pairs of a send and a
+-- receive, matched probe or probe, 1,024 events and 4,000,000 clauses. An event is the issue of a
+-- call, the match of a taker or the see of a probe.
 pub record HasFormula (p : MpiProgram) : Type 0 where
   pub few_pairs : length (pairs_of p) ≤ 8192
   pub few_events : length (events p) ≤ 1024
@@ -94,8 +98,8 @@ pub record HasCounts (p : MpiProgram) (claim : ClaimedRefutation) : Type 0 where
   pub variables : claim.variables ≡ (formula_of p).variables
   pub clauses : claim.clauses ≡ length (formula_of p).clauses
 
--- the refutation has the counts of the program's formula, and its lines and its tree are accepted for that formula; one of version 2 has
--- no line that is not needed
+-- the refutation has the counts of the program's formula, and its lines and its tree are accepted
+-- for that formula; one of version 2 has no line that is not needed
 pub record IsRefutedBy (p : MpiProgram) (claim : ClaimedRefutation) : Type 0 where
   pub counts : HasCounts p claim
   pub accepted : Accepts (formula_of p) claim.lines claim.nodes
@@ -105,7 +109,8 @@ pub record IsRefutedBy (p : MpiProgram) (claim : ClaimedRefutation) : Type 0 whe
 abbrev pub Refutes : List ℕ → List ℕ → Type 0
 Refutes program evidence = OfRefutation program evidence IsRefutedBy
 
--- The one text is that of a program, whose formula this is, and the other text is that of this refutation, which refutes the program.
+-- The one text is that of a program, whose formula this is, and the other text is that of this
+-- refutation, which refutes the program.
 pub record AreRefuted (program evidence : List ℕ) (f : Conjunction) (claim : ClaimedRefutation) : Type 0 where
   pub p : MpiProgram
   pub text : IsTextOf program p
@@ -117,16 +122,17 @@ pub record AreRefuted (program evidence : List ℕ) (f : Conjunction) (claim : C
 abbrev pub IsUnneeded : ℕ → ClaimedRefutation → Type 0
 IsUnneeded number claim = (claim.version ≡ Two) × IsFirstUnneeded claim.clauses claim.lines claim.nodes number
 
--- why a refutation isn't accepted for a formula: its first line that isn't derived, else the first node that isn't accepted, else, in
--- version 2, the first line that isn't needed
+-- why a refutation isn't accepted for a formula: its first line that isn't derived, else the first
+-- node that isn't accepted, else, in version 2, the first line that isn't needed
 abbrev pub IsUnaccepted : Reason → Conjunction → ClaimedRefutation → Type 0
 IsUnaccepted (reasons.Line found) f claim = IsFirstFaulty f claim.lines 0 found
 IsUnaccepted (reasons.Tree fault) f claim = AreDerived f claim.lines × HasTreeFault f claim.lines claim.nodes fault
 IsUnaccepted (reasons.Unneeded number) f claim = AreDerived f claim.lines × AcceptsTree f claim.lines claim.nodes × IsUnneeded number claim
 IsUnaccepted _ f claim = ⊥
 
--- Why a refutation is refused for a program, in this order: the program's formula is beyond a limit; the counts are not the
--- formula's; a line isn't derived; a node of the tree isn't accepted; the refutation has version 2, and a line isn't needed.
+-- Why a refutation is refused for a program, in this order: the program's formula is beyond a
+-- limit; the counts are not the formula's; a line isn't derived; a node of the tree isn't accepted;
+-- the refutation has version 2, and a line isn't needed.
 abbrev pub IsUnrefuted : Reason → MpiProgram → ClaimedRefutation → Type 0
 IsUnrefuted (reasons.Pairs fault) p claim = HasNoFormula (reasons.Pairs fault) p
 IsUnrefuted (reasons.Encode fault) p claim = HasNoFormula (reasons.Encode fault) p
@@ -138,15 +144,16 @@ IsUnrefuted _ p claim = ⊥
 
 -- ---- schedules of a program
 
--- why a schedule shows no deadlock of a program: a step isn't enabled; the run ends finished, or live
+-- why a schedule shows no deadlock of a program: a step isn't enabled; the run ends finished, or
+-- live
 abbrev pub IsUnshown : Reason → MpiProgram → List Step → Type 0
 IsUnshown (reasons.Replay at) p steps = StopsAt p steps at
 IsUnshown (reasons.NotStuck ends.Finished) p steps = IsFinishedRun p steps
 IsUnshown (reasons.NotStuck ends.Live) p steps = IsLiveRun p steps
 IsUnshown _ p steps = ⊥
 
--- The one text says this, and is that of this program, and the other text is that of this schedule, which is a run of the program that ends
--- where a rank is unfinished and no step is enabled.
+-- The one text says this, and is that of this program, and the other text is that of this schedule,
+-- which is a run of the program that ends where a rank is unfinished and no step is enabled.
 pub record AreShown (program evidence : List ℕ) (source : ProgramText) (p : MpiProgram) (steps : List Step) : Type 0 where
   pub says : IsText program source
   pub text : IsTextOf program p
@@ -155,9 +162,10 @@ pub record AreShown (program evidence : List ℕ) (source : ProgramText) (p : Mp
 
 -- ---- verdicts
 
--- Each reason is the first that there is, in this order: the program's text has a fault; its call lines have one; the
--- evidence's text has one; the evidence is a refutation that is refused for the program; a step of the schedule is not
--- enabled; the schedule's run does not end stuck. Want of memory may come at any time.
+-- Each reason is the first that there is, in this order: the program's text has a fault; its call
+-- lines have one; the evidence's text has one; the evidence is a refutation that is refused for the
+-- program; a step of the schedule is not enabled; the schedule's run does not end stuck. Want of
+-- memory may come at any time.
 abbrev pub IsReason : List ℕ → List ℕ → Reason → Type 0
 IsReason program evidence reasons.Memory = Unit {0}
 IsReason program evidence (reasons.Read fault) = HasFault program fault × (fault ≢ reading.Memory)
@@ -178,8 +186,9 @@ Judges program evidence verdicts.NoDeadlock = Refutes program evidence
 Judges program evidence verdicts.Deadlock = Shows program evidence
 Judges program evidence (verdicts.Refused reason) = IsReason program evidence reason
 
--- What is handed out of two texts that were judged: the program with its formula, and the refutation that refutes it; or what the program's
--- text says, the program, and the schedule that is a run of it which ends stuck; or why neither is.
+-- What is handed out of two texts that were judged: the program with its formula, and the
+-- refutation that refutes it; or what the program's text says, the program, and the schedule that
+-- is a run of it which ends stuck; or why neither is.
 abbrev pub IsJudged : List ℕ → List ℕ → Result Judged Reason → Type 0
 IsJudged program evidence (Ok (judged.Refuted r)) = (are : AreRefuted program evidence r.formula r.refutation) × (are.p ≡ r.program)
 IsJudged program evidence (Ok (judged.Stuck run)) = AreShown program evidence run.source run.program run.schedule

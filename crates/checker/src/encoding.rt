@@ -12,8 +12,8 @@ use nonovertake::earlier;
 use std::alloc::Global;
 use std::thread::Threads;
 
-/// The program with its formula, or why it has none: want of memory, more than 8,192 fitting pairs, more than 1,024
-/// events, or more than 4,000,000 clauses. The first limit that is passed is told.
+/// The program with its formula, or why it has none: want of memory, more than 8,192 fitting pairs,
+/// more than 1,024 events, or more than 4,000,000 clauses. The first limit that is passed is told.
 pub fn formula_of(
     rt: &(impl Threads + Sync),
     alloc: Global,

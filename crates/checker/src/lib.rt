@@ -1,4 +1,5 @@
-//! The checker: judges a program's text by an evidence's text, whoever wrote them. It makes the program's formula itself.
+//! The checker: judges a program's text by an evidence's text, whoever wrote them. It makes the
+//! program's formula itself.
 //!
 //! The checks of proof lines and trees are passed on here.
 #![tactic(auto)]

@@ -24,7 +24,8 @@ pub enum Verdict {
     Refused(Reason),
 }
 
-/// Why an evidence is refused. The reasons are tested in this order, but want of memory may come at any time.
+/// Why an evidence is refused. The reasons are tested in this order, but want of memory may come at
+/// any time.
 #[derive(Clone, Copy, Debug, PartialEq, Eq, Error)]
 pub enum Reason {
     /// Memory ran out.
@@ -42,11 +43,12 @@ pub enum Reason {
     /// The evidence is a refutation, and the program has more than 8,192 fitting pairs.
     #[error("{0}")]
     Pairs(PairFault),
-    /// The evidence is a refutation, and the program has more than 1,024 events, or its formula more than 4,000,000
-    /// clauses.
+    /// The evidence is a refutation, and the program has more than 1,024 events, or its formula
+    /// more than 4,000,000 clauses.
     #[error("{0}")]
     Encode(EncodeFault),
-    /// The evidence is a refutation, and its counts of variables and clauses are not those of the program's formula.
+    /// The evidence is a refutation, and its counts of variables and clauses are not those of the
+    /// program's formula.
     #[error("counts")]
     Counts,
     /// The first line of the refutation that isn't derived.
@@ -55,7 +57,8 @@ pub enum Reason {
     /// The first node of the refutation's tree that isn't accepted.
     #[error("{0}")]
     Tree(TreeFault),
-    /// The first line that isn't needed of a refutation of version 2, whose lines and tree are accepted.
+    /// The first line that isn't needed of a refutation of version 2, whose lines and tree are
+    /// accepted.
     #[error("proof line {number} unneeded")]
     Unneeded { number: usize },
     /// The first step of the schedule, counted from 1, that isn't enabled.

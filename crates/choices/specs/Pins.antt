@@ -9,8 +9,8 @@ use Rattle.narrowing.specs.declared.taken.Taken.{Taken}
 abbrev pub joined : List (List ℕ) → List ℕ
 joined lines = flat_map (λ line. line) lines
 
--- The pinned text has the lines of the text, but in place of that of this number, from 1, it has words that say that what is taken is taken: one line,
--- or the four calls of a `sendrecv`.
+-- The pinned text has the lines of the text, but in place of that of this number, from 1, it has
+-- words that say that what is taken is taken: one line, or the four calls of a `sendrecv`.
 pub record IsPinned (text : List ℕ) (number : ℕ) (taken : Taken) (pinned : List ℕ) : Type 0 where
   pub before : List (List ℕ)
   pub old : List ℕ
@@ -19,7 +19,8 @@ pub record IsPinned (text : List ℕ) (number : ℕ) (taken : Taken) (pinned : L
   pub place : number ≡ length before + 1
   pub is : pinned ≡ joined (before ++ (line_with taken old ++ 10 ∷ []) ∷ after)
 
--- the line of this number, from 1, without its LF; the lines before it are the front, and the lines after it the back
+-- the line of this number, from 1, without its LF; the lines before it are the front, and the lines
+-- after it the back
 pub record AreAround (text : List ℕ) (number : ℕ) (front old back : List ℕ) : Type 0 where
   pub before : List (List ℕ)
   pub after : List (List ℕ)

@@ -18,7 +18,8 @@ use Rattle.choices.specs.declared.items.Need.{Need}
 use Rattle.choices.specs.declared.items.Need.TheVariants as needs
 use Rattle.choices.specs.declared.items.Weighed.{Weighed}
 
--- The choice is one of the program: its call leaves it open, and its other ways are all that there are.
+-- The choice is one of the program: its call leaves it open, and its other ways are all that there
+-- are.
 pub record IsChoiceOf (p : MpiProgram) (choice : Choice) : Type 0 where
   pub leaves : LeavesOpen p choice.call choice.taken
   pub ways : AreOtherWays p choice.call choice.taken choice.others.items
@@ -27,7 +28,8 @@ pub record IsChoiceOf (p : MpiProgram) (choice : Choice) : Type 0 where
 abbrev pub AreChoicesOf : MpiProgram → List Choice → Type 0
 AreChoicesOf p choices = All (IsChoiceOf p) choices
 
--- with other words in the place of the line of this number, which leave open no more than this, the text is a program's that has a run that ends stuck
+-- with other words in the place of the line of this number, which leave open no more than this, the
+-- text is a program's that has a run that ends stuck
 abbrev pub HangsWith : List ℕ → ℕ → Taken → Type 0
 HangsWith text number taken = (pinned : List ℕ) × IsPinned text number taken pinned × CanHang pinned
 
@@ -37,8 +39,8 @@ pub record IsNarrowedText (p : MpiProgram) (call : ℕ) (taken : Taken) (text : 
   pub is_text : IsTextOf text narrowed
   pub is_narrowed : IsNarrowed p call taken narrowed
 
--- With such words in the place of the line of this number the text is that of the program in which this call leaves open no more than this way, and no run of
--- it ends stuck.
+-- With such words in the place of the line of this number the text is that of the program in which
+-- this call leaves open no more than this way, and no run of it ends stuck.
 pub record NeverWith (text : List ℕ) (number : ℕ) (p : MpiProgram) (call : ℕ) (taken : Taken) : Type 0 where
   pub pinned : List ℕ
   pub is_pinned : IsPinned text number taken pinned
@@ -77,16 +79,18 @@ AreOthers text p choice needs.Tried = Unit {0}
 AreOthers text p choice needs.No = SomeHangs text choice.line choice.others.items
 AreOthers text p choice needs.NotAsked = Unit {0}
 
--- The choice is one of the text's program, with all of its other ways, of which there are some, and in none of which a run ends stuck.
+-- The choice is one of the text's program, with all of its other ways, of which there are some, and
+-- in none of which a run ends stuck.
 pub record IsKnown (text : List ℕ) (choice : Choice) : Type 0 where
   pub p : MpiProgram
   pub is_text : IsTextOf text p
   pub is_choice : IsChoiceOf p choice
   pub none : NoneHangs text p choice
 
--- Where a choice was asked about, the program of the text whose line says what the run did has a run that ends stuck. Where it is known to be needed,
--- no run ends stuck where the line says any other way, and the other ways are all that there are. Where it is told not to be needed, some run ends stuck where it
--- says another way.
+-- Where a choice was asked about, the program of the text whose line says what the run did has a
+-- run that ends stuck. Where it is known to be needed, no run ends stuck where the line says any
+-- other way, and the other ways are all that there are. Where it is told not to be needed, some run
+-- ends stuck where it says another way.
 abbrev pub IsWeighed : List ℕ → Choice → Need → Type 0
 IsWeighed text choice needs.Known = HangsWith text choice.line choice.taken × IsKnown text choice
 IsWeighed text choice needs.Tried = HangsWith text choice.line choice.taken
@@ -97,8 +101,9 @@ IsWeighed text choice needs.NotAsked = Unit {0}
 abbrev pub AreWeighed : List ℕ → List Weighed → Type 0
 AreWeighed text choices = All (λ weighed. IsWeighed text weighed.choice weighed.need) choices
 
--- Each run of the text's program that ends stuck makes a choice that is known to be needed as it was made: the send is issued and buffered, or not; or
--- the call has found a message of that rank with that tag.
+-- Each run of the text's program that ends stuck makes a choice that is known to be needed as it
+-- was made: the send is issued and buffered, or not; or the call has found a message of that rank
+-- with that tag.
 abbrev pub KnownIsTaken : Type 0
 KnownIsTaken =
     (text : List ℕ) (choice : Choice) (p : MpiProgram) (steps : List Step) → IsWeighed text choice needs.Known → IsTextOf text p → IsStuckRun p steps

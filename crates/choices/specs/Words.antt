@@ -21,7 +21,8 @@ is_joined line = starts_with (λ x y. x == y) line (codes "sendrecv")
 abbrev pub letter_line : ℕ → List ℕ → List ℕ
 letter_line letter line = take (front_letters line) line ++ letter ∷ drop (front_letters line) line
 
--- the place, from 0, of the word that names the source: the one before the tag, with which the line ends, unless ` comm C` follows
+-- the place, from 0, of the word that names the source: the one before the tag, with which the line
+-- ends, unless ` comm C` follows
 abbrev pub source_place : List (List ℕ) → ℕ
 source_place words = if is_same (get_or words (length words - 2) []) (codes "comm") then length words - 4 else length words - 2
 
@@ -52,12 +53,13 @@ spaced_word words place = codes " " ++ get_or words place []
 abbrev pub communicator_words : List (List ℕ) → List ℕ
 communicator_words words = if is_same (get_or words 5 []) (codes "comm") then spaced_word words 5 ++ spaced_word words 6 else []
 
--- the end of a line of one part of a `sendrecv`: the words at these places, for its rank and its tag, and its communicator
+-- the end of a line of one part of a `sendrecv`: the words at these places, for its rank and its
+-- tag, and its communicator
 abbrev pub part_words : List (List ℕ) → ℕ → ℕ → List ℕ
 part_words words rank tag = spaced_word words rank ++ spaced_word words tag ++ communicator_words words ++ codes "\n"
 
--- The four calls that `sendrecv D T S U` stands for, with this letter before the `send`: `isend sendofsendrecv D T`,
--- `irecv recvofsendrecv S U`, and a wait for each.
+-- The four calls that `sendrecv D T S U` stands for, with this letter before the `send`:
+-- `isend sendofsendrecv D T`, `irecv recvofsendrecv S U`, and a wait for each.
 abbrev pub four_lines : ℕ → List (List ℕ) → List ℕ
 four_lines letter words =
     codes "i" ++ letter ∷ codes "send sendofsendrecv" ++ part_words words 1 2 ++ codes "irecv recvofsendrecv" ++ part_words words 3 4
@@ -67,7 +69,8 @@ four_lines letter words =
 abbrev pub mode_line : ℕ → List ℕ → List ℕ
 mode_line letter line = if is_joined line then four_lines letter (slice_split (λ b. b == 32) line) else letter_line letter line
 
--- the line with words that leave open no more than what a run did: a buffered send is one in buffered mode, another one is synchronous
+-- the line with words that leave open no more than what a run did: a buffered send is one in
+-- buffered mode, another one is synchronous
 abbrev pub line_with : Taken → List ℕ → List ℕ
 line_with taken.Buffered line = mode_line 98 line
 line_with taken.NotBuffered line = mode_line 115 line

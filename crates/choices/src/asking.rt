@@ -69,7 +69,8 @@ fn walked(alloc: Global, text: &[u8]) -> Result<Way, AllocError>
     }
 }
 
-/// Whether the second program is the first one, but that this call of it leaves open no more than this way.
+/// Whether the second program is the first one, but that this call of it leaves open no more than
+/// this way.
 fn is_narrowed_to(program: &LongProgram, call: usize, way: Taken, narrowed: &Program) -> bool
     ensures { IsTrue result → IsNarrowed program.now call way narrowed.now }
 {
@@ -108,9 +109,10 @@ fn asked<R: Threads + Wait + Sync>(
     }
 }
 
-/// What is known of the program of the text with other words in the place of a choice's line, which leave open no more than this way: by a
-/// search, or where none is given by walks alone. That no run of it ends stuck is told only where those words narrow the choice's call and change
-/// no other.
+/// What is known of the program of the text with other words in the place of a choice's line, which
+/// leave open no more than this way: by a search, or where none is given by walks alone. That no
+/// run of it ends stuck is told only where those words narrow the choice's call and change no
+/// other.
 pub fn way_with<R: Threads + Wait + Sync>(
     rt: &R,
     alloc: Global,
@@ -155,8 +157,8 @@ fn is_run(alloc: Global, program: &Program, steps: &[Step]) -> Result<bool, Allo
     }
 }
 
-/// Whether the steps are a run that ends stuck of the program of the text with other words in the place of its line of this number, from 1,
-/// which leave open no more than this.
+/// Whether the steps are a run that ends stuck of the program of the text with other words in the
+/// place of its line of this number, from 1, which leave open no more than this.
 pub fn hangs_with(
     alloc: Global,
     text: &[u8],

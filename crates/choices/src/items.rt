@@ -16,17 +16,20 @@ pub struct Choice {
     pub step: usize,
     /// What the run did.
     pub taken: Taken,
-    /// All that the call could have done otherwise: of a send the other one of the two ways, of a call that found a message the
-    /// rank and the tag of each send of the program that fits it, but for those that it found.
+    /// All that the call could have done otherwise: of a send the other one of the two ways, of a
+    /// call that found a message the rank and the tag of each send of the program that fits it, but
+    /// for those that it found.
     pub others: Vec<Taken>,
 }
 
 /// Whether a program hangs only where a choice is made as in a run.
 #[derive(Clone, Copy, PartialEq, Eq)]
 pub enum Need {
-    /// It does: each run of the program that ends stuck makes the choice so, since none does with the choice made in any other way.
+    /// It does: each run of the program that ends stuck makes the choice so, since none does with
+    /// the choice made in any other way.
     Known,
-    /// No run that ends stuck was found with the choice made in another way; not all other ways are known to have none.
+    /// No run that ends stuck was found with the choice made in another way; not all other ways are
+    /// known to have none.
     Tried,
     /// Some run ends stuck with the choice made in another way.
     No,
@@ -50,7 +53,8 @@ pub enum Extent {
     Always,
     /// In each that was taken where the choices are made as in the run.
     Whenever,
-    /// Also with all choices made as in the run some walk does not end stuck, or no walk was left to ask by.
+    /// Also with all choices made as in the run some walk does not end stuck, or no walk was left
+    /// to ask by.
     NotFound,
 }
 
@@ -59,7 +63,8 @@ pub enum Extent {
 pub struct Decided {
     /// In which walks the program hangs.
     pub extent: Extent,
-    /// Choices that suffice, in the order of the run. There are some only where it hangs whenever they are made so.
+    /// Choices that suffice, in the order of the run. There are some only where it hangs whenever
+    /// they are made so.
     pub choices: Vec<Weighed>,
     /// Whether it was asked of each of them whether it suffices without it.
     pub least: bool,

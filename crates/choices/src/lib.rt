@@ -1,7 +1,8 @@
-//! What decided that a run of a program ends stuck: which of its sends had to be buffered, or not, and which messages its
-//! wildcards had to find.
+//! What decided that a run of a program ends stuck: which of its sends had to be buffered, or not,
+//! and which messages its wildcards had to find.
 //!
-//! A choice is pinned by other words in the place of one line of the program's text, so all that is proved of texts holds of the pinned program too.
+//! A choice is pinned by other words in the place of one line of the program's text, so all that is
+//! proved of texts holds of the pinned program too.
 #![tactic(auto)]
 
 mod asking;

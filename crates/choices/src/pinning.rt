@@ -8,7 +8,8 @@ use narrowing::Taken;
 use plaintext::next_line;
 use std::alloc::{AllocError, Global};
 
-/// The line of this number, from 1, without its LF, between what stands before it and what stands after its LF.
+/// The line of this number, from 1, without its LF, between what stands before it and what stands
+/// after its LF.
 fn around(text: &[u8], number: usize) -> Option<(&[u8], &[u8], &[u8])>
     ensures { IfSome result (λ found. AreAround text.now number found.0.now found.1.now found.2.now) }
 {
@@ -28,8 +29,9 @@ fn around(text: &[u8], number: usize) -> Option<(&[u8], &[u8], &[u8])>
     Some((&text[..text.len() - rest.len()], old, after))
 }
 
-/// The text with other words in the place of its line of this number, from 1, which leave open no more than what a run did. None where the
-/// text has no such line. The only error is want of memory.
+/// The text with other words in the place of its line of this number, from 1, which leave open no
+/// more than what a run did. None where the text has no such line. The only error is want of
+/// memory.
 pub fn with_choice(
     alloc: Global,
     text: &[u8],

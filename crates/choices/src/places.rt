@@ -26,7 +26,8 @@ fn put_numbers(numbers: &mut Vec<usize>, words: &[&[u8]], number: usize) -> Resu
     }
 }
 
-/// For each call the number of its line, from 1, or 0 for the waits of a `waitall` and of a `sendrecv`, which leave nothing open.
+/// For each call the number of its line, from 1, or 0 for the waits of a `waitall` and of a
+/// `sendrecv`, which leave nothing open.
 pub fn line_numbers(alloc: Global, lines: &[&[u8]]) -> Result<Vec<usize>, AllocError> {
     let mut numbers = Vec::new(alloc);
     for (index, line) in lines.iter().enumerate() {

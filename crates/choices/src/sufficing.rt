@@ -92,7 +92,8 @@ fn pinned_line(
     }
 }
 
-/// Adds a line, with the choices at these places, from 1, pinned: first what message is found, since the mode of a `sendrecv` takes its line apart.
+/// Adds a line, with the choices at these places, from 1, pinned: first what message is found,
+/// since the mode of a `sendrecv` takes its line apart.
 fn put_line(
     out: &mut Vec<u8>,
     alloc: Global,
@@ -166,8 +167,8 @@ fn drop_choices(
     Ok(())
 }
 
-/// Choices that suffice, of all: first many at once are dropped, and at the end each in turn, the last ones before the first, since a
-/// cycle is told from its lowest rank on.
+/// Choices that suffice, of all: first many at once are dropped, and at the end each in turn, the
+/// last ones before the first, since a cycle is told from its lowest rank on.
 fn least(
     alloc: Global,
     text: &[u8],

@@ -82,8 +82,8 @@ fn extent_text(extent: Extent) -> &'static str {
     }
 }
 
-/// What decided a run of the text's program, line by line. What was tried and what is proved is told apart; at most 12 choices
-/// are told. The only error is want of memory.
+/// What decided a run of the text's program, line by line. What was tried and what is proved is
+/// told apart; at most 12 choices are told. The only error is want of memory.
 pub fn told(alloc: Global, text: &[u8], decided: &Decided) -> Result<String, AllocError> {
     let lines = lines_of(alloc, text)?;
     let mut out = String::from_str(alloc, "what decided it:\n")?;

@@ -68,7 +68,8 @@ fn others_of<R: Threads + Wait + Sync>(
     Ok(Need::Tried)
 }
 
-/// The steps, with this one as it is of a send in buffered mode, where the choice is that the send was buffered.
+/// The steps, with this one as it is of a send in buffered mode, where the choice is that the send
+/// was buffered.
 fn steps_with(alloc: Global, steps: &[Step], choice: &Choice) -> Result<Vec<Step>, AllocError> {
     let mut pinned = Vec::from_slice(alloc, steps)?;
     if choice.taken == Taken::Buffered && choice.step < pinned.len() {
@@ -207,7 +208,8 @@ fn search_for(program: &LongProgram, limits: Limits) -> Option<Options> {
     Some(limits.search)
 }
 
-/// What decided this run of the text's program, which ends stuck, as [`decide`] tells it. The only refusal is want of memory.
+/// What decided this run of the text's program, which ends stuck, as [`decide`] tells it. The only
+/// refusal is want of memory.
 pub fn decide_run<R: Threads + Wait + Sync>(
     rt: &R,
     alloc: Global,
@@ -233,20 +235,26 @@ pub fn decide_run<R: Threads + Wait + Sync>(
     })
 }
 
-/// What decided the run that an evidence shows: choices that suffice for the program to hang, and which of them are needed.
+/// What decided the run that an evidence shows: choices that suffice for the program to hang, and
+/// which of them are needed.
 ///
-/// The choices of a run are the standard sends that it buffered, and those that it did not, where the policy leaves that open, and the messages that
-/// wildcards found where one of another rank or tag of the whole program fits too. Each is pinned by other words in place of its line: a send in
-/// buffered or synchronous mode, that of a `sendrecv` in the four calls that the line stands for, or a source and a tag in the place of stars.
-/// Choices suffice where each walk that was taken of the program with all of them pinned ended stuck; they are found by dropping others, first many
+/// The choices of a run are the standard sends that it buffered, and those that it did not, where
+/// the policy leaves that open, and the messages that wildcards found where one of another rank or
+/// tag of the whole program fits too. Each is pinned by other words in place of its line: a send in
+/// buffered or synchronous mode, that of a `sendrecv` in the four calls that the line stands for,
+/// or a source and a tag in the place of stars. Choices suffice where each walk that was taken of
+/// the program with all of them pinned ended stuck; they are found by dropping others, first many
 /// at once, then each in turn.
 ///
-/// Each choice that suffices with the others is then asked about alone. It is told only where its line, pinned as in the run, makes a
-/// program that has a run that ends stuck. It is known to be needed where no run ends stuck with the line of any other way, which a search has
-/// shown of each: then every run of the program that ends stuck makes the choice so ([`known_is_taken`](crate::known_is_taken)). It is tried where
-/// no such run was found, and not needed where one was. Programs of more than 256 calls are not searched, only walked.
+/// Each choice that suffices with the others is then asked about alone. It is told only where its
+/// line, pinned as in the run, makes a program that has a run that ends stuck. It is known to be
+/// needed where no run ends stuck with the line of any other way, which a search has shown of each:
+/// then every run of the program that ends stuck makes the choice so
+/// ([`known_is_taken`](crate::known_is_taken)). It is tried where no such run was found, and not
+/// needed where one was. Programs of more than 256 calls are not searched, only walked.
 ///
-/// An evidence that shows no run that ends stuck is refused as `replay` refuses it; else the only refusal is want of memory.
+/// An evidence that shows no run that ends stuck is refused as `replay` refuses it; else the only
+/// refusal is want of memory.
 pub fn decide<R: Threads + Wait + Sync>(
     rt: &R,
     alloc: Global,

@@ -40,7 +40,8 @@ fn is_spelled(word: &[u8], text: &[u8]) -> bool
     word == text
 }
 
-/// The place, from 0, of the word that names the source: the one before the tag, behind which `comm` and a number may stand.
+/// The place, from 0, of the word that names the source: the one before the tag, behind which
+/// `comm` and a number may stand.
 fn source_place(words: &[&[u8]]) -> usize
     ensures { result ≡ source_place (map (λ w. w.now) words.now) }
 {
@@ -132,7 +133,8 @@ fn put_communicator(out: &mut Vec<u8>, words: &[&[u8]]) -> Result<(), AllocError
     put_spaced(out, words, 6)
 }
 
-/// Adds the end of a line of one part of a `sendrecv`: the words at these places, for its rank and its tag, and its communicator.
+/// Adds the end of a line of one part of a `sendrecv`: the words at these places, for its rank and
+/// its tag, and its communicator.
 fn put_part(out: &mut Vec<u8>, words: &[&[u8]], rank: usize, tag: usize) -> Result<(), AllocError>
     ensures { OnOk result (out.new.items ≡ out.old.items ++ part_words (map (λ w. w.now) words.now) rank tag) }
 {
@@ -176,8 +178,9 @@ fn with_mode(alloc: Global, line: &[u8], letter: u8) -> Result<Vec<u8>, AllocErr
     }
 }
 
-/// The words in place of a line that leave open no more than what a run did: a send in buffered or in synchronous mode, that of a `sendrecv` in
-/// four lines, its four calls; or a source and a tag in the place of stars.
+/// The words in place of a line that leave open no more than what a run did: a send in buffered or
+/// in synchronous mode, that of a `sendrecv` in four lines, its four calls; or a source and a tag
+/// in the place of stars.
 pub fn line_with(alloc: Global, line: &[u8], taken: Taken) -> Result<Vec<u8>, AllocError>
     ensures { IfOk result (λ out. out.items ≡ line_with taken line.now) }
 {

@@ -1,4 +1,5 @@
--- Clauses and formulas in conjunctive normal form, the assignments that satisfy them, and what follows.
+-- Clauses and formulas in conjunctive normal form, the assignments that satisfy them, and what
+-- follows.
 use Rattle.std.specs.Prelude.{ℕ, zero, suc, Bool, true, false, not, ◌&&◌, nat_lt, nat_le, IsTrue, List, [], ◌∷◌, slice_get}
 use Rattle.std.specs.List.{list_any, list_all}
 use Rattle.std.specs.Option.{unwrap_or}
@@ -54,7 +55,8 @@ satisfies_clause a = list_any (holds a)
 abbrev pub satisfies : TruthAssignment → List (List Literal) → Bool
 satisfies a = list_all (satisfies_clause a)
 
--- the assignment of a list: the value of variable v is the one at place v - 1; past the list it is false
+-- the assignment of a list: the value of variable v is the one at place v - 1; past the list it is
+-- false
 abbrev pub value_of : List Bool → TruthAssignment
 value_of values zero = false
 value_of values (suc place) = unwrap_or (slice_get values place) false

@@ -155,7 +155,8 @@ one_more_place p block e knows listed other low n h last i f own from lt there =
       | inr ge ↦ let at : i ≡ n = omega (arith, ge, lt) in last f own (subst (λ (z : ℕ). slice_get listed z ≡ Some f) at there)
     ]
 
--- A finder from one call up to another is looked at, or no send races for it, or it is known to have found.
+-- A finder from one call up to another is looked at, or no send races for it, or it is known to
+-- have found.
 pub looked_between : (p : MpiProgram) (block : Blocks) (e : Configuration) (knows : Table) (ns : Numbering) (l : Listing) (other first end low high n : ℕ) → IsListing p block ns l → low ≡ before_at l.listed l.before first → high ≡ before_at l.listed l.before end → ((i f : ℕ) → low ≤ i → i < n → slice_get l.listed i ≡ Some f → knows other f ≡ true) → AreLookedAt p block e knows l.listed other n high → (f own : ℕ) → first ≤ f → f < end → partner_of e f ≡ Some own → are_fit p own f ≡ true → IsNoRace p block e knows f own other
 looked_between p block e knows ns l other first end low high n is low_is high_is known looked f own from below found mine fit apart later =
     elim (is.each first end f from below) [

@@ -1,4 +1,5 @@
--- The finders for which a send may race, in a list, and up to where in that list a count tells that they have found.
+-- The finders for which a send may race, in a list, and up to where in that list a count tells that
+-- they have found.
 use Rattle.std.specs.Prelude.{◌≡◌, ℕ, ◌<◌, ◌≤◌, ◌⊎◌, false, IsTrue, List, length, Some, slice_get, slice_index}
 use Rattle.std.specs.Option.{unwrap_or}
 use Rattle.callorder.specs.Programs.{MpiProgram, are_fit, are_of_one_rank}
@@ -8,7 +9,8 @@ use Rattle.races.specs.Tells.{Table}
 use Rattle.clocks.specs.declared.finders.Reach.{Reach}
 use Rattle.clocks.specs.Clocks.{Numbering, IsNoRace}
 
--- finders in a list, for each call how many of them stand before it, and how far counts reach in the list
+-- finders in a list, for each call how many of them stand before it, and how far counts reach in
+-- the list
 pub record Listing : Type 0 where
   pub listed : List ℕ
   pub before : List ℕ
@@ -23,7 +25,8 @@ CannotRace p block f =
 abbrev pub before_at : List ℕ → List ℕ → ℕ → ℕ
 before_at listed before c = unwrap_or (slice_get before c) (length listed)
 
--- the finder stands in the list among those that stand before the one call, and not before the other
+-- the finder stands in the list among those that stand before the one call, and not before the
+-- other
 pub record IsAmong (listed before : List ℕ) (first end finder : ℕ) : Type 0 where
   pub place : ℕ
   pub from : before_at listed before first ≤ place

@@ -1,4 +1,5 @@
--- What rows are made from: what has happened where a call is issued, as far as it tells which finders have found.
+-- What rows are made from: what has happened where a call is issued, as far as it tells which
+-- finders have found.
 use Rattle.std.specs.Prelude.{ℕ, Bool, false, ◌&&◌, ◌||◌, IsTrue, Option, Some, None}
 use Rattle.calltext.specs.declared.call.Mode.{Mode}
 use Rattle.calltext.specs.declared.call.Mode.TheVariants.{Standard, Synchronous, Buffered}

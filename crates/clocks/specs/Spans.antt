@@ -1,5 +1,5 @@
--- Spans of calls that stand as one block: receives and matched probes that may stand for one another, and what stands between
--- them.
+-- Spans of calls that stand as one block: receives and matched probes that may stand for one
+-- another, and what stands between them.
 use Rattle.std.specs.Prelude.{◌≡◌, ℕ, suc, Bool, true, false, not, ◌||◌, ◌<◌, ◌⊎◌, IsTrue, Option, Some, None}
 use Rattle.calltext.specs.declared.call.Mode.{Mode}
 use Rattle.calltext.specs.declared.call.Mode.TheVariants.{Standard, Synchronous, Buffered}
@@ -14,7 +14,8 @@ is_buffered_mode Standard = false
 is_buffered_mode Synchronous = false
 is_buffered_mode Buffered = true
 
--- an operation of this kind is done as soon as it is issued: a send in buffered mode, or the receive on a handle
+-- an operation of this kind is done as soon as it is issued: a send in buffered mode, or the
+-- receive on a handle
 abbrev pub is_done_at_once_kind : Kind → Bool
 is_done_at_once_kind (Send mode blocking message) = is_buffered_mode mode
 is_done_at_once_kind (Receive blocking pattern) = false
@@ -27,8 +28,8 @@ abbrev pub is_done_at_once_call : Option Call → Bool
 is_done_at_once_call None = false
 is_done_at_once_call (Some call) = is_done_at_once_kind call.kind
 
--- A call of this kind returns at once, whatever happens: it is nonblocking, or a send in buffered mode, or the receive on a
--- handle, or the wait for one of the last two.
+-- A call of this kind returns at once, whatever happens: it is nonblocking, or a send in buffered
+-- mode, or the receive on a handle, or the wait for one of the last two.
 abbrev pub returns_at_once_kind : MpiProgram → Kind → Bool
 returns_at_once_kind p (Send mode blocking message) = not blocking || is_buffered_mode mode
 returns_at_once_kind p (Receive blocking pattern) = not blocking
@@ -71,8 +72,9 @@ pub record WaitsWithin (p : MpiProgram) (block : Blocks) (c : ℕ) : Type 0 wher
   pub before : receive < c
   pub within : block receive ≡ block c
 
--- Why the call may stand in its span: a finder fetches what it finds without waiting, and the same sends fit it as the span's
--- first call; any other call returns at once, or waits for a receive of the span.
+-- Why the call may stand in its span: a finder fetches what it finds without waiting, and the same
+-- sends fit it as the span's first call; any other call returns at once, or waits for a receive of
+-- the span.
 pub record IsMember (p : MpiProgram) (block : Blocks) (c : ℕ) : Type 0 where
   pub prompt : IsTrue (is_finder p c) → IsPrompt p c
   pub alike : IsTrue (is_finder p c) → (s : ℕ) → are_fit p s c ≡ are_fit p s (block c)
@@ -87,7 +89,8 @@ pub record IsJoined (p : MpiProgram) (block : Blocks) (c : ℕ) : Type 0 where
 abbrev pub IsNamed : MpiProgram → Blocks → ℕ → Type 0
 IsNamed p block c = (IsJoined p block c × (block (suc c) ≡ block c)) ⊎ (block (suc c) ≡ suc c)
 
--- each call has the name of the call before it, where the two may stand in one span, or has its own place as its name
+-- each call has the name of the call before it, where the two may stand in one span, or has its own
+-- place as its name
 pub record AreSpans (p : MpiProgram) (block : Blocks) : Type 0 where
   pub first : block 0 ≡ 0
   pub next : (c : ℕ) → IsNamed p block c

@@ -90,8 +90,8 @@ fn is_earlier(program: &LongProgram, earlier: usize, other: usize) -> bool
         && have_one_message(program, earlier, other)
 }
 
-/// A call from which on each one is of the block of the send's taker, or behind the taker. Of a send
-/// that is not taken it is the number of calls.
+/// A call from which on each one is of the block of the send's taker, or behind the taker. Of a
+/// send that is not taken it is the number of calls.
 pub fn end_open(program: &LongProgram, state: &State, names: &[usize], other: usize) -> usize
     requires { AreSpans program.now (block_of names.now) }
     ensures { (finder : ℕ) → result ≤ finder → IsTrue (are_fit program.now other finder) → IsTaken (block_of names.now) state.now other finder }

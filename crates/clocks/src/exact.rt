@@ -74,7 +74,8 @@ impl Exact {
         self.known.get(call).copied().unwrap_or(false)
     }
 
-    /// Whether the call is issued only where the finder has found. The only error is want of memory.
+    /// Whether the call is issued only where the finder has found. The only error is want of
+    /// memory.
     pub fn tells(
         &mut self,
         alloc: Global,

@@ -1,5 +1,5 @@
-//! The finders for which a send may race, in a list, and up to where in that list a count tells that
-//! they have found.
+//! The finders for which a send may race, in a list, and up to where in that list a count tells
+//! that they have found.
 
 ghost use Rattle.std.specs.Prelude.{◌≡◌, ◌≤◌, ◌<◌, ◌+◌, ℕ, Bool, List, Some, IfOk, OnOk, IsTrue, false, slice_get};
 ghost use Rattle.clocks.specs.Clocks.{IsCount, Numbering, block_of};
@@ -140,8 +140,8 @@ fn in_column(reach: Reach, column: usize) -> Reach
     }
 }
 
-/// For each number of a column's finder which of the list have no larger one. The only error is want
-/// of memory.
+/// For each number of a column's finder which of the list have no larger one. The only error is
+/// want of memory.
 fn reaches_of(alloc: Global, columns: &Columns, listed: &[usize]) -> Result<Vec<Reach>, AllocError>
     ensures { IfOk result (λ reaches. AreReaches columns.now listed.now reaches.items) }
 {

@@ -13,25 +13,25 @@
 //! may be made in any order, and may tell too little. Of each send one count is asked later, that
 //! of the rank that it goes to, and a row is let go once no other row will be made from it.
 //!
-//! A span of calls of one rank is a block where which of its receives and matched probes takes which
-//! of their messages doesn't matter, so that no send that one of them has taken races for another.
-//! They have one pattern, and fetch what they find without waiting; what stands between them returns
-//! at once, or waits for a receive of the span. But there a send of the same rank may race, so spans
-//! whose messages all come from one rank are left alone, and where a race is told by blocks, each
-//! finder is taken once more as a block of its own. Names of blocks are made by what may be wrong,
-//! and are used only where a look at each call shows that they are right.
+//! A span of calls of one rank is a block where which of its receives and matched probes takes
+//! which of their messages doesn't matter, so that no send that one of them has taken races for
+//! another. They have one pattern, and fetch what they find without waiting; what stands between
+//! them returns at once, or waits for a receive of the span. But there a send of the same rank may
+//! race, so spans whose messages all come from one rank are left alone, and where a race is told by
+//! blocks, each finder is taken once more as a block of its own. Names of blocks are made by what
+//! may be wrong, and are used only where a look at each call shows that they are right.
 //!
-//! That takes the calls times the columns in time, and in memory the calls, and the columns for each
-//! call that is open at one time. Then the sends are looked at, each for finders of any source alone:
-//! where a finder names its source, all sends that fit it are of one rank. A send's count tells at
-//! once of all finders of its destination up to a place that they have found, so it is looked at from
-//! there on, and no further than its own taker. In a program that doesn't race these are few, and of
-//! one envelope (the rank, the destination, the communicator and the tag) each finder is looked at
-//! for one send at most. Where the count doesn't tell, all that is known of the finder is asked for,
-//! which takes the calls in time and is kept until another finder is asked for. So of a race that is
-//! told no rule tells that the send is issued only where the finder has found. Of a send that the run
-//! hasn't issued nothing is asked; one that finishes has issued each. Ranks, and calls by their place
-//! in the program's list, count from 0.
+//! That takes the calls times the columns in time, and in memory the calls, and the columns for
+//! each call that is open at one time. Then the sends are looked at, each for finders of any source
+//! alone: where a finder names its source, all sends that fit it are of one rank. A send's count
+//! tells at once of all finders of its destination up to a place that they have found, so it is
+//! looked at from there on, and no further than its own taker. In a program that doesn't race these
+//! are few, and of one envelope (the rank, the destination, the communicator and the tag) each
+//! finder is looked at for one send at most. Where the count doesn't tell, all that is known of the
+//! finder is asked for, which takes the calls in time and is kept until another finder is asked
+//! for. So of a race that is told no rule tells that the send is issued only where the finder has
+//! found. Of a send that the run hasn't issued nothing is asked; one that finishes has issued each.
+//! Ranks, and calls by their place in the program's list, count from 0.
 #![tactic(auto)]
 
 mod classes;

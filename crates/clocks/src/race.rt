@@ -201,8 +201,8 @@ fn race_at(
     Ok(Some(finder))
 }
 
-/// The first finder from one place up to another for which the send races. The only error is want of
-/// memory.
+/// The first finder from one place up to another for which the send races. The only error is want
+/// of memory.
 fn race_between(
     alloc: Global,
     program: &LongProgram,
@@ -450,9 +450,9 @@ fn race_by(
 /// buffered, as in what `least_buffered_run` makes.
 ///
 /// Where there is none, no run of the program is stuck. There is none where each receive, matched
-/// probe and probe names its source. Of a race that is told no rule tells that the send is issued only
-/// where the finder has found, but it proves nothing: it may be that no run is stuck even so. Calls, in the steps and in the race, count from 0. The only error is want of
-/// memory.
+/// probe and probe names its source. Of a race that is told no rule tells that the send is issued
+/// only where the finder has found, but it proves nothing: it may be that no run is stuck even so.
+/// Calls, in the steps and in the race, count from 0. The only error is want of memory.
 pub fn first_race(
     alloc: Global,
     program: &LongProgram,

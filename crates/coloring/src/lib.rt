@@ -1,4 +1,5 @@
-//! Answers in color, as a terminal shows them: each line by the words that it begins with. Nothing else changes.
+//! Answers in color, as a terminal shows them: each line by the words that it begins with. Nothing
+//! else changes.
 #![tactic(auto)]
 
 mod coloring;

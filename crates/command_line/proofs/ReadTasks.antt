@@ -22,8 +22,8 @@ decided_one false rows =
     to_decide (text_in (first_of (codes "PROGRAM") rows)) (first_of (codes "out") rows) (is_true (one_of (codes "progress") rows))
     (is_true (one_of (codes "json") rows))
 
--- the task of the matches of `decide`, where several programs are named, an SPMD text is asked for, or
--- neither
+-- the task of the matches of `decide`, where several programs are named, an SPMD text is asked for,
+-- or neither
 abbrev decided : Bool → Bool → List Row → Task
 decided true spmd rows = to_decide_each (programs_in rows) (first_of (codes "junit") rows) (is_beside_several rows) (is_true (one_of (codes "json") rows))
 decided false true rows =

@@ -19,17 +19,18 @@ use Rattle.command_line.specs.declared.request.Request.TheVariants as ask
 -- the places that the file of a map, where one is named, has for lines; to export the proof that an
 -- evidence makes of a program, to a file; to trim an evidence, to a file, with the answer as a JSON
 -- object or not; to make a program smaller, with the files for the smaller one and for its map,
--- where they are named; to decide a program of any length by one run, with the file for the schedule of a deadlock, where one is named, whether
--- the progress is told, and whether the answer is a JSON object, and the same by phases where one
--- run doesn't tell; to cut a program of any length into phases, in a folder; to judge it by the
--- phases and the evidence in a folder, with the file for the schedule of a deadlock, where one is
--- named, and the answer as a JSON object or not; to unroll an SPMD text for so
--- many ranks with these settings, and what is said of how collective calls wait, with the files for
--- the program and for its map, where they are named; to decide, or to explain, what an SPMD text is
--- unrolled to for the numbers of ranks that a text tells, where one is given, with these settings and
--- all else that goes with the command, and whether words stand there that don't; and to decide, or to
--- explain, each of several programs, with the file for a report in JUnit's form, where one is named,
--- and whether words stand there that don't go with that.
+-- where they are named; to decide a program of any length by one run, with the file for the
+-- schedule of a deadlock, where one is named, whether the progress is told, and whether the answer
+-- is a JSON object, and the same by phases where one run doesn't tell; to cut a program of any
+-- length into phases, in a folder; to judge it by the phases and the evidence in a folder, with the
+-- file for the schedule of a deadlock, where one is named, and the answer as a JSON object or not;
+-- to unroll an SPMD text for so many ranks with these settings, and what is said of how collective
+-- calls wait, with the files for the program and for its map, where they are named; to decide, or
+-- to explain, what an SPMD text is unrolled to for the numbers of ranks that a text tells, where
+-- one is given, with these settings and all else that goes with the command, and whether words
+-- stand there that don't; and to decide, or to explain, each of several programs, with the file for
+-- a report in JUnit's form, where one is named, and whether words stand there that don't go with
+-- that.
 pub data Task : Type 0 where
   to_prove : Text → Option Text → ℕ → ℕ → ℕ → Bool → Bool → Task
   to_check : Text → Text → ℕ → Bool → Task

@@ -18,14 +18,16 @@ use clap::Arg;
 use clap::builder::Command;
 use std::alloc::{AllocError, Global};
 
-/// What `--version` prints. The library is told it too, so that it knows that there is a version; its own text isn't printed.
+/// What `--version` prints. The library is told it too, so that it knows that there is a version;
+/// its own text isn't printed.
 pub fn version_line() -> &'static str
     ensures { result.now ≡ version_line }
 {
     "mpiprove 0.1.0\n"
 }
 
-/// A command with one more command below it. Either may be missing for want of memory, so that a list of these has no exits.
+/// A command with one more command below it. Either may be missing for want of memory, so that a
+/// list of these has no exits.
 fn under<'a>(
     whole: Result<Command<'a>, AllocError>,
     below: Result<Command<'a>, AllocError>,

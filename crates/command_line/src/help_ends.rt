@@ -1,6 +1,7 @@
 //! How the help of each command ends: an example, and the exit statuses.
 
-/// How the help of a command ends that has this example and, before those that all commands have, these exit statuses.
+/// How the help of a command ends that has this example and, before those that all commands have,
+/// these exit statuses.
 macro_rules! ending {
     ($example:literal, $statuses:literal) => {
         concat!(

@@ -138,9 +138,9 @@ pub struct ToUnroll<'a> {
     pub map: Option<&'a str>,
 }
 
-/// To decide what an SPMD text is unrolled to, for each number of ranks that the text `ranks` tells.
-/// Each setting is written NAME=VALUE; collective calls wait as `collectives` says, `least` or
-/// `most`. `beside` tells whether words stand there that don't go with it.
+/// To decide what an SPMD text is unrolled to, for each number of ranks that the text `ranks`
+/// tells. Each setting is written NAME=VALUE; collective calls wait as `collectives` says, `least`
+/// or `most`. `beside` tells whether words stand there that don't go with it.
 #[derive(Drop)]
 pub struct ToDecideUnrolled<'a> {
     pub program: &'a str,
@@ -161,8 +161,9 @@ pub struct ToDecideEach<'a> {
     pub json: bool,
 }
 
-/// To explain each of several programs, in this form, and write the explanations to the file `junit`
-/// as a report in JUnit's form. `beside` tells whether words stand there that don't go with that.
+/// To explain each of several programs, in this form, and write the explanations to the file
+/// `junit` as a report in JUnit's form. `beside` tells whether words stand there that don't go with
+/// that.
 #[derive(Drop)]
 pub struct ToExplainEach<'a> {
     pub programs: Vec<&'a str>,
@@ -172,8 +173,8 @@ pub struct ToExplainEach<'a> {
     pub beside: bool,
 }
 
-/// To explain what an SPMD text is unrolled to, for the number of ranks that the text `ranks` tells,
-/// in this form, with the places of its own lines. Each setting is written NAME=VALUE;
+/// To explain what an SPMD text is unrolled to, for the number of ranks that the text `ranks`
+/// tells, in this form, with the places of its own lines. Each setting is written NAME=VALUE;
 /// collective calls wait as `collectives` says. `evidence` and `map` don't go with it.
 #[derive(Drop)]
 pub struct ToExplainUnrolled<'a> {
@@ -483,7 +484,8 @@ fn explain_one_request<'a>(alloc: Global, matches: &ArgMatches<'a>) -> Option<Re
     }))
 }
 
-/// Whether an SPMD text is asked for: by a number of ranks, a setting, or how collective calls wait.
+/// Whether an SPMD text is asked for: by a number of ranks, a setting, or how collective calls
+/// wait.
 fn is_spmd_asked(ranks: Option<&str>, settings: &[&str], collectives: Option<&str>) -> bool
     ensures { (rows : List Row) → first_of (codes "ranks") rows ≡ path_of ranks.entry → map (λ s. s.now) settings.now ≡ settings_in rows
         → first_of (codes "collectives") rows ≡ path_of collectives.entry → result ≡ is_spmd_asked rows }

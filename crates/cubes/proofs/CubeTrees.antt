@@ -74,7 +74,8 @@ cube_tree_made encoded depth tree p order lent variables lent_variables levels m
           ∙ ap (λ (q : MpiProgram). full_tree (map (match_variable q) (take depth order))) p_is;
     }
 
--- all numbers of an order are those of pairs, where these are what was read of the pairs and the order
+-- all numbers of an order are those of pairs, where these are what was read of the pairs and the
+-- order
 pub order_there : (pairs slice : List (ℕ × ℕ)) (count : ℕ) (order lent : List ℕ) → count ≤ length pairs → IsBranchingOrder pairs count order → lent ≡ order → slice ≡ pairs → All (λ k. k < length slice) lent
 order_there pairs slice count order lent few is lent_is slice_is =
     subst (λ (ps : List (ℕ × ℕ)). All (λ k. k < length ps) lent) (sym slice_is)

@@ -6,7 +6,8 @@ use Rattle.trees.specs.Trees.{TreeState}
 use Rattle.cubes.specs.Order.{IsBranchingOrder, match_variable}
 use Rattle.cubes.specs.Levels.{full_tree}
 
--- the full tree over the match variables of so many pairs that may be matched, or of all where there are fewer
+-- the full tree over the match variables of so many pairs that may be matched, or of all where
+-- there are fewer
 pub record IsCubeTree (encoded : EncodedProgram) (depth : ℕ) (tree : TreeState) : Type 0 where
   pub order : List ℕ
   pub is_order : IsBranchingOrder encoded.pairs (length (matching_pairs encoded.program)) order

@@ -5,7 +5,8 @@ use Rattle.refutations.specs.Trees.{branch}
 use Rattle.trees.specs.Trees.{TreeNode, leaf_with}
 use Rattle.trees.specs.declared.tree.NodeKind.TheVariants.{Split}
 
--- the nodes of a level with these paths, split on a variable, where this is the number of the first node below them
+-- the nodes of a level with these paths, split on a variable, where this is the number of the first
+-- node below them
 abbrev pub inner_nodes : ℕ → ℕ → List (List Literal) → List TreeNode
 inner_nodes v below [] = []
 inner_nodes v below (path ∷ paths) =
@@ -16,7 +17,8 @@ abbrev pub doubled : ℕ → List (List Literal) → List (List Literal)
 doubled v [] = []
 doubled v (path ∷ paths) = branch v true path ∷ branch v false path ∷ doubled v paths
 
--- the nodes of a level, whose first node has this number and whose nodes have these paths, and all below it
+-- the nodes of a level, whose first node has this number and whose nodes have these paths, and all
+-- below it
 abbrev pub full_levels : ℕ → List ℕ → List (List Literal) → List TreeNode
 full_levels first [] paths = map leaf_with paths
 full_levels first (v ∷ variables) paths =

@@ -1,4 +1,5 @@
--- Which pairs are branched on first, and on which variables. Pairs are named by their places in the list, from 0.
+-- Which pairs are branched on first, and on which variables. Pairs are named by their places in the
+-- list, from 0.
 use Rattle.std.specs.Prelude.{◌≡◌, ℕ, ◌-◌, Bool, ◌&&◌, ◌||◌, ◌==◌, nat_lt, List, length, map}
 use Rattle.std.specs.List.{range_with_len}
 use Rattle.std.specs.List.Sorted.{IsPermutation, IsSortedBy}
@@ -17,7 +18,8 @@ abbrev pub comes_first : List (ℕ × ℕ) → ℕ → ℕ → Bool
 comes_first pairs i j =
     nat_lt (choices pairs j) (choices pairs i) || (choices pairs i == choices pairs j && nat_lt i j)
 
--- each of the first pairs, of which there are so many, once, and none behind one that it comes before
+-- each of the first pairs, of which there are so many, once, and none behind one that it comes
+-- before
 pub record IsBranchingOrder (pairs : List (ℕ × ℕ)) (count : ℕ) (order : List ℕ) : Type 0 where
   pub each_once : IsPermutation (range_with_len 0 count) order
   pub in_order : IsSortedBy (comes_first pairs) order
@@ -26,12 +28,13 @@ pub record IsBranchingOrder (pairs : List (ℕ × ℕ)) (count : ℕ) (order : L
 abbrev pub rank_of : List (ℕ × ℕ) → ℕ → ℕ × ℕ
 rank_of pairs k = (length pairs - choices pairs k, k)
 
--- the variable that says of a pair that it is matched, or of a pair with a probe that this has seen the send
+-- the variable that says of a pair that it is matched, or of a pair with a probe that this has seen
+-- the send
 abbrev pub match_variable : MpiProgram → ℕ → ℕ
 match_variable p k = let pair = pair_at (pairs_of p) k in variable_of p (fact (matched pair.0 pair.1))
 
--- The match variables of all pairs that may be matched, which are the first ones of the list, in the order of the pairs. What
--- probes see is not branched on.
+-- The match variables of all pairs that may be matched, which are the first ones of the list, in
+-- the order of the pairs. What probes see is not branched on.
 pub record AreBranchingVariables (p : MpiProgram) (variables : List ℕ) : Type 0 where
   pub order : List ℕ
   pub is_order : IsBranchingOrder (pairs_of p) (length (matching_pairs p)) order

@@ -12,8 +12,8 @@ pub fn match_variables_are_within()
     ensures { MatchVariablesAreWithin }
 {}
 
-/// A full tree over so many variables has one node less than twice as many as it has leaves, and its
-/// leaves double with each variable.
+/// A full tree over so many variables has one node less than twice as many as it has leaves, and
+/// its leaves double with each variable.
 pub fn full_tree_size()
     ensures { FullTreeSize }
 {}

@@ -22,7 +22,8 @@ use trees::Tree;
 /// The greatest depth of a tree of cubes.
 pub const GREATEST_DEPTH: u32 = 15;
 
-/// The variable that says that the pair of this number, from 0, is matched, or seen where it is that of a probe.
+/// The variable that says that the pair of this number, from 0, is matched, or seen where it is
+/// that of a probe.
 fn match_variable(table: &Variables, pairs: &[(usize, usize)], number: usize) -> u32
     requires pairs { pairs.now ≡ pairs_of table.now }
     requires there { number < length pairs.now }
@@ -70,7 +71,8 @@ fn count_matching(program: &Program, pairs: &Pairs) -> usize
     count_taken(program, pairs.as_slice())
 }
 
-/// The numbers, from 0, of the pairs that may be matched, in the order in which they are branched on.
+/// The numbers, from 0, of the pairs that may be matched, in the order in which they are branched
+/// on.
 fn matching_order(alloc: Global, encoded: &Encoded) -> Result<Vec<usize>, AllocError>
     ensures { IfOk result (λ order. IsBranchingOrder encoded.now.pairs (length (matching_pairs encoded.now.program)) order.items) }
 {
@@ -129,9 +131,10 @@ fn branching_variables_in(
     match_variables(alloc, table, pairs.as_slice(), &order)
 }
 
-/// The match variables of all pairs that may be matched, those of the pairs first whose takers have most pairs, and of two pairs
-/// whose takers have as many that of the smaller number first. It is the order in which [`split`] branches. What probes see has
-/// no place in it. The only error is want of memory.
+/// The match variables of all pairs that may be matched, those of the pairs first whose takers have
+/// most pairs, and of two pairs whose takers have as many that of the smaller number first. It is
+/// the order in which [`split`] branches. What probes see has no place in it. The only error is
+/// want of memory.
 pub fn branching_variables(alloc: Global, encoded: &Encoded) -> Result<Vec<u32>, AllocError>
     ensures { IfOk result (λ variables. AreBranchingVariables encoded.now.program variables.items) }
 {
@@ -139,10 +142,11 @@ pub fn branching_variables(alloc: Global, encoded: &Encoded) -> Result<Vec<u32>,
     branching_variables_in(alloc, encoded, &table)
 }
 
-/// The full tree that branches at each depth on the match variable of one pair, those pairs first whose
-/// takers have most pairs. Its depth is `depth`, or the number of pairs that may be matched where these are fewer. Nodes
-/// are numbered level by level, the one for true before the one for false. The only refusal beside
-/// want of memory is [`CubeFault::TooMany`], exactly where `depth` is above [`GREATEST_DEPTH`].
+/// The full tree that branches at each depth on the match variable of one pair, those pairs first
+/// whose takers have most pairs. Its depth is `depth`, or the number of pairs that may be matched
+/// where these are fewer. Nodes are numbered level by level, the one for true before the one for
+/// false. The only refusal beside want of memory is [`CubeFault::TooMany`], exactly where `depth`
+/// is above [`GREATEST_DEPTH`].
 pub fn split(alloc: Global, encoded: &Encoded, depth: u32) -> Result<Tree, CubeFault>
     ensures tree { IfOk result (λ tree. IsCubeTree encoded.now depth tree) }
     ensures too_many { result ≡ Err CubeFault.TooMany ↔ 15 < depth }

@@ -56,8 +56,8 @@ impl Graph {
         self.needs.len()
     }
 
-    /// A need of the call by its number: from 1 those of the graph, and with 0 the call before it in
-    /// its rank. `None` behind the last; a call without one before it needs itself.
+    /// A need of the call by its number: from 1 those of the graph, and with 0 the call before it
+    /// in its rank. `None` behind the last; a call without one before it needs itself.
     pub fn need(&self, program: &LongProgram, call: usize, number: usize) -> Option<usize> {
         if number == 0 {
             let before = call.saturating_sub(1);

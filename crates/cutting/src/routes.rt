@@ -46,8 +46,8 @@ impl Wildcards {
         Ok(Wildcards { wanted })
     }
 
-    /// Whether the message that this receive or matched probe takes is sure: it names the source and
-    /// the tag, and so does each other that the message fits.
+    /// Whether the message that this receive or matched probe takes is sure: it names the source
+    /// and the tag, and so does each other that the message fits.
     pub fn is_sure(&self, call: &Call) -> bool {
         let Some(pattern) = taken(call) else {
             return false;

@@ -35,12 +35,14 @@ takes_any_source p c = takes_any_source_call (call_at p c)
 abbrev pub IsCaller : MpiProgram → Caller → Type 0
 IsCaller p caller = IsTrue (is_of_rank (call_at p caller.place) caller.rank)
 
--- the configuration is that at the end of a run that finishes, and buffers a send only where the policy has each one buffered
+-- the configuration is that at the end of a run that finishes, and buffers a send only where the
+-- policy has each one buffered
 abbrev pub EndsLeast : MpiProgram → Configuration → Type 0
 EndsLeast p e = (run : List Step) × IsFinishedRun p run × BuffersNoneByChoice p run × (e ≡ after_all (opening p) run)
 
--- In some run that finishes, and buffers a send only where the policy has each one buffered, the call found the one send, no call up to it
--- has taken the other one, and no table whose entries are all justified tells that the other one is issued only where the call has found.
+-- In some run that finishes, and buffers a send only where the policy has each one buffered, the
+-- call found the one send, no call up to it has taken the other one, and no table whose entries are
+-- all justified tells that the other one is issued only where the call has found.
 pub record IsOpen (p : MpiProgram) (race : Race) : Type 0 where
   pub run : List Step
   pub finished : IsFinishedRun p run
@@ -49,7 +51,8 @@ pub record IsOpen (p : MpiProgram) (race : Race) : Type 0 where
   pub later : (taker : ℕ) → partner_of (after_all (opening p) run) race.other.place ≡ Some taker → taker ≤ race.finder.place → ⊥
   pub unordered : (knows : Table) → IsJustified p (after_all (opening p) run) knows → knows race.other.place race.finder.place ≡ false
 
--- A call that takes any source, the send that it found, and a send of another rank that fits it too, and may come first.
+-- A call that takes any source, the send that it found, and a send of another rank that fits it
+-- too, and may come first.
 pub record IsRace (p : MpiProgram) (race : Race) : Type 0 where
   pub free : IsTrue (takes_any_source p race.finder.place)
   pub finder : IsCaller p race.finder
@@ -60,8 +63,8 @@ pub record IsRace (p : MpiProgram) (race : Race) : Type 0 where
   pub apart : are_of_one_rank p race.found.place race.other.place ≡ false
   pub untold : IsOpen p race
 
--- What is decided of a program: no run of it gets stuck; the steps are a run of it that does; or neither, and two messages may
--- race for a call.
+-- What is decided of a program: no run of it gets stuck; the steps are a run of it that does; or
+-- neither, and two messages may race for a call.
 abbrev pub IsDecision : MpiProgram → Decision → Type 0
 IsDecision p decisions.NoDeadlock = NoStuckRun p
 IsDecision p (decisions.Deadlock steps) = IsStuckRun p steps.items
@@ -88,7 +91,8 @@ abbrev pub undecided_resolving : ResolveFault → Undecided
 undecided_resolving resolving.Memory = undecided.Memory
 undecided_resolving fault = undecided.Resolve fault
 
--- Why bytes aren't decided: memory ran out; their first fault within the long limits; or the first fault of their call lines.
+-- Why bytes aren't decided: memory ran out; their first fault within the long limits; or the first
+-- fault of their call lines.
 abbrev pub IsUndecided : List ℕ → Undecided → Type 0
 IsUndecided program undecided.Memory = Unit {0}
 IsUndecided program (undecided.Read fault) = HasFaultWithin long program fault

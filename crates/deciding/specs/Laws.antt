@@ -12,7 +12,8 @@ use Rattle.deciding.specs.Decisions.{Decides}
 use Rattle.deciding.specs.declared.decision.Decision.TheVariants as decisions
 use Rattle.deciding.specs.declared.decision.Race.{Race}
 
--- where each receive, matched probe and probe of the program names its source, it is never a race that is decided
+-- where each receive, matched probe and probe of the program names its source, it is never a race
+-- that is decided
 abbrev pub NamedSourcesAreDecided : Type 0
 NamedSourcesAreDecided =
     (program : List ℕ) (race : Race) (p : MpiProgram) → Decides program (decisions.Race race) → IsTextOfWithin long program p → NamesSources p → ⊥
@@ -21,19 +22,21 @@ NamedSourcesAreDecided =
 abbrev pub HasLoneSenders : MpiProgram → Type 0
 HasLoneSenders p = (finder one other : ℕ) → IsTrue (are_fit p one finder) → IsTrue (are_fit p other finder) → IsTrue (are_of_one_rank p one other)
 
--- where the sends that fit each receive, matched probe and probe of the program are of one rank, it is never a race that is decided
+-- where the sends that fit each receive, matched probe and probe of the program are of one rank, it
+-- is never a race that is decided
 abbrev pub LoneSendersAreDecided : Type 0
 LoneSendersAreDecided =
     (program : List ℕ) (race : Race) (p : MpiProgram) → Decides program (decisions.Race race) → IsTextOfWithin long program p → HasLoneSenders p → ⊥
 
--- a table whose entries are all justified shows that no send races for a finder of this configuration
+-- a table whose entries are all justified shows that no send races for a finder of this
+-- configuration
 pub record HasTable (p : MpiProgram) (e : Configuration) : Type 0 where
   pub knows : Table
   pub justified : IsJustified p e knows
   pub shows : ShowsNoRace p e knows
 
--- where there is such a table for the end of each run that finishes, and buffers a send only where the policy has each one buffered, it is
--- never a race that is decided
+-- where there is such a table for the end of each run that finishes, and buffers a send only where
+-- the policy has each one buffered, it is never a race that is decided
 abbrev pub JustifiedRunsAreDecided : Type 0
 JustifiedRunsAreDecided =
     (program : List ℕ) (race : Race) (p : MpiProgram) → Decides program (decisions.Race race) → IsTextOfWithin long program p

@@ -7,7 +7,8 @@ use Rattle.prooflog.specs.Steps.{written}
 use Rattle.prooflog.specs.declared.step.WrittenStep.{WrittenStep}
 use Rattle.prooflog.specs.declared.step.WrittenStep.TheVariants.{Issue}
 
--- The lines of the steps below the two headings of a schedule's text. Within the limits of a schedule this is the text of an evidence.
+-- The lines of the steps below the two headings of a schedule's text. Within the limits of a
+-- schedule this is the text of an evidence.
 abbrev pub schedule_text : List Step → List ℕ
 schedule_text steps = flat_map (λ line. line) (written_lines (as_schedule (map written steps)))
 

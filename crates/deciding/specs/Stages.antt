@@ -23,7 +23,8 @@ abbrev pub IsRead : MpiProgram → Stage → Type 0
 IsRead p (stages.Read ranks calls) = (ranks ≡ p.ranks) × (calls ≡ length p.calls)
 IsRead p (stages.Ran steps) = ⊥
 
--- there is no stage, or one, which has the number of steps of a run that buffers as little as the policy allows
+-- there is no stage, or one, which has the number of steps of a run that buffers as little as the
+-- policy allows
 abbrev pub AreRan : MpiProgram → List Stage → Type 0
 AreRan p [] = Unit {0}
 AreRan p (stages.Ran steps ∷ []) = (run : List Step) × IsLeastBufferedRun p run × (steps ≡ length run)
@@ -34,7 +35,8 @@ abbrev pub AreStages : List ℕ → List Stage → Type 0
 AreStages program [] = Unit {0}
 AreStages program (read ∷ later) = (p : MpiProgram) × IsTextOfWithin long program p × IsRead p read × AreRan p later
 
--- stages of a decision on a program's text are told by their lines, or a beginning of these, where the output failed
+-- stages of a decision on a program's text are told by their lines, or a beginning of these, where
+-- the output failed
 abbrev pub TellsStages : List ℕ → Option (List ℕ) → Option (List ℕ) → Type 0
 TellsStages program told_old told_new =
     (told : List Stage) × AreStages program told

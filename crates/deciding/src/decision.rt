@@ -27,7 +27,8 @@ pub struct Race {
     pub finder: Caller,
     /// The send that it found in the run.
     pub found: Caller,
-    /// A send of another rank that it would find too, and that may come first, as far as the run tells.
+    /// A send of another rank that it would find too, and that may come first, as far as the run
+    /// tells.
     pub other: Caller,
 }
 
@@ -36,7 +37,8 @@ pub struct Race {
 pub enum Decision {
     /// No run of the program gets stuck.
     NoDeadlock,
-    /// These steps are a run of the program that ends where a rank is unfinished and no step is enabled.
+    /// These steps are a run of the program that ends where a rank is unfinished and no step is
+    /// enabled.
     Deadlock(Vec<Step>),
     /// The run finishes, but messages may race for this call.
     Race(Race),
@@ -83,8 +85,8 @@ fn named_race(program: &LongProgram, state: &State, race: clocks::Race) -> Race
     }
 }
 
-/// Decides by a run that buffers as little as the policy allows, and the state at its end, whether some run of the program gets stuck.
-/// The only error is want of memory.
+/// Decides by a run that buffers as little as the policy allows, and the state at its end, whether
+/// some run of the program gets stuck. The only error is want of memory.
 pub fn judge_run(
     alloc: Global,
     program: &LongProgram,
@@ -108,8 +110,9 @@ pub fn judge_run(
 
 /// Decides by one run whether some run of the program gets stuck. The only error is want of memory.
 ///
-/// The run takes time near linear in the calls. Where calls take any source, what is known of these of each rank is counted for each
-/// call, so that the time is that of the calls times the ranks that have such calls.
+/// The run takes time near linear in the calls. Where calls take any source, what is known of these
+/// of each rank is counted for each call, so that the time is that of the calls times the ranks
+/// that have such calls.
 pub fn decide_program(alloc: Global, program: &LongProgram) -> Result<Decision, AllocError>
     ensures { IfOk result (IsDecision program.now) }
 {

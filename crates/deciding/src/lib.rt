@@ -1,8 +1,9 @@
 //! What one run tells of all runs of a program, of any length.
 //!
-//! The run that buffers as little as the policy allows is made. Where it gets stuck it is a deadlock. Where it finishes, and no
-//! other message can come first for a receive, matched probe or probe of any source, no run gets stuck. Else messages may
-//! race, and the run alone tells nothing. `specs/Decisions.antt` says what each answer means.
+//! The run that buffers as little as the policy allows is made. Where it gets stuck it is a
+//! deadlock. Where it finishes, and no other message can come first for a receive, matched probe or
+//! probe of any source, no run gets stuck. Else messages may race, and the run alone tells nothing.
+//! `specs/Decisions.antt` says what each answer means.
 #![tactic(auto)]
 
 mod decision;

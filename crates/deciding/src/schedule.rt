@@ -31,7 +31,8 @@ fn put_issue(out: &mut Vec<u8>, rank: u32, buffered: bool) -> Result<(), AllocEr
     Ok(())
 }
 
-/// Writes the line of the step by which a finder finds a send: a probe sees it, a taker is matched with it.
+/// Writes the line of the step by which a finder finds a send: a probe sees it, a taker is matched
+/// with it.
 fn put_find(out: &mut Vec<u8>, sees: bool, send: usize, finder: usize) -> Result<(), AllocError>
     ensures { OnOk result (out.new.items ≡ out.old.items ++ step_line (find_step sees (send + 1) (finder + 1))) }
 {
@@ -63,8 +64,9 @@ fn put_steps(out: &mut Vec<u8>, steps: &[Step]) -> Result<(), AllocError>
     Ok(())
 }
 
-/// The text of these steps as a schedule, however many they are: ranks count from 0, calls from 1. Within the limits of a schedule it is
-/// the text of an evidence, as `prooflog::write_evidence` writes it. The only error is want of memory.
+/// The text of these steps as a schedule, however many they are: ranks count from 0, calls from 1.
+/// Within the limits of a schedule it is the text of an evidence, as `prooflog::write_evidence`
+/// writes it. The only error is want of memory.
 pub fn schedule_text(alloc: Global, steps: &[Step]) -> Result<Vec<u8>, AllocError>
     ensures { IfOk result (λ text. text.items ≡ schedule_text steps.now) }
 {

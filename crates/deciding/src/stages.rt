@@ -51,8 +51,8 @@ fn line_of_stage(alloc: Global, stage: Stage) -> Result<Vec<u8>, AllocError>
     Ok(line)
 }
 
-/// Tells a stage by its line, and answers whether the whole line was told: where the output fails a beginning of it is, and where memory
-/// runs out nothing.
+/// Tells a stage by its line, and answers whether the whole line was told: where the output fails a
+/// beginning of it is, and where memory runs out nothing.
 fn tell_stage<E: Write>(alloc: Global, stage: Stage, err: &mut E) -> bool
     ensures whole { IsTrue result → Appends (E.contents err.old) (E.contents err.new) (stage_line stage) }
     ensures told { Appends (E.contents err.old) (E.contents err.new) (stage_line stage)
@@ -67,7 +67,8 @@ fn tell_stage<E: Write>(alloc: Global, stage: Stage, err: &mut E) -> bool
     }
 }
 
-/// A program, with the run of it that buffers as little as the policy allows, and the state at its end.
+/// A program, with the run of it that buffers as little as the policy allows, and the state at its
+/// end.
 #[derive(Drop)]
 struct Ran {
     program: LongProgram,
@@ -75,7 +76,8 @@ struct Ran {
     end: State,
 }
 
-/// The program of a text with that run, told by a line each. A fault of the output is not told, and nothing more is told after it.
+/// The program of a text with that run, told by a line each. A fault of the output is not told, and
+/// nothing more is told after it.
 fn run_telling<E: Write>(alloc: Global, text: &[u8], err: &mut E) -> Result<Ran, Undecided>
     ensures program { IfOk result (λ ran. IsTextOfWithin long text.now ran.program) }
     ensures run { IfOk result (λ ran. IsLeastBufferedRun ran.program ran.steps.items) }
@@ -101,8 +103,9 @@ fn run_telling<E: Write>(alloc: Global, text: &[u8], err: &mut E) -> Result<Ran,
     })
 }
 
-/// Decides as [`decide`](crate::decide) does, and tells meanwhile, by a line each, that the text is read, with its ranks and calls, and
-/// that the run is made, with its steps. A fault of the output is not told, and nothing more is told after it.
+/// Decides as [`decide`](crate::decide) does, and tells meanwhile, by a line each, that the text is
+/// read, with its ranks and calls, and that the run is made, with its steps. A fault of the output
+/// is not told, and nothing more is told after it.
 pub fn decide_telling<E: Write>(
     alloc: Global,
     text: &[u8],

@@ -53,11 +53,13 @@ pub fn program_of(alloc: Global, text: &[u8]) -> Result<LongProgram, Undecided>
     Ok(LongProgram::resolve(alloc, source)?)
 }
 
-/// Decides by one run whether some run of the program of this text gets stuck. The text has the grammar of program texts, and no limit but
-/// memory's and that numbers have 31 bits.
+/// Decides by one run whether some run of the program of this text gets stuck. The text has the
+/// grammar of program texts, and no limit but memory's and that numbers have 31 bits.
 ///
-/// The answer is proved: there is no evidence to check. It is never a race where each receive, matched probe and probe names its
-/// source; where one takes any source, it is told only where another message may come first, as far as the run tells. A text that is no program's is refused for the reason for which `prove` refuses it, the limits aside.
+/// The answer is proved: there is no evidence to check. It is never a race where each receive,
+/// matched probe and probe names its source; where one takes any source, it is told only where
+/// another message may come first, as far as the run tells. A text that is no program's is refused
+/// for the reason for which `prove` refuses it, the limits aside.
 pub fn decide(alloc: Global, text: &[u8]) -> Result<Decision, Undecided>
     ensures { IsDecided text.now result }
 {

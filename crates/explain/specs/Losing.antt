@@ -1,4 +1,5 @@
--- Channels to which more messages are sent than are taken there: in each run that finishes, some are never received.
+-- Channels to which more messages are sent than are taken there: in each run that finishes, some
+-- are never received.
 use Rattle.std.specs.Prelude.{◌≡◌, codes, nat_lt, Bool, List, [], length, ℕ}
 use Rattle.std.specs.List.{filter}
 use Rattle.callorder.specs.Programs.{MpiProgram}
@@ -18,7 +19,8 @@ pub record AreLosing (p : MpiProgram) (losing : List Imbalance) : Type 0 where
 abbrev pub lost_heading : List ℕ
 lost_heading = codes "messages that no receive takes:\n"
 
--- The text is empty where no channel has more sends than takers, and begins with its heading where one has.
+-- The text is empty where no channel has more sends than takers, and begins with its heading where
+-- one has.
 pub record TellsLosses (p : MpiProgram) (text : List ℕ) : Type 0 where
   pub losing : List Imbalance
   pub are : AreLosing p losing

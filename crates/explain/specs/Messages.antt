@@ -54,7 +54,8 @@ AreTold labels p m standings zero text = text ≡ []
 AreTold labels p m standings (suc rank) text =
     (above : List ℕ) × (line : List ℕ) × AreTold labels p m standings rank above × IsTold labels p m rank (slice_get standings rank) line × (text ≡ above ++ line)
 
--- At the end of the run each rank stands so, and the text has a line for each that waits, in rising order, and nothing else.
+-- At the end of the run each rank stands so, and the text has a line for each that waits, in rising
+-- order, and nothing else.
 pub record IsMessages (text : List ℕ) (source : ProgramText) (p : MpiProgram) (steps : List Step) (told : List ℕ) : Type 0 where
   pub standings : List Standing
   pub are : AreStandings p (after_all (opening p) steps) p.ranks standings

@@ -22,8 +22,8 @@ fn verb_of<'a>(scene: &'a Scene<'_>, call: usize) -> &'a [u8] {
     words.split(|byte| *byte == b' ').next().unwrap_or(b"")
 }
 
-/// Whether two ranks wait alike: in calls of one verb, for operations of one verb, whose channels both
-/// balance, or both don't.
+/// Whether two ranks wait alike: in calls of one verb, for operations of one verb, whose channels
+/// both balance, or both don't.
 fn are_alike(scene: &Scene<'_>, one: u32, other: u32) -> bool {
     let (Standing::Waits { call: first }, Standing::Waits { call: second }) = (
         scene.standing(one),

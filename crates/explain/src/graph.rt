@@ -24,7 +24,8 @@ fn put_layout(out: &mut String, ranks: u32) -> Result<(), AllocError> {
     out.push_str("  layout=circo;\n")
 }
 
-/// How the node of a rank is drawn that waits: red where it is on a cycle, with a double border where nothing can come.
+/// How the node of a rank is drawn that waits: red where it is on a cycle, with a double border
+/// where nothing can come.
 fn node_style(scene: &Scene<'_>, circles: &Circles, rank: u32) -> &'static str {
     if circles.has_rank(rank, scene.awaited_by(rank)) {
         return ", color=red";
@@ -36,8 +37,8 @@ fn node_style(scene: &Scene<'_>, circles: &Circles, rank: u32) -> &'static str {
     }
 }
 
-/// Adds the lines of a node's label: that of the call that its rank waits in, and that of the operation that this waits for, where it
-/// stands in another line.
+/// Adds the lines of a node's label: that of the call that its rank waits in, and that of the
+/// operation that this waits for, where it stands in another line.
 fn put_label(out: &mut String, scene: &Scene<'_>, call: usize) -> Result<(), AllocError> {
     put_line(out, scene, call)?;
     let operation = operation_of(scene.program, call);
@@ -86,7 +87,8 @@ fn edge_style(is_one_of_several: bool, is_on_cycle: bool) -> &'static str {
     }
 }
 
-/// Adds the edges from a rank; in large programs the first ones, and one that is on a cycle, if there is one.
+/// Adds the edges from a rank; in large programs the first ones, and one that is on a cycle, if
+/// there is one.
 fn put_edges(
     out: &mut String,
     scene: &Scene<'_>,
@@ -130,7 +132,8 @@ fn put_near_miss(
     out.push_str("\"];\n")
 }
 
-/// Adds an edge from a rank for each near miss of the call that it waits in, where this waits for a match.
+/// Adds an edge from a rank for each near miss of the call that it waits in, where this waits for a
+/// match.
 fn put_near_misses(
     out: &mut String,
     alloc: Global,
@@ -166,11 +169,13 @@ fn put_ranks(
     Ok(())
 }
 
-/// The graph of who waits for whom at the end of a run that ends stuck, in the language of Graphviz: a node for each rank with the line
-/// and the words of the call that it waits in, a box where it is finished, and with a double border where nothing can come; an edge for
-/// each rank that is waited for, solid where that rank is needed and dashed where any of several is enough; the nodes and the edges of all
-/// cycles in red; and dashed grey edges to near misses. More than 16 ranks are laid out on a circle. `text` is the program's text, `source`
-/// what it says, and `program` its calls. The only error is want of memory.
+/// The graph of who waits for whom at the end of a run that ends stuck, in the language of
+/// Graphviz: a node for each rank with the line and the words of the call that it waits in, a box
+/// where it is finished, and with a double border where nothing can come; an edge for each rank
+/// that is waited for, solid where that rank is needed and dashed where any of several is enough;
+/// the nodes and the edges of all cycles in red; and dashed grey edges to near misses. More than 16
+/// ranks are laid out on a circle. `text` is the program's text, `source` what it says, and
+/// `program` its calls. The only error is want of memory.
 pub fn wait_graph(
     alloc: Global,
     text: &[u8],

@@ -47,8 +47,8 @@ fn sentences(
 }
 
 /// The text, below a heading, on the messages of these channels that no receive takes: how many are
-/// sent and how many are taken, with the lines of both. `text` is the program's text, `source` what it
-/// says, and `program` its calls. The only error is want of memory.
+/// sent and how many are taken, with the lines of both. `text` is the program's text, `source` what
+/// it says, and `program` its calls. The only error is want of memory.
 pub fn lost_messages(
     alloc: Global,
     text: &[u8],

@@ -1,4 +1,5 @@
-//! What a rank that waits needs, as a text tells it: the calls that could end its wait, what became of them, and near misses.
+//! What a rank that waits needs, as a text tells it: the calls that could end its wait, what became
+//! of them, and near misses.
 
 use crate::text::MOST_TOLD;
 use crate::wording::{put_call_of, put_line, put_number_of};
@@ -8,7 +9,8 @@ use scene::Scene;
 use std::alloc::{AllocError, Global};
 use waits::{Fate, Need, Standing, fate_of, fitting, need_of, operation_of};
 
-/// The most calls of one rank that are told one by one, of those that are reached and of those that aren't.
+/// The most calls of one rank that are told one by one, of those that are reached and of those that
+/// aren't.
 const MOST_CALLS: usize = 3;
 
 /// The most near misses of one call that are told.
@@ -287,8 +289,8 @@ fn put_miss(
     out.push('\n')
 }
 
-/// Whether the two calls were told as a near miss before: both are waited for, and the other one by an
-/// earlier rank, of which nothing else is told than of this one.
+/// Whether the two calls were told as a near miss before: both are waited for, and the other one by
+/// an earlier rank, of which nothing else is told than of this one.
 fn is_told_before(scene: &Scene<'_>, operation: usize, other: usize) -> bool {
     let (Some(own), Some(label)) = (scene.labels.get(operation), scene.labels.get(other)) else {
         return false;
@@ -337,8 +339,8 @@ fn put_fetch(
     out.push('\n')
 }
 
-/// Tells what a rank that waits in a call needs: of a match the calls that fit, and those that miss in one part alone where none is
-/// left that could match.
+/// Tells what a rank that waits in a call needs: of a match the calls that fit, and those that miss
+/// in one part alone where none is left that could match.
 pub fn put_need(
     out: &mut String,
     alloc: Global,

@@ -41,7 +41,8 @@ fn put_more(out: &mut String, most: usize, count: usize) -> Result<(), AllocErro
     writeln!(out, "  and {more} more")
 }
 
-/// Tells, behind a list on one line, how many there are beyond those that it tells at most, if there are more.
+/// Tells, behind a list on one line, how many there are beyond those that it tells at most, if
+/// there are more.
 fn put_more_behind(out: &mut String, most: usize, count: usize) -> Result<(), AllocError> {
     let more = count.saturating_sub(most);
     if more == 0 {
@@ -102,7 +103,8 @@ fn put_links(
     Ok(())
 }
 
-/// Tells the cycle of a large program: whole where it is short, else its first links and its last ones.
+/// Tells the cycle of a large program: whole where it is short, else its first links and its last
+/// ones.
 fn put_long_cycle(out: &mut String, scene: &Scene<'_>) -> Result<(), AllocError> {
     let count = scene.cycle.len();
     if count <= MOST_OF_LARGE {
@@ -114,7 +116,8 @@ fn put_long_cycle(out: &mut String, scene: &Scene<'_>) -> Result<(), AllocError>
     put_links(out, scene, count.saturating_sub(MOST_TOLD), count)
 }
 
-/// Tells a cycle of ranks that wait for one another, if there is one, in a line for each of its ranks.
+/// Tells a cycle of ranks that wait for one another, if there is one, in a line for each of its
+/// ranks.
 fn put_cycle(out: &mut String, scene: &Scene<'_>) -> Result<(), AllocError> {
     if scene.large && !scene.whole {
         return put_long_cycle(out, scene);
@@ -136,7 +139,8 @@ fn put_rivals(out: &mut String, scene: &Scene<'_>, rivals: &[usize]) -> Result<(
     put_more_behind(out, most, rivals.len())
 }
 
-/// Tells that a receive or matched probe took the message of a send, or that a probe saw it, and begins a line below.
+/// Tells that a receive or matched probe took the message of a send, or that a probe saw it, and
+/// begins a line below.
 fn put_finding(
     out: &mut String,
     scene: &Scene<'_>,
@@ -190,7 +194,8 @@ fn choices_text(
     Ok(out)
 }
 
-/// The first receive or matched probe behind a probe, in its rank, that the send fits, if there is one.
+/// The first receive or matched probe behind a probe, in its rank, that the send fits, if there is
+/// one.
 fn next_taker(program: &LongProgram, send: usize, probe: usize) -> Option<usize> {
     for call in probe..program.calls().len() {
         if !program.are_of_one_rank(call, probe) {
@@ -203,8 +208,8 @@ fn next_taker(program: &LongProgram, send: usize, probe: usize) -> Option<usize>
     None
 }
 
-/// The send whose message a probe saw, and the receive or matched probe that stands behind it to take that message, with the send of the
-/// other message that it took.
+/// The send whose message a probe saw, and the receive or matched probe that stands behind it to
+/// take that message, with the send of the other message that it took.
 fn exchange_of(scene: &Scene<'_>, probe: usize) -> Option<(usize, usize, usize)> {
     if !scene.program.is_probe(probe) {
         return None;
@@ -219,7 +224,8 @@ fn exchange_of(scene: &Scene<'_>, probe: usize) -> Option<(usize, usize, usize)>
     }
 }
 
-/// Tells that a receive or matched probe took another message than the one that a probe before it saw.
+/// Tells that a receive or matched probe took another message than the one that a probe before it
+/// saw.
 fn put_exchange(
     out: &mut String,
     scene: &Scene<'_>,
@@ -234,8 +240,8 @@ fn put_exchange(
     out.push('\n')
 }
 
-/// Tells the receives and matched probes that took another message than the one that a probe right before them, among the calls of
-/// their rank that the message fits, had seen.
+/// Tells the receives and matched probes that took another message than the one that a probe right
+/// before them, among the calls of their rank that the message fits, had seen.
 fn exchanges(alloc: Global, scene: &Scene<'_>) -> Result<String, AllocError> {
     let mut out = String::new(alloc);
     let most = scene.most_of_large();
@@ -252,7 +258,8 @@ fn exchanges(alloc: Global, scene: &Scene<'_>) -> Result<String, AllocError> {
     Ok(out)
 }
 
-/// Tells in which call a rank waits, the operation that it waits for, where that is another call's, and what this needs.
+/// Tells in which call a rank waits, the operation that it waits for, where that is another call's,
+/// and what this needs.
 fn put_waiting(
     out: &mut String,
     alloc: Global,
@@ -305,8 +312,8 @@ fn put_group(
     Ok(())
 }
 
-/// Tells where the ranks stand that aren't finished, of those that wait for nobody, or of the others;
-/// those that wait alike together.
+/// Tells where the ranks stand that aren't finished, of those that wait for nobody, or of the
+/// others; those that wait alike together.
 fn standings(alloc: Global, scene: &Scene<'_>, lack: bool) -> Result<String, AllocError> {
     let mut out = String::new(alloc);
     let most = scene.most(MOST_TOLD);
@@ -457,8 +464,8 @@ fn put_part(out: &mut String, heading: &str, part: &String) -> Result<(), AllocE
     out.push_str(part.as_str())
 }
 
-/// Tells the channels whose messages and receives differ in number: those of which a rank waits for a
-/// call, or the others.
+/// Tells the channels whose messages and receives differ in number: those of which a rank waits for
+/// a call, or the others.
 fn balance(alloc: Global, scene: &Scene<'_>, awaited: bool) -> Result<String, AllocError> {
     let mut out = String::new(alloc);
     let most = scene.most(MOST_TOLD);
@@ -475,7 +482,8 @@ fn balance(alloc: Global, scene: &Scene<'_>, awaited: bool) -> Result<String, Al
     Ok(out)
 }
 
-/// Tells what the deadlock comes from, and then `decided`, a text on what decided it, and what the steps decided.
+/// Tells what the deadlock comes from, and then `decided`, a text on what decided it, and what the
+/// steps decided.
 fn put_cause(
     out: &mut String,
     alloc: Global,
@@ -628,12 +636,14 @@ fn rest_of(
     Ok(out)
 }
 
-/// The text, in plain ASCII, that explains a run of a program that ends stuck: whether every run does, as `frequency` tells, and where
-/// some end well, where the run first parts from such a one; channels whose sends and receives differ in number; a cycle of ranks that wait
-/// for one another, and the ranks for which nothing can come; then `decided`, a text on what decided it; the choices on the way; receives
-/// that took another message than a probe before them saw; where the other ranks stand and for what they wait; who waits for whom; and
-/// which messages nobody received. Long lists are cut, and told by their number, unless each is wanted whole. `text` is the program's text,
-/// `source` what it says, and `program` its calls. The only error is want of memory.
+/// The text, in plain ASCII, that explains a run of a program that ends stuck: whether every run
+/// does, as `frequency` tells, and where some end well, where the run first parts from such a one;
+/// channels whose sends and receives differ in number; a cycle of ranks that wait for one another,
+/// and the ranks for which nothing can come; then `decided`, a text on what decided it; the choices
+/// on the way; receives that took another message than a probe before them saw; where the other
+/// ranks stand and for what they wait; who waits for whom; and which messages nobody received. Long
+/// lists are cut, and told by their number, unless each is wanted whole. `text` is the program's
+/// text, `source` what it says, and `program` its calls. The only error is want of memory.
 pub fn explanation(
     alloc: Global,
     text: &[u8],

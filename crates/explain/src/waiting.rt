@@ -151,10 +151,11 @@ fn lines(alloc: Global, program: &LongProgram, scene: &Scene<'_>) -> Result<Vec<
     Ok(out)
 }
 
-/// The text, in plain ASCII, that tells of each rank that waits at the end of a run that ends stuck: a
-/// line with the line and the words of the call that it waits in, and behind them the line of a call
-/// that is needed of a rank that it waits for, where one is known. `text` is the program's text,
-/// `source` what it says, and `program` its calls. The only error is want of memory.
+/// The text, in plain ASCII, that tells of each rank that waits at the end of a run that ends
+/// stuck: a line with the line and the words of the call that it waits in, and behind them the line
+/// of a call that is needed of a rank that it waits for, where one is known. `text` is the
+/// program's text, `source` what it says, and `program` its calls. The only error is want of
+/// memory.
 pub fn messages(
     alloc: Global,
     text: &[u8],

@@ -45,8 +45,8 @@ fn put_run(out: &mut String, first: u32, count: u32) -> Result<u32, AllocError> 
     Ok(count)
 }
 
-/// Tells numbers in rising order, runs of three and more by their ends, and at most so many of these
-/// parts: `1, 2, 5 to 9, ..`.
+/// Tells numbers in rising order, runs of three and more by their ends, and at most so many of
+/// these parts: `1, 2, 5 to 9, ..`.
 pub fn put_numbers(out: &mut String, numbers: &[u32], most: usize) -> Result<(), AllocError> {
     let mut passed: u32 = 0;
     let mut parts: usize = 0;

@@ -51,8 +51,8 @@ struct Rank {
     near_misses: Vec<Miss>,
 }
 
-/// A choice: a send that was buffered though the policy leaves that open, or which message a wildcard took, or a probe saw, where others
-/// fitted too.
+/// A choice: a send that was buffered though the policy leaves that open, or which message a
+/// wildcard took, or a probe saw, where others fitted too.
 #[derive(Drop, Serialize)]
 struct Decision {
     step: usize,
@@ -394,11 +394,13 @@ fn text_of(alloc: Global, deadlock: &Deadlock<'_>) -> Result<String, AllocError>
     Ok(text)
 }
 
-/// The JSON object, on one line, that explains a run of a program that ends stuck: whether every run does; its calls with their lines
-/// and words; for each rank whether it is finished, the call that it waits in, the operation that this waits for, the ranks that it waits
-/// for, the calls that fit and what became of each, and near misses; a cycle of ranks; what decided it, with what is known of each; the
-/// choices on the way; where the run first parts from one that ends well; which messages nobody received; and channels whose sends and
-/// receives differ in number. All but the first list, and what decided it, name calls by their numbers alone. `text` is the program's
+/// The JSON object, on one line, that explains a run of a program that ends stuck: whether every
+/// run does; its calls with their lines and words; for each rank whether it is finished, the call
+/// that it waits in, the operation that this waits for, the ranks that it waits for, the calls that
+/// fit and what became of each, and near misses; a cycle of ranks; what decided it, with what is
+/// known of each; the choices on the way; where the run first parts from one that ends well; which
+/// messages nobody received; and channels whose sends and receives differ in number. All but the
+/// first list, and what decided it, name calls by their numbers alone. `text` is the program's
 /// text, `source` what it says, and `program` its calls. The only error is want of memory.
 pub fn object_text(
     alloc: Global,

@@ -1,4 +1,5 @@
--- The text of a program's formula in the DIMACS format. Calls are numbered from 1, their places plus 1; ranks from 0.
+-- The text of a program's formula in the DIMACS format. Calls are numbered from 1, their places
+-- plus 1; ranks from 0.
 use Rattle.std.specs.Prelude.{codes, ℕ, ◌+◌, Bool, true, false, List, [], ◌∷◌, ◌++◌, length, map}
 use Rattle.std.specs.List.{flat_map}
 use Rattle.callorder.specs.Programs.{MpiProgram, is_probe}
@@ -20,21 +21,23 @@ abbrev pub event_words : MpiProgram → Event → List (List ℕ)
 event_words p (issue_of c) = codes "issue" ∷ numeral (c + 1) ∷ []
 event_words p (match_of f) = find_word (is_probe p f) ∷ numeral (f + 1) ∷ []
 
--- The word of a send that was found is `seen` where a probe has seen it, and `matched` where it is matched with a taker.
+-- The word of a send that was found is `seen` where a probe has seen it, and `matched` where it is
+-- matched with a taker.
 abbrev pub found_word : Bool → List ℕ
 found_word true = codes "seen"
 found_word false = codes "matched"
 
--- A fact's words are `issued C`, `buffered C`, `matched S T` with the send and the taker, `unfinished R` with the rank, or `seen S P` with the
--- send and the probe.
+-- A fact's words are `issued C`, `buffered C`, `matched S T` with the send and the taker,
+-- `unfinished R` with the rank, or `seen S P` with the send and the probe.
 abbrev pub fact_words : MpiProgram → Fact → List (List ℕ)
 fact_words p (issued c) = codes "issued" ∷ numeral (c + 1) ∷ []
 fact_words p (buffered c) = codes "buffered" ∷ numeral (c + 1) ∷ []
 fact_words p (matched s f) = found_word (is_probe p f) ∷ numeral (s + 1) ∷ numeral (f + 1) ∷ []
 fact_words p (unfinished r) = codes "unfinished" ∷ numeral r ∷ []
 
--- What a variable stands for: a fact; `bit I of EVENT`, the bit at place I of the event's clock, from 1 for the highest; `EVENT before EVENT`;
--- or `N equal bits of EVENT and EVENT`, where the two clocks begin with so many equal bits.
+-- What a variable stands for: a fact; `bit I of EVENT`, the bit at place I of the event's clock,
+-- from 1 for the highest; `EVENT before EVENT`; or `N equal bits of EVENT and EVENT`, where the two
+-- clocks begin with so many equal bits.
 abbrev pub meaning_words : MpiProgram → Meaning → List (List ℕ)
 meaning_words p (fact a) = fact_words p a
 meaning_words p (clock_bit e i) = codes "bit" ∷ numeral (i + 1) ∷ codes "of" ∷ event_words p (event_at p e)
@@ -51,7 +54,8 @@ abbrev pub comment_lines : MpiProgram → ℕ → List Meaning → List ℕ
 comment_lines p number [] = []
 comment_lines p number (m ∷ ms) = comment_line p number m ++ comment_lines p (number + 1) ms
 
--- A formula's heading is the line `p cnf V C`, with the numbers of its variables and of its clauses.
+-- A formula's heading is the line `p cnf V C`, with the numbers of its variables and of its
+-- clauses.
 abbrev pub dimacs_heading : ℕ → ℕ → List ℕ
 dimacs_heading variables clauses = line_of (codes "p" ∷ codes "cnf" ∷ numeral variables ∷ numeral clauses ∷ [])
 

@@ -39,7 +39,8 @@ fn put_event(out: &mut Vec<u8>, program: &Program, event: &Event) -> Result<(), 
     }
 }
 
-/// The word of a pair whose finder has found the send: a probe has seen it, a taker is matched with it.
+/// The word of a pair whose finder has found the send: a probe has seen it, a taker is matched with
+/// it.
 fn found_word(sees: bool) -> &'static str
     ensures { result.now ≡ found_word sees }
 {

@@ -74,11 +74,13 @@ fn put_formula(out: &mut Vec<u8>, formula: &Formula) -> Result<(), AllocError>
 
 /// The text of a program's formula in the DIMACS format.
 ///
-/// First comes for each variable, in the order of their numbers, a comment line `c V ..` that tells what it stands for:
-/// `issued C`, `buffered C`, `matched S T` of a send and a taker, `unfinished R`, `seen S P` of a send and a probe,
-/// `bit I of E`, `E before E`, or `N equal bits of E and E`. An event E is `issue C`, `match T` or `see P`. Calls are
-/// numbered from 1, ranks from 0, and the bits of a clock from 1, the highest. Then come the heading `p cnf V C`, with the numbers of variables and of clauses, and a line
-/// for each clause, its literals and a 0. The only error is want of memory.
+/// First comes for each variable, in the order of their numbers, a comment line `c V ..` that tells
+/// what it stands for: `issued C`, `buffered C`, `matched S T` of a send and a taker,
+/// `unfinished R`, `seen S P` of a send and a probe, `bit I of E`, `E before E`, or
+/// `N equal bits of E and E`. An event E is `issue C`, `match T` or `see P`. Calls are numbered
+/// from 1, ranks from 0, and the bits of a clock from 1, the highest. Then come the heading
+/// `p cnf V C`, with the numbers of variables and of clauses, and a line for each clause, its
+/// literals and a 0. The only error is want of memory.
 pub fn dimacs_text(alloc: Global, encoded: &Encoded) -> Result<Vec<u8>, AllocError>
     ensures { IfOk result (λ text. text.items ≡ dimacs_text encoded.now.program) }
 {

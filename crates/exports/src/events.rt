@@ -28,7 +28,8 @@ fn matches(alloc: Global, program: &Program) -> Result<Vec<Event>, AllocError>
         .collect(alloc)
 }
 
-/// The events of the program: the issue of each call, and then the match of each taker and the see of each probe.
+/// The events of the program: the issue of each call, and then the match of each taker and the see
+/// of each probe.
 pub fn events_of(alloc: Global, program: &Program) -> Result<Vec<Event>, AllocError>
     ensures { IfOk result (λ events. events.items ≡ events_of program.now) }
 {
@@ -38,7 +39,8 @@ pub fn events_of(alloc: Global, program: &Program) -> Result<Vec<Event>, AllocEr
     Ok(events)
 }
 
-/// The event at the place. Past the last one it is the issue of the first call, which no text shows.
+/// The event at the place. Past the last one it is the issue of the first call, which no text
+/// shows.
 pub fn event_at(events: &[Event], place: usize) -> Event
     ensures { result ≡ get_or events.now place (issue_of 0) }
 {

@@ -8,7 +8,8 @@ use refutations::Line;
 use std::alloc::{AllocError, Global};
 use writing::put_number;
 
-/// Writes the line of a proof line whose clause has this number. A `u128` holds the sum of numbers of clauses and of lines.
+/// Writes the line of a proof line whose clause has this number. A `u128` holds the sum of numbers
+/// of clauses and of lines.
 fn put_line(out: &mut Vec<u8>, number: u128, line: &Line) -> Result<(), AllocError>
     ensures { OnOk result (out.new.items ≡ out.old.items ++ lrat_line number line.now) }
 {
@@ -31,9 +32,10 @@ fn put_lines(out: &mut Vec<u8>, clauses: u128, lines: &[Line]) -> Result<(), All
     Ok(())
 }
 
-/// The text of a proof in the LRAT format: for each of the lines, and then of those that are added to them, the number of its clause, its
-/// literals, a 0, its hints and a 0. So many clauses of a formula come before, so the first line has the next number. No clause is
-/// deleted. The only error is want of memory.
+/// The text of a proof in the LRAT format: for each of the lines, and then of those that are added
+/// to them, the number of its clause, its literals, a 0, its hints and a 0. So many clauses of a
+/// formula come before, so the first line has the next number. No clause is deleted. The only error
+/// is want of memory.
 pub fn lrat_text(
     alloc: Global,
     clauses: usize,

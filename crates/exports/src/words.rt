@@ -14,7 +14,8 @@ pub fn put_word(out: &mut Vec<u8>, word: &str) -> Result<(), AllocError>
     Ok(())
 }
 
-/// Writes a space and the number's numeral at the end. A `u128` holds the number of a call, which is 1 more than a `usize`.
+/// Writes a space and the number's numeral at the end. A `u128` holds the number of a call, which
+/// is 1 more than a `usize`.
 pub fn put_number(out: &mut Vec<u8>, number: u128) -> Result<(), AllocError>
     ensures { OnOk result (out.new.items ≡ out.old.items ++ spaced (numeral number ∷ [])) }
 {

@@ -1,4 +1,5 @@
--- What loading and storing do to the bytes that a reader has left and a writer holds, where those are known.
+-- What loading and storing do to the bytes that a reader has left and a writer holds, where those
+-- are known.
 use Rattle.std.specs.Prelude.{◌≡◌, ◌≢◌, ◌⊎◌, ℕ, ◌<◌, ltb, leb, nat_eq, Bool, ◌&&◌, not, IsTrue, List, ◌++◌, length, Option, None, Some}
 use Rattle.std.specs.List.{starts_with}
 use Rattle.std.specs.Io.KnownBytes.{Appends}
@@ -10,7 +11,8 @@ abbrev pub AreAll : Option (List ℕ) → List ℕ → Type 0
 AreAll None bytes = Unit {0}
 AreAll (Some known) bytes = bytes ≡ known
 
--- so much was read that the rest isn't needed: more than so many bytes, or as many as a beginning has, and they aren't that
+-- so much was read that the rest isn't needed: more than so many bytes, or as many as a beginning
+-- has, and they aren't that
 abbrev pub is_enough : Extent → List ℕ → Bool
 is_enough (Most most) bytes = ltb most (length bytes)
 is_enough (Begins front) bytes = leb (length front.now) (length bytes) && not (starts_with nat_eq bytes front.now)

@@ -38,10 +38,11 @@ fn add(bytes: &mut Vec<u8>, more: &[u8])
     }
 }
 
-/// Reads what a reader has left, as far as this extent says: all of it, or a beginning that is enough.
+/// Reads what a reader has left, as far as this extent says: all of it, or a beginning that is
+/// enough.
 ///
-/// The reader has lost what was read, and no byte past it. After a fault that is handed back too, so
-/// no byte is lost. A read that is interrupted is tried again.
+/// The reader has lost what was read, and no byte past it. After a fault that is handed back too,
+/// so no byte is lost. A read that is interrupted is tried again.
 pub fn load<R: Read>(
     alloc: Global,
     reader: &mut R,

@@ -9,8 +9,8 @@ use std::io::Write;
 
 /// Files that are read or written by their path.
 ///
-/// A set of files in memory can tell what its files hold and which of them it reads, and contracts then speak of
-/// that. The system's files tell nothing.
+/// A set of files in memory can tell what its files hold and which of them it reads, and contracts
+/// then speak of that. The system's files tell nothing.
 pub trait FileSet {
     /// Writes a file from its beginning.
     type Writer: Write + Drop;
@@ -27,8 +27,8 @@ pub trait FileSet {
     // Whether a file at this path can be written.
     ghost takes: { Self → List ℕ → Bool } = { λ _ _. true };
 
-    /// The content of the file at a path, as far as this extent says. No file changes, nor which are
-    /// read.
+    /// The content of the file at a path, as far as this extent says. No file changes, nor which
+    /// are read.
     fn read(&mut self, alloc: Global, path: &str, extent: &Extent<'_>) -> Result<Vec<u8>, LoadFault>
         ensures bytes { IfOk result (λ bytes. AreEnough extent.now (held self.old path.now) bytes.items) }
         ensures fault { IfErr result (λ fault. IsTrue (reads self.old path.now) → fault ≡ LoadFault.Memory) }
@@ -36,8 +36,8 @@ pub trait FileSet {
         ensures same_reads { reads self.new ≡ reads self.old };
 
     /// Opens the file at a path to be written. What it held may be gone, and what it holds is told
-    /// once it is closed. Every other file holds what it held, and where the opening is refused this one
-    /// does too.
+    /// once it is closed. Every other file holds what it held, and where the opening is refused
+    /// this one does too.
     fn open_write(&mut self, path: &str) -> Result<Self::Writer, OpenFault>
         ensures empty { IsTrue tells_written →
             IfOk result (λ writer. Self.Writer.contents writer ≡ Some []) }
@@ -46,8 +46,8 @@ pub trait FileSet {
         ensures others { KeepsOthers path.now (held self.old) (held self.new) }
         ensures refused { OnErr result (held self.new ≡ held self.old) };
 
-    /// Ends the writing of the file at a path, which then holds what its writer took; where the device
-    /// fails at that, the file may hold a part of it. Every other file holds what it held.
+    /// Ends the writing of the file at a path, which then holds what its writer took; where the
+    /// device fails at that, the file may hold a part of it. Every other file holds what it held.
     fn close(&mut self, path: &str, writer: Self::Writer) -> Result<(), StoreFault>
         requires untold { held self.old path.now ≡ None }
         requires taken { IsTrue (takes self.old path.now) }

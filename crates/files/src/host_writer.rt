@@ -9,8 +9,8 @@ use std::{fs, io};
 /// How many names are tried for a file beside another.
 const NAMES: u32 = 64;
 
-/// Writes a file of the system: the file itself, or a new one beside it that takes its place once all
-/// is written.
+/// Writes a file of the system: the file itself, or a new one beside it that takes its place once
+/// all is written.
 ///
 /// Dropped before that, it removes the new file, and the one at the path holds what it held.
 pub struct HostWriter<'a, R: Files> {

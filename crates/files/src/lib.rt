@@ -1,4 +1,5 @@
-//! Files by their path, those of the system among them, and whole contents read and written, with contracts on the bytes.
+//! Files by their path, those of the system among them, and whole contents read and written, with
+//! contracts on the bytes.
 #![tactic(auto)]
 
 mod contents;

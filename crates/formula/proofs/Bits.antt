@@ -25,8 +25,9 @@ same_number false false e = refl
 same_number true false e = absurd (omega (arith, e))
 same_number false true e = absurd (omega (arith, e))
 
--- What the clauses at a bit say: where the bits so far are the same with this one (next), these bits x and y are; where
--- they are the same before it alone, the bit is the later one's, and the flag tells whether that is the second.
+-- What the clauses at a bit say: where the bits so far are the same with this one (next), these
+-- bits x and y are; where they are the same before it alone, the bit is the later one's, and the
+-- flag tells whether that is the second.
 pub record AtBit (before next x y flag : Bool) : Type 0 where
   pub agree : next ≡ true → x ≡ y
   pub first : before ≡ true → next ≡ false → x ≡ not flag

@@ -1,5 +1,5 @@
--- The order of events and their clocks: what an assignment that satisfies the clauses on the order says, and what
--- clocks make of the variables.
+-- The order of events and their clocks: what an assignment that satisfies the clauses on the order
+-- says, and what clocks make of the variables.
 use Rattle.std.proofs.Common.{◌≡◌, ◌≢◌, ℕ, ◌-◌, ◌/◌, ◌^◌, ◌<◌, ◌≤◌, Bool, true, false, ◌&&◌, ◌==◌, nat_lt, List, [], ◌∷◌, map, length, refl, sym, ap, ◌∙◌, subst, arith}
 use Rattle.std.specs.List.{flat_map, list_any}
 use Rattle.std.proofs.lemmas.Bool.Decides.{nat_tests}

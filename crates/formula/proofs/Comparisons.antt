@@ -1,4 +1,5 @@
--- The clauses of one pair of events: an assignment satisfies them exactly where the bits compare the clocks.
+-- The clauses of one pair of events: an assignment satisfies them exactly where the bits compare
+-- the clocks.
 use Rattle.std.proofs.Common.{◌≡◌, ℕ, zero, suc, ◌<◌, ◌≤◌, inl, inr, ◌==◌, Bool, true, false, not, ◌&&◌, ◌||◌, nat_lt, if◌then◌else◌, List, [], ◌∷◌, ◌++◌, refl, sym, ap, ◌∙◌, subst, arith}
 use Rattle.std.specs.List.{range_with_len, list_any, list_all}
 use Rattle.std.proofs.lemmas.Bool.{and_parts, cases_eq}

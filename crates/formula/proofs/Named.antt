@@ -1,4 +1,5 @@
--- What the clauses of a program speak of: facts that the formula has a variable for, and events of the program.
+-- What the clauses of a program speak of: facts that the formula has a variable for, and events of
+-- the program.
 use Rattle.std.proofs.Common.{◌≡◌, ℕ, zero, suc, ◌+◌, ◌<◌, Bool, true, false, not, ◌&&◌, ◌==◌, nat_lt, if◌then◌else◌, List, [], ◌∷◌, ◌++◌, map, length, Option, Some, None, refl, ap, ◌∙◌, arith}
 use Rattle.std.specs.Prelude.{is_some}
 use Rattle.std.specs.List.{filter, flat_map, range_with_len, list_any}

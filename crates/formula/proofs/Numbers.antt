@@ -39,7 +39,8 @@ position_map : {X Y : Type 0} (test : Y → Bool) (f : X → Y) (xs : List X) �
 position_map test f [] = refl
 position_map test f (x ∷ xs) = ap (λ (z : ℕ). cond (not (test (f x))) (1 + z) 0) (position_map test f xs)
 
--- in a list of blocks of one length, the place is the one in the first block that has it, behind the blocks before
+-- in a list of blocks of one length, the place is the one in the first block that has it, behind
+-- the blocks before
 block_step : {X Y : Type 0} (f : X → List Y) (pick : X → Bool) (test : Y → Bool) (w : ℕ) (d x : X) (xs : List X) (b : Bool) → (b ≡ false → list_any test (f x) ≡ false) → (b ≡ true → list_any test (f x) ≡ true) → length (f x) ≡ w → (b || list_any pick xs) ≡ true → (list_any pick xs ≡ true → position_or_len test (flat_map f xs) ≡ position_or_len pick xs * w + position_or_len test (f (get_or xs (position_or_len pick xs) d))) → position_or_len test (f x ++ flat_map f xs) ≡ cond (not b) (1 + position_or_len pick xs) 0 * w + position_or_len test (f (get_or (x ∷ xs) (cond (not b) (1 + position_or_len pick xs) 0) d))
 block_step f pick test w d x xs true none some size h rest =
     let here = position_in test (f x) (flat_map f xs) (some refl) in omega (arith, here)

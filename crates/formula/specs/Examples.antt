@@ -88,7 +88,8 @@ any_tag_first =
           call_of 1 (receive_from 0 None) ∷ call_of 1 (receive_from 0 (Some 2)) ∷ [];
     }
 
--- three ranks: nonblocking sends and waits; a matched probe for any source, a receive for any source and tag; a send
+-- three ranks: nonblocking sends and waits; a matched probe for any source, a receive for any
+-- source and tag; a send
 abbrev pub probe_and_wildcards : MpiProgram
 probe_and_wildcards =
     record {
@@ -147,9 +148,9 @@ clauses_of_other_communicator =
 abbrev pub clauses_of_one_buffered_send : List (List ℤ)
 clauses_of_one_buffered_send = (plus 1 ∷ []) ∷ (minus 1 ∷ minus 2 ∷ []) ∷ (plus 2 ∷ []) ∷ []
 
--- Variables 1 and 2: the calls are issued; 3: the send is buffered; 4: the calls are matched; 5: the rank is unfinished;
--- 6 to 11: the clocks of the two issues and the match; 12, 14 and 16: their order, and 13, 15 and 17: whether their first
--- bits are the same.
+-- Variables 1 and 2: the calls are issued; 3: the send is buffered; 4: the calls are matched; 5:
+-- the rank is unfinished; 6 to 11: the clocks of the two issues and the match; 12, 14 and 16: their
+-- order, and 13, 15 and 17: whether their first bits are the same.
 abbrev pub clauses_of_send_to_itself : List (List ℤ)
 clauses_of_send_to_itself =
     (plus 1 ∷ minus 2 ∷ []) ∷
@@ -198,8 +199,8 @@ clauses_of_send_to_itself =
     (minus 11 ∷ plus 16 ∷ minus 17 ∷ []) ∷
     []
 
--- The rank that waits in its send, which isn't buffered: it is unfinished, the send is issued, and the events come in
--- the order of their numbers.
+-- The rank that waits in its send, which isn't buffered: it is unfinished, the send is issued, and
+-- the events come in the order of their numbers.
 abbrev pub waiting_in_send : List Bool
 waiting_in_send =
     true ∷ false ∷ false ∷ false ∷ true ∷ false ∷ false ∷ false ∷ true ∷ true ∷ false ∷ true ∷ true ∷ true ∷ false ∷ true ∷ false ∷ []

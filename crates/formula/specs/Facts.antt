@@ -1,5 +1,5 @@
--- What the formula of a program speaks of: events of a run, facts about its end, and literals over both. Calls are
--- named by their places in the program, from 0.
+-- What the formula of a program speaks of: events of a run, facts about its end, and literals over
+-- both. Calls are named by their places in the program, from 0.
 use Rattle.std.specs.Prelude.{ℕ, Bool, false, ◌==◌}
 pub use Rattle.formula.specs.declared.facts.Event.{Event}
 pub use Rattle.formula.specs.declared.facts.Event.TheVariants.{Issue as issue_of, Match as match_of}

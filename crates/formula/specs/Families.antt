@@ -1,5 +1,6 @@
--- The clauses of a program, family by family, before their variables are numbered. Together they say of the end of a
--- run, and of the order of its events, that the run follows the program and is stuck.
+-- The clauses of a program, family by family, before their variables are numbered. Together they
+-- say of the end of a run, and of the order of its events, that the run follows the program and is
+-- stuck.
 use Rattle.std.specs.Prelude.{ℕ, zero, suc, ◌+◌, Bool, true, false, not, ◌==◌, nat_lt, if◌then◌else◌, is_some, List, [], ◌∷◌, ◌++◌, map, filter, get_or, Option, Some, None}
 use Rattle.std.specs.List.{flat_map, position_or_len}
 use Rattle.calltext.specs.declared.call.Mode.TheVariants.{Standard, Synchronous, Buffered}
@@ -69,7 +70,8 @@ abbrev pub previous : MpiProgram → ℕ → Option ℕ
 previous p zero = None
 previous p (suc c) = if are_of_one_rank p c (suc c) then Some c else None
 
--- the last calls of the ranks that have a call, rising: those with no call of their rank directly after them
+-- the last calls of the ranks that have a call, rising: those with no call of their rank directly
+-- after them
 abbrev pub last_calls : MpiProgram → List ℕ
 last_calls p = filter (λ c. not (are_of_one_rank p c (c + 1))) (places p)
 
@@ -101,7 +103,8 @@ abbrev pub event_of_fetch : Option ℕ → ℕ → Event
 event_of_fetch None taker = match_of taker
 event_of_fetch (Some receive) taker = issue_of receive
 
--- the event by which a taker fetches its message: its match, and for a matched probe the issue of the receive on its handle
+-- the event by which a taker fetches its message: its match, and for a matched probe the issue of
+-- the receive on its handle
 abbrev pub fetch_of : MpiProgram → ℕ → Event
 fetch_of p taker = event_of_fetch (receive_on_handle p taker) taker
 
@@ -199,11 +202,13 @@ issued_after c None = []
 issued_after c (Some earlier) =
     (is_false (issued c) ∷ is_true (issued earlier) ∷ []) ∷ (is_earlier (issue_of earlier) (issue_of c) ∷ []) ∷ []
 
--- Calls are issued in order: where a call is issued, the one before it is issued. The issue of the one before it is earlier.
+-- Calls are issued in order: where a call is issued, the one before it is issued. The issue of the
+-- one before it is earlier.
 abbrev pub calls_are_issued_in_order : MpiProgram → List SymbolicClause
 calls_are_issued_in_order p = for_each_call p (λ c. issued_after c (previous p c))
 
--- where the call is issued and the send matched with a matched probe, the receive on its handle is issued, or the rest of the clause is right
+-- where the call is issued and the send matched with a matched probe, the receive on its handle is
+-- issued, or the rest of the clause is right
 abbrev pub handle_is_received_on : ℕ → ℕ → ℕ → SymbolicClause → Option ℕ → List SymbolicClause
 handle_is_received_on c send taker otherwise None = []
 handle_is_received_on c send taker otherwise (Some receive) =
@@ -234,7 +239,8 @@ abbrev pub issued_after_return_of : MpiProgram → ℕ → Option ℕ → List S
 issued_after_return_of p c None = []
 issued_after_return_of p c (Some earlier) = is_returned_before p c (when_returned p earlier)
 
--- Calls are issued after returns: where a call is issued, the one before it has returned, and what made it return is earlier.
+-- Calls are issued after returns: where a call is issued, the one before it has returned, and what
+-- made it return is earlier.
 abbrev pub calls_are_issued_after_returns : MpiProgram → List SymbolicClause
 calls_are_issued_after_returns p = for_each_call p (λ c. issued_after_return_of p c (previous p c))
 
@@ -273,8 +279,8 @@ send_is_matched_before p send taker earlier =
     (is_false (matched send taker) ∷ map (λ other. is_true (matched earlier other)) others) ∷
     map (λ other. is_false (matched send taker) ∷ is_false (matched earlier other) ∷ is_earlier (match_of other) (match_of taker) ∷ []) others
 
--- Sends don't overtake: where a pair is matched, each earlier send of the send's rank that fits the taker is matched
--- with another taker, and earlier.
+-- Sends don't overtake: where a pair is matched, each earlier send of the send's rank that fits the
+-- taker is matched with another taker, and earlier.
 abbrev pub sends_do_not_overtake : MpiProgram → List SymbolicClause
 sends_do_not_overtake p = for_each_pair p (λ send taker. flat_map (send_is_matched_before p send taker) (earlier_sends p send taker))
 
@@ -285,8 +291,8 @@ taker_is_matched_before p send taker earlier =
     (is_false (matched send taker) ∷ is_earlier (match_of earlier) (match_of taker) ∷ []) ∷
     []
 
--- Takers don't overtake: where a pair is matched, each earlier taker of the taker's rank that the send fits is matched
--- with another send, and earlier.
+-- Takers don't overtake: where a pair is matched, each earlier taker of the taker's rank that the
+-- send fits is matched with another send, and earlier.
 abbrev pub takers_do_not_overtake : MpiProgram → List SymbolicClause
 takers_do_not_overtake p = for_each_pair p (λ send taker. flat_map (taker_is_matched_before p send taker) (earlier_takers p send taker))
 
@@ -306,7 +312,8 @@ abbrev pub issue_does_not_wait : MpiProgram → ℕ → Option ℕ → List Symb
 issue_does_not_wait p c None = (is_true (issued c) ∷ []) ∷ []
 issue_does_not_wait p c (Some earlier) = where_returned p earlier (is_true (issued c))
 
--- No issue waits: the first call of each rank is issued, and each call that stands after one that has returned.
+-- No issue waits: the first call of each rank is issued, and each call that stands after one that
+-- has returned.
 abbrev pub no_issue_waits : MpiProgram → List SymbolicClause
 no_issue_waits p = for_each_call p (λ c. issue_does_not_wait p c (previous p c))
 
@@ -342,9 +349,10 @@ abbrev pub seen_before_taken : MpiProgram → ℕ → ℕ → List SymbolicClaus
 seen_before_taken p send probe =
     map (λ taker. is_false (matched send probe) ∷ is_false (matched send taker) ∷ is_earlier (match_of probe) (match_of taker) ∷ []) (takers_of p send)
 
--- What is said of a send and a probe that fits it. Where the probe has seen the send, both are issued, and before; the send is matched
--- with no taker before; no later send is seen too; each earlier send that fits the probe, and each earlier taker that the send fits, is
--- matched before. And where both are issued, the send is matched, or the probe has seen one.
+-- What is said of a send and a probe that fits it. Where the probe has seen the send, both are
+-- issued, and before; the send is matched with no taker before; no later send is seen too; each
+-- earlier send that fits the probe, and each earlier taker that the send fits, is matched before.
+-- And where both are issued, the send is matched, or the probe has seen one.
 abbrev pub see_clauses : MpiProgram → ℕ → ℕ → List SymbolicClause
 see_clauses p send probe =
     issued_before_match send probe ++
@@ -354,7 +362,8 @@ see_clauses p send probe =
     (flat_map (taker_is_matched_before p send probe) (earlier_takers p send probe) ++
     pair_does_not_wait p send probe))))
 
--- Probes see messages: each sees one that waits and doesn't overtake, and none waits where such a message is there.
+-- Probes see messages: each sees one that waits and doesn't overtake, and none waits where such a
+-- message is there.
 abbrev pub probes_see_messages : MpiProgram → List SymbolicClause
 probes_see_messages p = for_each_seeing_pair p (see_clauses p)
 

@@ -17,8 +17,8 @@ holds_if_any a (Some l) = holds a l
 abbrev pub Agrees : MpiProgram → TruthAssignment → (Statement → Bool) → Statement → Type 0
 Agrees p a is_right x = holds_if_any a (literal_of p x) ≡ is_right x
 
--- An assignment that agrees with what is right satisfies the numbered clauses exactly where each clause has a
--- statement that is right.
+-- An assignment that agrees with what is right satisfies the numbered clauses exactly where each
+-- clause has a statement that is right.
 abbrev pub NumberedClausesMeanSymbolic : Type 0
 NumberedClausesMeanSymbolic =
     (p : MpiProgram) (a : TruthAssignment) (is_right : Statement → Bool) (clauses : List SymbolicClause)
@@ -38,8 +38,8 @@ ClausesAreWithin = (p : MpiProgram) → IsProgram p → IsTrue (are_within (form
 abbrev pub ClocksSuffice : Type 0
 ClocksSuffice = (p : MpiProgram) → length (events p) ≤ 2 ^ clock_size p
 
--- Whatever times so many events have, their places in the order of times are clocks: less than there are events, and
--- smaller where the time is.
+-- Whatever times so many events have, their places in the order of times are clocks: less than
+-- there are events, and smaller where the time is.
 abbrev pub RanksAreClocks : Type 0
 RanksAreClocks =
     (most : ℕ) (time : ℕ → ℕ) (e : ℕ) → e < most
@@ -54,8 +54,8 @@ abbrev pub IsTold : MpiProgram → TruthAssignment → (ℕ → ℕ) → ℕ × 
 IsTold p a clock pair =
     (clock pair.0 ≢ clock pair.1) × (a (variable_of p (before pair.0 pair.1)) ≡ nat_lt (clock pair.0) (clock pair.1))
 
--- An assignment that satisfies the clauses on the order gives clocks to the events by their bits. Those of used pairs
--- differ, and the variable of the pair tells which is smaller.
+-- An assignment that satisfies the clauses on the order gives clocks to the events by their bits.
+-- Those of used pairs differ, and the variable of the pair tells which is smaller.
 abbrev pub OrderGivesClocks : Type 0
 OrderGivesClocks =
     (p : MpiProgram) (a : TruthAssignment) → IsTrue (satisfies a (numbered_order p)) → All (IsTold p a (clock_in p a)) (used_pairs p)
@@ -64,17 +64,17 @@ OrderGivesClocks =
 abbrev pub Means : MpiProgram → TruthAssignment → (Meaning → Bool) → Meaning → Type 0
 Means p a is_so m = a (variable_of p m) ≡ is_so m
 
--- Whatever clocks the events have, of the right size and different on used pairs, the clauses on the order are
--- satisfied by an assignment that gives the variables on the order the meaning that they have by these clocks, and it
--- tells the order of each used pair.
+-- Whatever clocks the events have, of the right size and different on used pairs, the clauses on
+-- the order are satisfied by an assignment that gives the variables on the order the meaning that
+-- they have by these clocks, and it tells the order of each used pair.
 abbrev pub ClocksGiveOrder : Type 0
 ClocksGiveOrder =
     (p : MpiProgram) (a : TruthAssignment) (has : Fact → Bool) (clock : ℕ → ℕ) → ((e : ℕ) → e < length (events p) → clock e < 2 ^ clock_size p)
     → All (λ pair. clock pair.0 ≢ clock pair.1) (used_pairs p) → All (Means p a (is_so_by has (clock_size p) clock)) (order_meanings p)
     → IsTrue (satisfies a (numbered_order p)) × All (IsTold p a clock) (used_pairs p)
 
--- Whatever times the events have, each another one: their places in the order of times are such clocks, and the variables
--- tell the order of the times.
+-- Whatever times the events have, each another one: their places in the order of times are such
+-- clocks, and the variables tell the order of the times.
 abbrev pub TimesGiveOrder : Type 0
 TimesGiveOrder =
     (p : MpiProgram) (a : TruthAssignment) (has : Fact → Bool) (time : ℕ → ℕ)
@@ -82,27 +82,30 @@ TimesGiveOrder =
     → All (Means p a (is_so_by has (clock_size p) (rank_in_time (length (events p)) time))) (order_meanings p)
     → IsTrue (satisfies a (numbered_order p)) × All (IsTold p a time) (used_pairs p)
 
--- the assignment agrees with a statement on the order where it makes its literal true exactly where the first event's
--- clock is smaller
+-- the assignment agrees with a statement on the order where it makes its literal true exactly where
+-- the first event's clock is smaller
 abbrev pub AgreesByClock : MpiProgram → TruthAssignment → (ℕ → ℕ) → Statement → Type 0
 AgreesByClock p a clock (is_true x) = ⊤
 AgreesByClock p a clock (is_false x) = ⊤
 AgreesByClock p a clock (is_earlier e f) =
     holds_if_any a (literal_of p (is_earlier e f)) ≡ nat_lt (clock (place_of p e)) (clock (place_of p f))
 
--- Where an assignment tells the order of each used pair, it agrees with each statement on the order in all families.
+-- Where an assignment tells the order of each used pair, it agrees with each statement on the order
+-- in all families.
 abbrev pub UsedPairsSuffice : Type 0
 UsedPairsSuffice =
     (p : MpiProgram) (a : TruthAssignment) (clock : ℕ → ℕ) → IsProgram p
     → All (IsTold p a clock) (used_pairs p) → All (All (All (AgreesByClock p a clock))) (families p)
 
--- the assignment agrees with a statement on a fact where it makes its literal true exactly where the statement is right
+-- the assignment agrees with a statement on a fact where it makes its literal true exactly where
+-- the statement is right
 abbrev pub AgreesByFact : MpiProgram → TruthAssignment → (Fact → Bool) → Statement → Type 0
 AgreesByFact p a has (is_true x) = holds_if_any a (literal_of p (is_true x)) ≡ has x
 AgreesByFact p a has (is_false x) = holds_if_any a (literal_of p (is_false x)) ≡ not (has x)
 AgreesByFact p a has (is_earlier e f) = ⊤
 
--- Where an assignment tells each fact of the formula, it agrees with each statement on a fact in all families.
+-- Where an assignment tells each fact of the formula, it agrees with each statement on a fact in
+-- all families.
 abbrev pub FactsSuffice : Type 0
 FactsSuffice =
     (p : MpiProgram) (a : TruthAssignment) (has : Fact → Bool) → IsProgram p
@@ -122,13 +125,14 @@ EventsAreListed p (is_earlier e f) = (event_at p (place_of p e) ≡ e) × (event
 abbrev pub StatedEventsAreListed : Type 0
 StatedEventsAreListed = (p : MpiProgram) → IsProgram p → All (All (All (EventsAreListed p))) (families p)
 
--- For whatever is so, there is an assignment that makes it true: the values of the meanings in their order.
+-- For whatever is so, there is an assignment that makes it true: the values of the meanings in
+-- their order.
 abbrev pub AssignmentsMeanAll : Type 0
 AssignmentsMeanAll =
     (p : MpiProgram) (is_so : Meaning → Bool) → All (Means p (value_of (map is_so (meanings p))) is_so) (meanings p)
 
--- The variables on the order are numbered by arithmetic. Behind the facts stand the bits of the clocks, by event; behind
--- them each used pair has as many variables as a clock has bits.
+-- The variables on the order are numbered by arithmetic. Behind the facts stand the bits of the
+-- clocks, by event; behind them each used pair has as many variables as a clock has bits.
 abbrev pub NumbersOfOrder : Type 0
 NumbersOfOrder =
     (p : MpiProgram)
@@ -146,8 +150,9 @@ OrderIsInNormalForm = (p : MpiProgram) → numbered_order p ≡ map (map (litera
 abbrev pub assignment_by : MpiProgram → (Fact → Bool) → (ℕ → ℕ) → TruthAssignment
 assignment_by p has time = value_of (map (is_so_by has (clock_size p) (rank_in_time (length (events p)) time)) (meanings p))
 
--- Whatever facts there are, and whatever times the events have, each another one: the assignment that they give satisfies
--- the clauses on the order, tells the order of each used pair, and makes the facts true that are.
+-- Whatever facts there are, and whatever times the events have, each another one: the assignment
+-- that they give satisfies the clauses on the order, tells the order of each used pair, and makes
+-- the facts true that are.
 abbrev pub TimesHaveAssignments : Type 0
 TimesHaveAssignments =
     (p : MpiProgram) (has : Fact → Bool) (time : ℕ → ℕ)

@@ -49,7 +49,8 @@ variable_of p m = position_or_len (is_same_meaning m) (meanings p) + 1
 abbrev pub literal : ℕ → Bool → Literal
 literal variable positive = record { variable = variable; positive = positive }
 
--- the literal that says of two events that the first is earlier; of one event it is false, and so there is none
+-- the literal that says of two events that the first is earlier; of one event it is false, and so
+-- there is none
 abbrev pub earlier_literal : MpiProgram → ℕ → ℕ → Option Literal
 earlier_literal p e f =
     if nat_lt e f then Some (literal (variable_of p (before e f)) true) else
@@ -86,12 +87,14 @@ has_both_signs (a ∷ (b ∷ clause)) = a.variable == b.variable || has_both_sig
 abbrev pub unless_true : List Literal → List (List Literal)
 unless_true clause = if has_both_signs clause then [] else clause ∷ []
 
--- the normal form of a clause: its literals sorted by variable, each once; none where the clause is always true
+-- the normal form of a clause: its literals sorted by variable, each once; none where the clause is
+-- always true
 abbrev pub in_normal_form : List Literal → List (List Literal)
 in_normal_form literals = unless_true (sorted literals)
 
--- The normal form of a clause: its literals sorted by variable, each once, without those that are false by definition.
--- There is none of a clause that holds a variable with both signs, which is always true.
+-- The normal form of a clause: its literals sorted by variable, each once, without those that are
+-- false by definition. There is none of a clause that holds a variable with both signs, which is
+-- always true.
 abbrev pub normal_form : MpiProgram → SymbolicClause → List (List Literal)
 normal_form p clause = in_normal_form (filter_map (literal_of p) clause)
 
@@ -107,8 +110,8 @@ literal_of_signed p x = literal (variable_of p x.meaning) x.positive
 abbrev pub numbered_order : MpiProgram → List (List Literal)
 numbered_order p = flat_map (λ clause. in_normal_form (map (literal_of_signed p) clause)) (order_clauses p)
 
--- The formula of a program: how many variables there are, and the numbered clauses of all families. The clauses on the
--- order of events stand before those of the policy.
+-- The formula of a program: how many variables there are, and the numbered clauses of all families.
+-- The clauses on the order of events stand before those of the policy.
 abbrev pub formula_of : MpiProgram → Conjunction
 formula_of p =
     record {

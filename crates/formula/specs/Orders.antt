@@ -1,5 +1,6 @@
--- The order of events: each event has a clock, a number of a few bits, and an event is earlier than another one where
--- its clock is smaller. Only events of which the clauses state an order are compared.
+-- The order of events: each event has a clock, a number of a few bits, and an event is earlier than
+-- another one where its clock is smaller. Only events of which the clauses state an order are
+-- compared.
 use Rattle.std.specs.Prelude.{ℕ, zero, suc, ◌+◌, ◌-◌, ◌*◌, ◌/◌, ◌^◌, Bool, true, false, ◌&&◌, ◌||◌, ◌==◌, nat_lt, nat_le, if◌then◌else◌, List, [], ◌∷◌, ◌++◌, map, filter, length}
 use Rattle.std.specs.List.{flat_map, range_with_len, position_or_len, list_any}
 use Rattle.std.specs.Int.{bit_at}
@@ -55,7 +56,8 @@ are_of_same_events a b = (a.0 == b.0 && a.1 == b.1) || (a.0 == b.1 && a.1 == b.0
 abbrev pub is_among : List (ℕ × ℕ) → ℕ × ℕ → Bool
 is_among orders pair = list_any (are_of_same_events pair) orders
 
--- The used pairs: two events of which some clause says that one is earlier. The first place is the smaller one.
+-- The used pairs: two events of which some clause says that one is earlier. The first place is the
+-- smaller one.
 abbrev pub used_pairs : MpiProgram → List (ℕ × ℕ)
 used_pairs p = filter (is_among (stated_orders p)) (event_pairs (length (events p)))
 
@@ -69,7 +71,8 @@ place_of_pair p e f = position_or_len (λ pair. e == pair.0 && f == pair.1) (use
 abbrev pub clock_meanings : ℕ → ℕ → List Meaning
 clock_meanings size most = flat_map (λ e. map (clock_bit e) (range_with_len 0 size)) (range_with_len 0 most)
 
--- of a pair of events with clocks of so many bits: which is earlier, and then how many bits are the same, at least one and not all
+-- of a pair of events with clocks of so many bits: which is earlier, and then how many bits are the
+-- same, at least one and not all
 abbrev pub pair_meanings : ℕ → ℕ × ℕ → List Meaning
 pair_meanings size pair = before pair.0 pair.1 ∷ map (same_bits pair.0 pair.1) (range_with_len 1 (size - 1))
 
@@ -105,7 +108,8 @@ bits_agree size e f i =
     []
     else []
 
--- where the bits are the same before this place and not up to it, the bit here is the later event's and not the earlier one's
+-- where the bits are the same before this place and not up to it, the bit here is the later event's
+-- and not the earlier one's
 abbrev pub bit_decides : ℕ → ℕ → ℕ → ℕ → List (List SignedMeaning)
 bit_decides size e f i =
     let elsewhere = differ_before e f i ++ same_up_to size e f i in
@@ -120,18 +124,20 @@ abbrev pub pair_clauses : ℕ → ℕ × ℕ → List (List SignedMeaning)
 pair_clauses size pair =
     flat_map (λ i. bits_agree size pair.0 pair.1 i ++ bit_decides size pair.0 pair.1 i) (range_with_len 0 size)
 
--- The order of events: the clocks of each used pair differ, and tell which of its events is earlier.
+-- The order of events: the clocks of each used pair differ, and tell which of its events is
+-- earlier.
 abbrev pub order_clauses : MpiProgram → List (List SignedMeaning)
 order_clauses p = flat_map (pair_clauses (clock_size p)) (used_pairs p)
 
 -- ---- what clocks make of the variables
 
--- where each of so many events has a time, the place of an event in the order of times: how many have an earlier one
+-- where each of so many events has a time, the place of an event in the order of times: how many
+-- have an earlier one
 abbrev pub rank_in_time : ℕ → (ℕ → ℕ) → ℕ → ℕ
 rank_in_time most time e = length (filter (λ f. nat_lt (time f) (time e)) (range_with_len 0 most))
 
--- What is true where these facts are, and the events have these clocks of so many bits. The first bits of two clocks are
--- the same where the clocks are, but for the last bits.
+-- What is true where these facts are, and the events have these clocks of so many bits. The first
+-- bits of two clocks are the same where the clocks are, but for the last bits.
 abbrev pub is_so_by : (Fact → Bool) → ℕ → (ℕ → ℕ) → Meaning → Bool
 is_so_by has size clock (fact a) = has a
 is_so_by has size clock (clock_bit e i) = bit_of size (clock e) i

@@ -39,13 +39,15 @@ pub fn formula_of_buffered_send_to_itself()
     ensures clauses { signed_clauses (formula_of (send_to_itself Always)).clauses ≡ clauses_of_send_to_itself ++ (plus 3 ∷ []) ∷ [] }
 {}
 
-/// The formula of a send and a receive that don't fit: five clauses over eleven variables, and no order of events.
+/// The formula of a send and a receive that don't fit: five clauses over eleven variables, and no
+/// order of events.
 pub fn formula_of_other_communicator()
     ensures variables { (formula_of other_communicator).variables ≡ 11 }
     ensures clauses { signed_clauses (formula_of other_communicator).clauses ≡ clauses_of_other_communicator }
 {}
 
-/// How many variables the formula of two ranks that send to each other first has, and how many clauses by family.
+/// How many variables the formula of two ranks that send to each other first has, and how many
+/// clauses by family.
 pub fn size_of_head_to_head()
     ensures variables { (formula_of (head_to_head Any)).variables ≡ 52 }
     ensures families { sizes (head_to_head Any) ≡ sizes_of_head_to_head }
@@ -73,12 +75,14 @@ pub fn size_of_any_tag_first()
     ensures clauses { length (formula_of any_tag_first).clauses ≡ 183 }
 {}
 
-/// A rank that waits in its send to itself satisfies the formula, where the policy leaves buffering open.
+/// A rank that waits in its send to itself satisfies the formula, where the policy leaves buffering
+/// open.
 pub fn waiting_in_send_satisfies()
     ensures { satisfies (value_of waiting_in_send) (formula_of (send_to_itself Any)).clauses ≡ true }
 {}
 
-/// The clauses of a program with a matched probe, wildcards and waits, but for the order of events and the policy.
+/// The clauses of a program with a matched probe, wildcards and waits, but for the order of events
+/// and the policy.
 pub fn formula_of_probe_and_wildcards()
     ensures variables { (formula_of probe_and_wildcards).variables ≡ 136 }
     ensures clauses { signed_clauses (flat_map (numbered probe_and_wildcards) (take 9 (families probe_and_wildcards))) ≡ clauses_of_probe_and_wildcards }

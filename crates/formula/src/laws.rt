@@ -2,7 +2,8 @@
 
 ghost use Rattle.formula.specs.Laws.{NumberedClausesMeanSymbolic, ClausesRise, ClausesAreWithin, ClocksSuffice, RanksAreClocks, OrderGivesClocks, ClocksGiveOrder, TimesGiveOrder, UsedPairsSuffice, FactsSuffice, EventsStandOnce, StatedEventsAreListed, AssignmentsMeanAll, NumbersOfOrder, OrderIsInNormalForm, TimesHaveAssignments};
 
-/// An assignment satisfies the numbered clauses exactly where the clauses are right that they were made from.
+/// An assignment satisfies the numbered clauses exactly where the clauses are right that they were
+/// made from.
 pub fn numbered_clauses_mean_symbolic()
     ensures { NumberedClausesMeanSymbolic }
 {}
@@ -27,20 +28,20 @@ pub fn ranks_are_clocks()
     ensures { RanksAreClocks }
 {}
 
-/// An assignment that satisfies the clauses on the order gives the events clocks that differ on used
-/// pairs, and tells which is smaller.
+/// An assignment that satisfies the clauses on the order gives the events clocks that differ on
+/// used pairs, and tells which is smaller.
 pub fn order_gives_clocks()
     ensures { OrderGivesClocks }
 {}
 
-/// Whatever clocks the events have, different on used pairs, what they make of the variables satisfies
-/// the clauses on the order.
+/// Whatever clocks the events have, different on used pairs, what they make of the variables
+/// satisfies the clauses on the order.
 pub fn clocks_give_order()
     ensures { ClocksGiveOrder }
 {}
 
-/// Whatever times the events have, each another one, what their order makes of the variables satisfies
-/// the clauses on the order.
+/// Whatever times the events have, each another one, what their order makes of the variables
+/// satisfies the clauses on the order.
 pub fn times_give_order()
     ensures { TimesGiveOrder }
 {}
@@ -55,7 +56,8 @@ pub fn stated_events_are_listed()
     ensures { StatedEventsAreListed }
 {}
 
-/// Where an assignment tells the order of each used pair, it agrees with each statement on the order.
+/// Where an assignment tells the order of each used pair, it agrees with each statement on the
+/// order.
 pub fn used_pairs_suffice()
     ensures { UsedPairsSuffice }
 {}

@@ -15,14 +15,17 @@ use formula::{Event, Fact, Statement};
 use formula_tables::{ProgramTables, is_last, is_standard, previous, rank_of, when_returned};
 use std::alloc::{AllocError, Global};
 
-/// A family of clauses. Some have a block of clauses for each call, some for each pair, and one has one block in all.
+/// A family of clauses. Some have a block of clauses for each call, some for each pair, and one has
+/// one block in all.
 #[derive(Clone, Copy, PartialEq, Eq)]
 pub enum Family {
     /// By call: where it is issued, the call directly before it in its rank is issued, and earlier.
     IssueOrder,
-    /// By call: where it is issued, the call directly before it in its rank has returned, and before.
+    /// By call: where it is issued, the call directly before it in its rank has returned, and
+    /// before.
     ReturnOrder,
-    /// By pair of a send and a taker, as the next four: where it is matched, both calls are issued, and before.
+    /// By pair of a send and a taker, as the next four: where it is matched, both calls are issued,
+    /// and before.
     MatchOrder,
     /// By pair: it isn't matched together with a later pair of the same send or taker.
     MatchedOnce,
@@ -32,7 +35,8 @@ pub enum Family {
     TakerOrder,
     /// By pair: where both calls are issued, one of them is matched.
     NoPairWaits,
-    /// By call: it is issued where the call directly before it in its rank has returned, or where there is none.
+    /// By call: it is issued where the call directly before it in its rank has returned, or where
+    /// there is none.
     NoIssueWaits,
     /// By call: where it is the last one of its rank and has returned, the rank isn't unfinished.
     Finished,
@@ -105,7 +109,8 @@ fn issue_does_not_wait(
     Ok(())
 }
 
-/// A rank whose last call has returned isn't unfinished. There is no clause for a call that isn't the last one of its rank.
+/// A rank whose last call has returned isn't unfinished. There is no clause for a call that isn't
+/// the last one of its rank.
 fn is_finished(
     clauses: &mut Symbolic<Statement>,
     source: &ProgramTables<'_>,
@@ -166,7 +171,8 @@ fn buffered_as_allowed(
     Ok(())
 }
 
-/// Adds the clauses of a family of pairs of a send and a taker, for the pair at a place, whatever it is.
+/// Adds the clauses of a family of pairs of a send and a taker, for the pair at a place, whatever
+/// it is.
 fn add_taken(
     clauses: &mut Symbolic<Statement>,
     alloc: Global,
@@ -187,7 +193,8 @@ fn add_taken(
     Ok(())
 }
 
-/// Adds the clauses of a family of pairs of a send and a taker, for the pair at a place, if it is one.
+/// Adds the clauses of a family of pairs of a send and a taker, for the pair at a place, if it is
+/// one.
 fn add_where_taken(
     clauses: &mut Symbolic<Statement>,
     alloc: Global,
@@ -250,7 +257,8 @@ fn add_block(
     Ok(())
 }
 
-/// Puts the clauses of the block in place of those that stand there. The only error is want of memory.
+/// Puts the clauses of the block in place of those that stand there. The only error is want of
+/// memory.
 pub fn put_block(
     clauses: &mut Symbolic<Statement>,
     alloc: Global,

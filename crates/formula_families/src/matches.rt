@@ -15,8 +15,8 @@ use formula::{Event, Fact, Statement};
 use formula_tables::ProgramTables;
 use std::alloc::{AllocError, Global};
 
-/// Adds the clauses that say: where the pair is matched, or seen, both calls are issued, and before. The only error is want of
-/// memory.
+/// Adds the clauses that say: where the pair is matched, or seen, both calls are issued, and
+/// before. The only error is want of memory.
 pub fn issued_before_match(
     clauses: &mut Symbolic<Statement>,
     send: usize,
@@ -93,8 +93,8 @@ fn seen_before_taken(
     Ok(())
 }
 
-/// Adds the clauses that say what a see of the pair at this place asks for, and where one isn't waited for. The only error is
-/// want of memory.
+/// Adds the clauses that say what a see of the pair at this place asks for, and where one isn't
+/// waited for. The only error is want of memory.
 pub fn see_clauses(
     clauses: &mut Symbolic<Statement>,
     alloc: Global,
@@ -113,8 +113,8 @@ pub fn see_clauses(
     Ok(())
 }
 
-/// Adds the clauses that say: the pair isn't matched together with a later pair of the same send or taker. The only error
-/// is want of memory.
+/// Adds the clauses that say: the pair isn't matched together with a later pair of the same send or
+/// taker. The only error is want of memory.
 pub fn without_later_pairs(
     clauses: &mut Symbolic<Statement>,
     source: &ProgramTables<'_>,
@@ -176,8 +176,8 @@ fn send_is_matched_before(
     Ok(())
 }
 
-/// Adds the clauses that say: where the pair at this place is matched, each earlier send that fits its taker is matched with
-/// another taker, and earlier. The only error is want of memory.
+/// Adds the clauses that say: where the pair at this place is matched, each earlier send that fits
+/// its taker is matched with another taker, and earlier. The only error is want of memory.
 pub fn sends_are_matched_before(
     clauses: &mut Symbolic<Statement>,
     alloc: Global,
@@ -213,8 +213,8 @@ fn taker_is_matched_before(
     Ok(())
 }
 
-/// Adds the clauses that say: where the pair at this place is matched, each earlier taker that its send fits is matched with
-/// another send, and earlier. The only error is want of memory.
+/// Adds the clauses that say: where the pair at this place is matched, each earlier taker that its
+/// send fits is matched with another send, and earlier. The only error is want of memory.
 pub fn takers_are_matched_before(
     clauses: &mut Symbolic<Statement>,
     alloc: Global,
@@ -230,8 +230,8 @@ pub fn takers_are_matched_before(
     Ok(())
 }
 
-/// Adds the clause that says: where both calls are issued, the send or the taker is matched, or the probe has seen. The only error is want of
-/// memory.
+/// Adds the clause that says: where both calls are issued, the send or the taker is matched, or the
+/// probe has seen. The only error is want of memory.
 pub fn pair_does_not_wait(
     clauses: &mut Symbolic<Statement>,
     alloc: Global,

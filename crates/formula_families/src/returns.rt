@@ -39,7 +39,8 @@ fn where_fetched(
     Ok(())
 }
 
-/// Where the call is issued and the taker is matched, or the probe has seen a message, the statement is right.
+/// Where the call is issued and the taker is matched, or the probe has seen a message, the
+/// statement is right.
 fn where_matched(
     clauses: &mut Symbolic<Statement>,
     call: usize,
@@ -57,8 +58,8 @@ fn where_matched(
     Ok(())
 }
 
-/// Adds the clauses that say: where the call is issued and has returned, the statement is right. The only error is want of
-/// memory.
+/// Adds the clauses that say: where the call is issued and has returned, the statement is right.
+/// The only error is want of memory.
 pub fn where_returned(
     clauses: &mut Symbolic<Statement>,
     source: &ProgramTables<'_>,
@@ -86,8 +87,8 @@ pub fn where_returned(
     Ok(())
 }
 
-/// Where the call is issued and the send is matched with the taker, what fetches the message is earlier, or the rest of the
-/// clause is right.
+/// Where the call is issued and the send is matched with the taker, what fetches the message is
+/// earlier, or the rest of the clause is right.
 fn fetched_earlier(
     clauses: &mut Symbolic<Statement>,
     alloc: Global,
@@ -155,7 +156,8 @@ fn is_matched_before(
     Ok(())
 }
 
-/// Adds the clauses that say: where the call is issued, the condition holds before. The only error is want of memory.
+/// Adds the clauses that say: where the call is issued, the condition holds before. The only error
+/// is want of memory.
 pub fn is_returned_before(
     clauses: &mut Symbolic<Statement>,
     alloc: Global,

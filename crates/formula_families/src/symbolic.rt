@@ -6,8 +6,8 @@ ghost use Rattle.formula_families.specs.Parts.{parts, start_of, AreEnds};
 use std::alloc::{AllocError, Global};
 use std::marker::Model;
 
-/// Clauses, each a list of items of which one is right. They stand one behind the other in one list, so that a clause takes no
-/// block of memory of its own.
+/// Clauses, each a list of items of which one is right. They stand one behind the other in one
+/// list, so that a clause takes no block of memory of its own.
 #[derive(Drop)]
 pub struct Symbolic<Item> {
     entries: Vec<Item>,

@@ -57,7 +57,8 @@ fn mark_clauses(marks: &mut [bool], events: &Events<'_>, clauses: &Symbolic<Stat
     }
 }
 
-/// Marks the events of which the clauses of the block say that one is earlier. The clauses are made in `clauses`.
+/// Marks the events of which the clauses of the block say that one is earlier. The clauses are made
+/// in `clauses`.
 fn mark_block(
     marks: &mut [bool],
     clauses: &mut Symbolic<Statement>,
@@ -174,8 +175,9 @@ fn marked_by(
     Ok(used)
 }
 
-/// The used pairs of events: those of which some clause says that one is earlier, by their places, the smaller one first.
-/// They are sorted by the first place, then by the second. The only error is want of memory.
+/// The used pairs of events: those of which some clause says that one is earlier, by their places,
+/// the smaller one first. They are sorted by the first place, then by the second. The only error is
+/// want of memory.
 pub fn used_pairs(
     alloc: Global,
     source: &ProgramTables<'_>,

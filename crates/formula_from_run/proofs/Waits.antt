@@ -1,4 +1,5 @@
--- No issue waits: what follows where a call has returned, and that the next call of a rank is issued then.
+-- No issue waits: what follows where a call has returned, and that the next call of a rank is
+-- issued then.
 use Rattle.std.proofs.Common.{◌≡◌, ℕ, ◌⊎◌, inl, inr, Bool, true, false, not, ◌||◌, List, [], ◌∷◌, Option, Some, None, is_some, refl, sym, ap, ◌∙◌, subst}
 use Rattle.std.specs.List.{list_any}
 use Rattle.std.proofs.lemmas.Bool.{eq-eqb}

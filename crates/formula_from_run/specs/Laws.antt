@@ -61,7 +61,8 @@ ClocksDiffer =
 abbrev pub SendsAreBufferedAsAllowed : Type 0
 SendsAreBufferedAsAllowed = HoldsInRuns families.sends_are_buffered_as_allowed
 
--- the values of the formula's variables that a run gives: its facts at the end, and the order of its events
+-- the values of the formula's variables that a run gives: its facts at the end, and the order of
+-- its events
 abbrev pub assignment_of : MpiProgram → List Step → TruthAssignment
 assignment_of p steps = assignment_by p (world_of p steps).has (λ place. (world_of p steps).clock (families.event_at p place))
 

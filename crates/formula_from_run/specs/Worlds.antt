@@ -1,4 +1,5 @@
--- Worlds: which facts hold, and when events happen. What is right in a world, and the world of a run.
+-- Worlds: which facts hold, and when events happen. What is right in a world, and the world of a
+-- run.
 use Rattle.std.specs.Prelude.{ℕ, suc, Bool, true, false, not, cond, ◌&&◌, ◌||◌, ◌==◌, nat_lt, IsTrue, List, [], ◌∷◌, Option, Some, None, slice_get}
 use Rattle.std.specs.List.{list_any, list_all}
 use Rattle.calltext.specs.declared.call.Policy.{Policy}
@@ -52,8 +53,8 @@ is_event m (Match send other) (match_of taker) = other == taker
 is_event m (See send other) (issue_of c) = false
 is_event m (See send other) (match_of probe) = other == probe
 
--- How many of the steps, taken from this configuration on, come before the event. One that never happens comes after
--- all steps, by its place in the list of events.
+-- How many of the steps, taken from this configuration on, come before the event. One that never
+-- happens comes after all steps, by its place in the list of events.
 abbrev pub clock_from : MpiProgram → Configuration → List Step → Event → ℕ
 clock_from p m [] e = place_of p e
 clock_from p m (step ∷ steps) e = cond (is_event m step e) 0 (suc (clock_from p (after m step) steps e))
@@ -64,7 +65,8 @@ always_buffers Any = false
 always_buffers Never = false
 always_buffers Always = true
 
--- Which facts hold in a configuration. Where every standard send is buffered, those that aren't issued count as buffered too.
+-- Which facts hold in a configuration. Where every standard send is buffered, those that aren't
+-- issued count as buffered too.
 abbrev pub has_fact : MpiProgram → Configuration → Fact → Bool
 has_fact p m (issued c) = is_issued p m c
 has_fact p m (buffered send) = is_buffered m send || always_buffers p.policy && is_standard p send

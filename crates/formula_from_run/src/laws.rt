@@ -1,6 +1,6 @@
 //! The clauses of a program hold in the worlds of its stuck runs, family by family, and its formula
-//! is satisfied by what each stuck run gives. Most families hold in the worlds of more runs: of all,
-//! or of all that nothing can follow.
+//! is satisfied by what each stuck run gives. Most families hold in the worlds of more runs: of
+//! all, or of all that nothing can follow.
 
 ghost use Rattle.formula_from_run.specs.Laws.{ProbesSeeMessages, CallsAreIssuedInOrder, CallsAreIssuedAfterReturns, MatchesComeAfterIssues, CallsAreMatchedOnce, SendsDoNotOvertake, TakersDoNotOvertake, NoPairWaits, NoIssueWaits, SomeRankIsUnfinished, ClocksDiffer, SendsAreBufferedAsAllowed, StuckRunsSatisfyFormula, UnsatisfiableHaveNoStuckRun};
 

@@ -13,8 +13,8 @@ use Rattle.formula.specs.Numbering.{facts, meanings}
 abbrev pub meanings_by : List Fact → ℕ → ℕ → List (ℕ × ℕ) → List Meaning
 meanings_by facts most size used = map fact facts ++ (clock_meanings size most ++ flat_map (pair_meanings size) used)
 
--- what the meanings of a formula's variables are made of: its facts, how many events there are, how many bits a clock has, and
--- the pairs of events that are compared
+-- what the meanings of a formula's variables are made of: its facts, how many events there are, how
+-- many bits a clock has, and the pairs of events that are compared
 pub record MeaningParts : Type 0 where
   pub facts : List Fact
   pub events : ℕ
@@ -34,7 +34,8 @@ abbrev pub of_pair : ℕ × ℕ → ℕ → Meaning
 of_pair pair zero = before pair.0 pair.1
 of_pair pair (suc bits) = same_bits pair.0 pair.1 (suc bits)
 
--- what a variable of a program's formula stands for, if there is one of this number; they are numbered from 1
+-- what a variable of a program's formula stands for, if there is one of this number; they are
+-- numbered from 1
 abbrev pub meaning_of : MpiProgram → ℕ → Option Meaning
 meaning_of p zero = None
 meaning_of p (suc place) = slice_get (meanings p) place

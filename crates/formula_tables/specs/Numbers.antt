@@ -14,7 +14,8 @@ pub record IsSmall (p : MpiProgram) : Type 0 where
   pub facts : length (facts p) ≤ 1051712
   pub used : length (used_pairs p) ≤ 1048576
 
--- the events are those of the program; facts and used pairs are told apart by their numbers; and clocks have so many bits
+-- the events are those of the program; facts and used pairs are told apart by their numbers; and
+-- clocks have so many bits
 pub record AreNumbers (p q : MpiProgram) (fact_slots used_slots : List ℕ) (size : ℕ) : Type 0 where
   pub small : IsSmall p
   pub events_are : q ≡ p

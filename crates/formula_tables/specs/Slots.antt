@@ -22,8 +22,8 @@ event_slots p = range_with_len 0 (length p.calls) ++ map (λ t. length p.calls +
 abbrev pub pair_slot : ℕ → ℕ → ℕ → ℕ
 pair_slot most a b = if nat_lt a most && nat_lt b most then a * most + b else most * most
 
--- The number of a fact of a program with so many calls: the issues, the buffered sends, 64 ranks, the pairs, and past all of
--- them where it isn't one of them.
+-- The number of a fact of a program with so many calls: the issues, the buffered sends, 64 ranks,
+-- the pairs, and past all of them where it isn't one of them.
 abbrev pub fact_slot : ℕ → Fact → ℕ
 fact_slot calls (issued c) = if nat_lt c calls then c else calls + calls + 64 + calls * calls
 fact_slot calls (buffered c) = if nat_lt c calls then calls + c else calls + calls + 64 + calls * calls

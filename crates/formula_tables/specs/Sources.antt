@@ -5,8 +5,8 @@ use Rattle.candidates.specs.Pairs.{places, takers_of, pairs_of}
 use Rattle.nonovertake.specs.Earlier.{EarlierCalls, earlier_of}
 use Rattle.formula.specs.Families.{sends_of}
 
--- The pairs are those of the program, with what is earlier than each; and for each call the rows have the takers that it
--- fits, and the sends that fit it.
+-- The pairs are those of the program, with what is earlier than each; and for each call the rows
+-- have the takers that it fits, and the sends that fit it.
 pub record AreCalls (p : MpiProgram) (pairs : List (ℕ × ℕ)) (earlier : List EarlierCalls) (takers sends : List (List ℕ)) : Type 0 where
   pub pairs_are : pairs ≡ pairs_of p
   pub earlier_are : earlier ≡ map (earlier_of p) (pairs_of p)

@@ -13,7 +13,8 @@ use formula::Event;
 use std::alloc::{AllocError, Global};
 use std::marker::Model;
 
-/// The events of a program: the issue of each call, and then the match of each taker and the see of each probe. An event is found in constant time.
+/// The events of a program: the issue of each call, and then the match of each taker and the see of
+/// each probe. An event is found in constant time.
 #[derive(Drop)]
 pub struct Events<'a> {
     program: &'a Program,
@@ -137,7 +138,8 @@ impl<'a> Events<'a> {
         self.places.len()
     }
 
-    /// The place of the event, from 0, or the number of all events where it is none of the program's.
+    /// The place of the event, from 0, or the number of all events where it is none of the
+    /// program's.
     pub fn place_of(&self, event: &Event) -> usize
         ensures { result ≡ place_of self.now event.now }
     {

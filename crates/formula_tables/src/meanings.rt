@@ -8,8 +8,8 @@ ghost use Rattle.formula_tables.specs.Meanings.{meanings_in, of_pair};
 use formula::{Fact, Meaning};
 use std::marker::Model;
 
-/// What the variables stand for, in the order of their numbers: the facts, the bits of the clocks of so many events, and what
-/// is said of the used pairs of events.
+/// What the variables stand for, in the order of their numbers: the facts, the bits of the clocks
+/// of so many events, and what is said of the used pairs of events.
 #[derive(Drop)]
 pub struct Meanings {
     facts: Vec<Fact>,
@@ -56,7 +56,8 @@ fn of_order(events: usize, size: usize, used: &[(usize, usize)], place: usize) -
 }
 
 impl Meanings {
-    /// The meanings of these facts, of the clocks of so many events with so many bits, and of these pairs of events.
+    /// The meanings of these facts, of the clocks of so many events with so many bits, and of these
+    /// pairs of events.
     pub fn make(facts: Vec<Fact>, events: usize, size: usize, used: Vec<(usize, usize)>) -> Meanings
         requires { 0 < length used.items → 0 < size }
         ensures { result ≡ record { facts = facts.items; events = events; size = size; used = used.items } }

@@ -55,7 +55,8 @@ impl Places {
         self.numbers.len()
     }
 
-    /// The first place of the number, from 0, or the number of all places where it doesn't stand in the list.
+    /// The first place of the number, from 0, or the number of all places where it doesn't stand in
+    /// the list.
     pub fn first(&self, number: usize) -> usize
         ensures { result ≡ first_place number self.now }
     {

@@ -148,14 +148,16 @@ impl<'a> ProgramTables<'a> {
         row(&self.sends, taker)
     }
 
-    /// The earlier sends of the send's rank that fit the taker or probe of the pair at a place, rising.
+    /// The earlier sends of the send's rank that fit the taker or probe of the pair at a place,
+    /// rising.
     pub fn earlier_sends(&self, place: usize) -> &[usize]
         ensures { let pair = pair_at (pairs_of self.now) place in result.now ≡ earlier_sends self.now pair.0 pair.1 }
     {
         self.earlier.sends(place)
     }
 
-    /// The earlier takers of the taker's or probe's rank that the send of the pair at a place fits, rising.
+    /// The earlier takers of the taker's or probe's rank that the send of the pair at a place fits,
+    /// rising.
     pub fn earlier_takers(&self, place: usize) -> &[usize]
         ensures { let pair = pair_at (pairs_of self.now) place in result.now ≡ earlier_takers self.now pair.0 pair.1 }
     {

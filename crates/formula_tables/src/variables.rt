@@ -90,8 +90,8 @@ fn pair_slots(
 }
 
 impl<'a> Variables<'a> {
-    /// The variables of the program with these events, facts, used pairs and sizes of clocks. The only error is want of
-    /// memory.
+    /// The variables of the program with these events, facts, used pairs and sizes of clocks. The
+    /// only error is want of memory.
     pub fn make(
         alloc: Global,
         events: Events<'a>,
@@ -136,7 +136,8 @@ impl<'a> Variables<'a> {
         self.events.len()
     }
 
-    /// The place of the event among those of the program, from 0, or the number of all events where it is none.
+    /// The place of the event among those of the program, from 0, or the number of all events where
+    /// it is none.
     pub fn event_place(&self, event: &Event) -> usize
         ensures { result ≡ place_of self.now event.now }
     {
@@ -166,7 +167,8 @@ impl<'a> Variables<'a> {
             .first(fact_slot(self.program.calls().len(), fact))
     }
 
-    /// The place of a pair of events among the used ones, or the number of all used pairs where it is none.
+    /// The place of a pair of events among the used ones, or the number of all used pairs where it
+    /// is none.
     fn pair_place(&self, first: usize, second: usize) -> usize
         ensures { result ≡ place_of_pair self.now first second }
     {

@@ -9,8 +9,8 @@ use Rattle.leastrun.specs.LeastBuffered.{IsLeastBufferedRun, IsMostBufferedRun}
 use Rattle.frequency.specs.declared.judging.Frequency.{Frequency}
 use Rattle.frequency.specs.declared.judging.Frequency.TheVariants.{Always, Sometimes, Unknown}
 
--- No run finishes, and each run that nothing can follow is stuck. Each run can be gone on with until
--- nothing can follow, so each gets stuck however it goes on.
+-- No run finishes, and each run that nothing can follow is stuck. Each run can be gone on with
+-- until nothing can follow, so each gets stuck however it goes on.
 pub record EachRunSticks (p : MpiProgram) : Type 0 where
   pub never_finishes : (steps : List Step) → IsFinishedRun p steps → ⊥
   pub always_sticks : (steps : List Step) → IsEndedRun p steps → IsStuckRun p steps
@@ -22,8 +22,8 @@ pub record LeastSticks (p : MpiProgram) : Type 0 where
   pub least : IsLeastBufferedRun p run
   pub stuck : IsStuckRun p run
 
--- A run that buffers all it may gets stuck, and so does one that buffers as little as it may; and not
--- each receive, matched probe and probe names its source.
+-- A run that buffers all it may gets stuck, and so does one that buffers as little as it may; and
+-- not each receive, matched probe and probe names its source.
 pub record IsOpen (p : MpiProgram) : Type 0 where
   pub run : List Step
   pub most : IsMostBufferedRun p run

@@ -19,8 +19,8 @@ pub enum Frequency {
     Always,
     /// Some run finishes: these steps are one.
     Sometimes(Vec<Step>),
-    /// Neither is known: the runs that buffer all they may, and as little as they may, get stuck, and
-    /// messages may race in the former.
+    /// Neither is known: the runs that buffer all they may, and as little as they may, get stuck,
+    /// and messages may race in the former.
     Unknown,
 }
 
@@ -38,8 +38,8 @@ fn finished_least_run(alloc: Global, program: &LongProgram) -> Result<Option<Vec
     }
 }
 
-/// What a run that buffers all it may, and the state at its end, tell of all runs. The only error is
-/// want of memory.
+/// What a run that buffers all it may, and the state at its end, tell of all runs. The only error
+/// is want of memory.
 fn judge_run(
     alloc: Global,
     program: &LongProgram,
@@ -68,9 +68,9 @@ fn judge_run(
     }
 }
 
-/// How often the runs of a program get stuck, by one run, the one that buffers as much as the policy
-/// allows. `Unknown` is told only where some receive, matched probe or probe takes any source. The
-/// only error is want of memory.
+/// How often the runs of a program get stuck, by one run, the one that buffers as much as the
+/// policy allows. `Unknown` is told only where some receive, matched probe or probe takes any
+/// source. The only error is want of memory.
 ///
 /// The run takes time near linear in the calls. Where it gets stuck and calls take any source, what
 /// is known of these of each rank is counted for each call, so that the time is that of the calls

@@ -1,5 +1,5 @@
--- A page in HTML that stands alone: what is told of a run in words, its timeline, that of a run that ends well, where there is one to be
--- shown, and lines of the program's text.
+-- A page in HTML that stands alone: what is told of a run in words, its timeline, that of a run
+-- that ends well, where there is one to be shown, and lines of the program's text.
 use Rattle.std.specs.Prelude.{◌≡◌, codes, ℕ, ◌+◌, ◌-◌, ◌==◌, if◌then◌else◌, Bool, true, false, List, [], ◌∷◌, ◌++◌, length, Option, Some, None, slice_get, slice_index, unwrap_or}
 use Rattle.std.specs.List.{flat_map, list_any, slice_split}
 use Rattle.plaintext.specs.Plain.{numeral}
@@ -65,20 +65,23 @@ listed_at marks lines place = listed_line (is_in marks (place + 1)) (place + 1) 
 abbrev pub listed : List ℕ → List (List ℕ) → List ℕ
 listed marks lines = columns (listed_at marks lines) (length lines)
 
--- all lines of the program's text, those marked that ranks wait in; of a large program those alone, rank by rank
+-- all lines of the program's text, those marked that ranks wait in; of a large program those alone,
+-- rank by rank
 abbrev pub listing : List ℕ → MpiProgram → Configuration → List Label → List ℕ
 listing text p m calls =
     if is_large p then columns (waited_entry p m calls) p.ranks else listed (waited_lines p m calls) (slice_split (λ b. b == 10) text)
 
 -- ---- the timelines
 
--- of a run that ends well its timeline, with what stands above it; nothing where its steps are not given
+-- of a run that ends well its timeline, with what stands above it; nothing where its steps are not
+-- given
 abbrev pub IsWellPart : List ℕ → ProgramText → MpiProgram → Option (List Step) → List ℕ → Type 0
 IsWellPart text source p None part = part ≡ []
 IsWellPart text source p (Some steps) part =
     (drawn : List ℕ) × IsPicture text source p steps drawn × (part ≡ codes "</div>\n<h2>A run that ends well</h2>\n<div class=\"timeline\">\n" ++ drawn)
 
--- the timeline of the run of these steps, and below it that of a run that ends well, where its steps are given
+-- the timeline of the run of these steps, and below it that of a run that ends well, where its
+-- steps are given
 pub record AreTimelines (text : List ℕ) (source : ProgramText) (p : MpiProgram) (steps : List Step) (well : Option (List Step)) (drawn : List ℕ) : Type 0 where
   pub first : List ℕ
   pub is_first : IsPicture text source p steps first
@@ -94,8 +97,8 @@ page_with words drawn lines =
     codes "<!DOCTYPE html>\n<html lang=\"en\">\n<head>\n<meta charset=\"utf-8\">\n<meta name=\"viewport\" content=\"width=device-width\">\n<title>mpiprove: deadlock</title>\n<style>\nbody { margin: 1.5em; font-family: \"DejaVu Sans\", Helvetica, sans-serif; }\npre { font-size: 13px; overflow-x: auto; }\n.timeline { overflow: auto; max-height: 90vh; border: 1px solid #ddd; }\nmark { background: #fbdada; }\n</style>\n</head>\n<body>\n<h1>Deadlock</h1>\n<pre>"
     ++ (flat_map escape words ++ (codes "</pre>\n<h2>Timeline</h2>\n<div class=\"timeline\">\n" ++ (drawn ++ (codes "</div>\n<h2>Program</h2>\n<pre>" ++ (lines ++ codes "</pre>\n</body>\n</html>\n")))))
 
--- The page has these words, these timelines, and lines of the program's text, those marked that ranks wait in at the end of the run of
--- `steps`.
+-- The page has these words, these timelines, and lines of the program's text, those marked that
+-- ranks wait in at the end of the run of `steps`.
 pub record IsPage (text : List ℕ) (source : ProgramText) (p : MpiProgram) (steps : List Step) (well : Option (List Step)) (words page : List ℕ) : Type 0 where
   pub drawn : List ℕ
   pub are_timelines : AreTimelines text source p steps well drawn

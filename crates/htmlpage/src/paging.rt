@@ -42,7 +42,8 @@ fn put_well_part(
     Ok(())
 }
 
-/// The timeline of a run that ends stuck, and below it that of a run that ends well, where its steps are given.
+/// The timeline of a run that ends stuck, and below it that of a run that ends well, where its
+/// steps are given.
 fn timelines(
     alloc: Global,
     text: &[u8],
@@ -100,12 +101,12 @@ fn page_of(
     Ok(out)
 }
 
-/// A page in HTML that stands alone, on a run of a program that ends stuck: what `words` tell of it,
-/// the timeline that [`picture`](charts::picture) draws, and the lines of the program's text, those
-/// marked that ranks wait in. Of a program of more than 64 ranks or 1,024 calls it lists those alone.
-/// Where `well`, the steps of a run in which all ranks finish, are given, its timeline stands below
-/// the first one, so that both can be compared. `text` is the program's text, `source` what it says,
-/// and `program` its calls. The only error is want of memory.
+/// A page in HTML that stands alone, on a run of a program that ends stuck: what `words` tell of
+/// it, the timeline that [`picture`](charts::picture) draws, and the lines of the program's text,
+/// those marked that ranks wait in. Of a program of more than 64 ranks or 1,024 calls it lists
+/// those alone. Where `well`, the steps of a run in which all ranks finish, are given, its timeline
+/// stands below the first one, so that both can be compared. `text` is the program's text, `source`
+/// what it says, and `program` its calls. The only error is want of memory.
 pub fn page(
     alloc: Global,
     text: &[u8],

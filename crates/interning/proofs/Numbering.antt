@@ -1,4 +1,5 @@
--- Names that get numbers one after another: each stands among the keys at its number, and no two keys are equal.
+-- Names that get numbers one after another: each stands among the keys at its number, and no two
+-- keys are equal.
 use Rattle.std.proofs.Common.{◌≡◌, ◌⊎◌, ℕ, zero, suc, ◌+◌, ◌<◌, ◌≤◌, Bool, true, false, cond, ◌||◌, List, [], ◌∷◌, ◌++◌, Option, None, Some, length, get_or, slice_get, refl, sym, ap, subst, ◌∙◌, arith, inl, inr}
 use Rattle.std.specs.Cmp.{IsEquivalence}
 use Rattle.std.specs.List.{IsDistinct, list_any}

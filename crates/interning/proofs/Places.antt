@@ -1,4 +1,5 @@
--- The last place below a bound that passes a test is the greatest that passes, and there is one at most.
+-- The last place below a bound that passes a test is the greatest that passes, and there is one at
+-- most.
 use Rattle.std.proofs.Common.{◌≡◌, ℕ, zero, suc, ◌<◌, Bool, true, false, cond, Option, None, Some, refl, sym, subst, ◌∙◌, arith, inl, inr}
 use Rattle.std.proofs.lemmas.Bool.{cases_eq, cases_lt}
 use Rattle.interning.specs.Places.{last_below, IsLast, LastBelowIsLast}

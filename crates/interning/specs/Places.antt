@@ -1,4 +1,5 @@
--- Things that stand at places, from 0, of a list, and where each stood before. A place may hold none.
+-- Things that stand at places, from 0, of a list, and where each stood before. A place may hold
+-- none.
 use Rattle.std.specs.Prelude.{◌≡◌, ◌↔◌, ℕ, zero, suc, ◌<◌, Bool, true, false, ◌==◌, if◌then◌else◌, List, length, Option, Some, None, slice_get, get_or}
 
 -- the last place below n that passes the test
@@ -42,8 +43,9 @@ pub record IsTable (bound : ℕ) (entry : ℕ → Option ℕ) (table : List (Opt
   pub size : length table ≡ bound
   pub entries : (number : ℕ) → number < bound → get_or table number None ≡ entry number
 
--- The numbers of the names: a name has a number, below how many places there are; two names have the same number exactly where
--- they are equal; and numbers are given in the order of first use, so that each smaller number stands before.
+-- The numbers of the names: a name has a number, below how many places there are; two names have
+-- the same number exactly where they are equal; and numbers are given in the order of first use, so
+-- that each smaller number stands before.
 pub record IsNumbering {K : Type 0} (eq : K → K → Bool) (names : List (Option K)) (numbers : List (Option ℕ)) : Type 0 where
   pub size : length numbers ≡ length names
   pub below : AreBelow (length names) numbers

@@ -1,4 +1,5 @@
-//! Names at the places of a list: the same name gets the same number, and each place learns where its name stood before.
+//! Names at the places of a list: the same name gets the same number, and each place learns where
+//! its name stood before.
 #![tactic(auto)]
 
 mod laws;

@@ -7,8 +7,8 @@ use indexmap::IndexSet;
 use std::alloc::{AllocError, Global};
 use std::hash::Hash;
 
-/// A number for each name, from 0, in the order in which names are first used. A place without a name has no number. The only
-/// error is want of memory.
+/// A number for each name, from 0, in the order in which names are first used. A place without a
+/// name has no number. The only error is want of memory.
 pub fn number<K: Eq + Hash + Drop>(
     alloc: Global,
     names: Vec<Option<K>>,

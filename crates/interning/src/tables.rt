@@ -5,8 +5,8 @@ ghost use Rattle.interning.specs.Places.{AreBelow, IsTable, holds_at, last_below
 
 use std::alloc::{AllocError, Global};
 
-/// For each place the last place before it that holds the same number, if there is one. Each number is below how many
-/// places there are. The only error is want of memory.
+/// For each place the last place before it that holds the same number, if there is one. Each number
+/// is below how many places there are. The only error is want of memory.
 pub fn previous_places(
     alloc: Global,
     numbers: &[Option<usize>],
@@ -25,8 +25,8 @@ pub fn previous_places(
     Ok(previous)
 }
 
-/// For each number below the bound the last place that holds it, if there is one. Each number is below the bound. The
-/// only error is want of memory.
+/// For each number below the bound the last place that holds it, if there is one. Each number is
+/// below the bound. The only error is want of memory.
 pub fn last_places(
     alloc: Global,
     numbers: &[Option<usize>],

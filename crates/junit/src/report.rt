@@ -97,10 +97,10 @@ impl Report {
         }
     }
 
-    /// Adds a test with this name. The text tells what came of it; in the report it stands of one that
-    /// didn't pass alone, and its first line is the message. A byte that is neither LF nor printable
-    /// ASCII becomes a question mark. The only error is want of memory, behind which the report isn't
-    /// to be used.
+    /// Adds a test with this name. The text tells what came of it; in the report it stands of one
+    /// that didn't pass alone, and its first line is the message. A byte that is neither LF nor
+    /// printable ASCII becomes a question mark. The only error is want of memory, behind which the
+    /// report isn't to be used.
     pub fn add(&mut self, name: &str, outcome: Outcome, text: &[u8]) -> Result<(), AllocError>
         ensures { (cases : List Case) → IsOf cases self.old
             → OnOk result (IsOf (cases ++ record { name = name.now; outcome = outcome; text = text.now } ∷ []) self.new) }

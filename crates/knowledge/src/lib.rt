@@ -2,9 +2,9 @@
 //! issued only where it has.
 //!
 //! A finder is a receive, a matched probe or a probe. That it has found where a call is issued
-//! follows from what else is known, by the rule `tells_issue` of `races`: from the issue of the call
-//! before it in its rank, and from what the return of that one waits for. A table each entry of
-//! which follows so is justified, and there is a greatest one, since the rule tells no more of a
+//! follows from what else is known, by the rule `tells_issue` of `races`: from the issue of the
+//! call before it in its rank, and from what the return of that one waits for. A table each entry
+//! of which follows so is justified, and there is a greatest one, since the rule tells no more of a
 //! finder where less is known of it.
 //!
 //! The column of a finder begins with every call in it. A call that doesn't follow from the others

@@ -1,5 +1,5 @@
--- Slots: each finder has one, and each send one for each form that a pattern may have; a send and a finder that fit have
--- one slot in the finder's form.
+-- Slots: each finder has one, and each send one for each form that a pattern may have; a send and a
+-- finder that fit have one slot in the finder's form.
 use Rattle.std.specs.Prelude.{◌≡◌, ℕ, ◌+◌, ◌*◌, ◌%◌, ◌^◌, Bool, true, false, List, Option, Some, None, is_some, slice_get}
 use Rattle.callorder.specs.declared.calls.Call.{Call}
 use Rattle.callorder.specs.declared.calls.Message.{Message}

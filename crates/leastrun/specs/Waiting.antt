@@ -29,8 +29,8 @@ pub record AreInOrder (p : MpiProgram) (m : Configuration) (rows : Rows) : Type 
   pub issued : (q i e : ℕ) → slice_get (row rows q) i ≡ Some e → is_issued p m e ≡ true
   pub ordered : (q i j d e : ℕ) → slice_get (row rows q) i ≡ Some d → slice_get (row rows q) j ≡ Some e → i < j → are_of_one_rank p d e ≡ true → d ≤ e
 
--- Each open call but the fresh one stands in its rows: a send in the row of each form that a finder of the program has, a
--- finder in the row of its own.
+-- Each open call but the fresh one stands in its rows: a send in the row of each form that a finder
+-- of the program has, a finder in the row of its own.
 pub record IsKept (p : MpiProgram) (fresh : Option ℕ) (m : Configuration) (t : Tables) : Type 0 where
   pub all_forms : HasForms p t.forms.items
   pub sent : (c : ℕ) (call : Call) → is_open p m c ≡ true → (fresh ≡ Some c → ⊥) → call_at p c ≡ Some call → IsSendIn t.forms.items t.sends call c
@@ -90,7 +90,8 @@ step_between p c other =
 abbrev pub NoOpenPair : MpiProgram → Configuration → Type 0
 NoOpenPair p m = (s f : ℕ) → IsOpenPair p m s f → ⊥
 
--- The fresh call, if there is one, is the last issued one of its rank, and each open pair is one of it.
+-- The fresh call, if there is one, is the last issued one of its rank, and each open pair is one of
+-- it.
 pub record IsFresh (p : MpiProgram) (m : Configuration) (fresh : Option ℕ) : Type 0 where
   pub only : (s f : ℕ) → IsOpenPair p m s f → (fresh ≡ Some s) ⊎ (fresh ≡ Some f)
   pub issued : (c : ℕ) → fresh ≡ Some c → is_issued p m c ≡ true

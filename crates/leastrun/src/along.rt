@@ -11,8 +11,8 @@ use callorder::LongProgram;
 use semantics::{State, Step};
 use std::alloc::{AllocError, Global};
 
-/// Takes these steps, each where it is enabled, and tells whether all were. The only error is want of
-/// memory.
+/// Takes these steps, each where it is enabled, and tells whether all were. The only error is want
+/// of memory.
 fn take_all(
     program: &LongProgram,
     state: &mut State,
@@ -70,13 +70,15 @@ fn are_apart(program: &LongProgram, calls: &[usize]) -> bool
 }
 
 /// The run that first goes as far as it can before these bounds, then takes the wanted steps, and
-/// then goes on until no step is enabled; beside the wanted steps it buffers as little as the policy
-/// allows. A bound is the place of a call in the program's list, from 0, by rank: that call of the
-/// rank isn't issued before the wanted steps. `None` where a wanted step isn't enabled in its turn, or
-/// where some open send still fits an open call behind them. The only error is want of memory.
+/// then goes on until no step is enabled; beside the wanted steps it buffers as little as the
+/// policy allows. A bound is the place of a call in the program's list, from 0, by rank: that call
+/// of the rank isn't issued before the wanted steps. `None` where a wanted step isn't enabled in
+/// its turn, or where some open send still fits an open call behind them. The only error is want of
+/// memory.
 ///
-/// The time is near linear in the calls, but for the wanted steps: each match or see among them looks
-/// at the earlier calls of both ranks, and behind them each open call is compared with each other.
+/// The time is near linear in the calls, but for the wanted steps: each match or see among them
+/// looks at the earlier calls of both ranks, and behind them each open call is compared with each
+/// other.
 pub fn run_along(
     alloc: Global,
     program: &LongProgram,

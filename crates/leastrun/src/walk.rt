@@ -146,8 +146,8 @@ fn any_issue(program: &LongProgram, state: &State, buffering: Buffering) -> Opti
     None
 }
 
-/// An enabled issue: of a rank that is ready, and where there is none and no rank has a bound, of any
-/// rank. The list of ready ranks misses none, so that all ranks are looked at once, at the end.
+/// An enabled issue: of a rank that is ready, and where there is none and no rank has a bound, of
+/// any rank. The list of ready ranks misses none, so that all ranks are looked at once, at the end.
 fn next_issue(
     program: &LongProgram,
     state: &State,
@@ -295,8 +295,8 @@ fn all_ranks(alloc: Global, ranks: u32) -> Result<Vec<u32>, AllocError> {
     Ok(ready)
 }
 
-/// Goes on with a run, buffering so, as far as it goes and no rank past its bound; where no rank has a
-/// bound, until no step is enabled. The only error is want of memory.
+/// Goes on with a run, buffering so, as far as it goes and no rank past its bound; where no rank
+/// has a bound, until no step is enabled. The only error is want of memory.
 pub fn go_on(
     alloc: Global,
     program: &LongProgram,

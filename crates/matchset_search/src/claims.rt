@@ -10,8 +10,9 @@ const PLACES: usize = 16_384;
 /// So many last bits of a state's hash give way to the number of the search.
 const BITS_OF_A_NUMBER: u32 = 6;
 
-/// Which states searches over the same program are closing, so that each begins with others than the rest. Nothing of it is trusted: what it lacks, or tells
-/// wrongly, makes searches do something in another order, or twice.
+/// Which states searches over the same program are closing, so that each begins with others than
+/// the rest. Nothing of it is trusted: what it lacks, or tells wrongly, makes searches do something
+/// in another order, or twice.
 #[derive(Drop)]
 pub struct InProgress {
     states: Vec<AtomicU64>,
@@ -34,7 +35,8 @@ impl InProgress {
         }
     }
 
-    /// Whether another search than that of this number, from 0 and below 64, is closing the state; else this one is from now on.
+    /// Whether another search than that of this number, from 0 and below 64, is closing the state;
+    /// else this one is from now on.
     pub(crate) fn is_taken(&self, key: Key, number: u32) -> bool {
         let state = key.state >> BITS_OF_A_NUMBER;
         let Some(place) = self.states.get((state as usize) % PLACES) else {

@@ -57,7 +57,8 @@ fn make_bits(
     Ok(())
 }
 
-/// Makes the lemma against this cycle, and answers whether it could be made. Then the trail is at level 0.
+/// Makes the lemma against this cycle, and answers whether it could be made. Then the trail is at
+/// level 0.
 pub(crate) fn cut_cycle(
     alloc: Global,
     shape: &Shape<'_>,

@@ -14,7 +14,8 @@ use std::mem;
 /// The longest line that is watched.
 pub(crate) const MOST_WATCHED: usize = 30;
 
-/// Whoever has a search take in what others made imports all lines of others with so many literals at most.
+/// Whoever has a search take in what others made imports all lines of others with so many literals
+/// at most.
 pub const SHORT: usize = 2;
 
 /// The longest clause that a state which it closes shortens by a line of its own.
@@ -218,7 +219,8 @@ impl Engine {
         }
     }
 
-    /// Propagates with a clause that needn't be watched, too, and answers which clause is false then.
+    /// Propagates with a clause that needn't be watched, too, and answers which clause is false
+    /// then.
     pub(crate) fn apply(&mut self, alloc: Global, clause: u32) -> Result<Option<u32>, AllocError> {
         match self.standing(clause) {
             Standing::False => Ok(Some(clause)),
@@ -236,7 +238,8 @@ impl Engine {
         Ok(())
     }
 
-    /// Goes back to level 0, where the clauses that wait for that are watched. Answers whether no clause is false there.
+    /// Goes back to level 0, where the clauses that wait for that are watched. Answers whether no
+    /// clause is false there.
     pub(crate) fn to_root(&mut self, alloc: Global) -> Result<bool, AllocError> {
         self.trail.back(0);
         self.kept = None;
@@ -307,7 +310,8 @@ impl Engine {
         codes.iter().any(|code| self.trail.level_of(variable_of(*code)) as usize > level)
     }
 
-    /// One more line of these literals, in whatever order, and the place of its clause; none where there is no number left for it.
+    /// One more line of these literals, in whatever order, and the place of its clause; none where
+    /// there is no number left for it.
     pub(crate) fn add_line(
         &mut self,
         alloc: Global,
@@ -328,7 +332,8 @@ impl Engine {
         Ok(place)
     }
 
-    /// Whether a line that lacks one of the clause's literals is worth its place, as short clauses let much follow.
+    /// Whether a line that lacks one of the clause's literals is worth its place, as short clauses
+    /// let much follow.
     pub(crate) fn is_short(&self, clause: u32) -> bool {
         self.store.literals(clause).len() <= MOST_SHORTENED
     }
@@ -341,7 +346,8 @@ impl Engine {
         Ok(())
     }
 
-    /// Writes the line of a lemma by this conflict, which is watched from the next return to level 0 on, and tells others of it.
+    /// Writes the line of a lemma by this conflict, which is watched from the next return to level
+    /// 0 on, and tells others of it.
     fn write_lemma(
         &mut self,
         alloc: Global,
@@ -359,7 +365,8 @@ impl Engine {
         Ok(())
     }
 
-    /// A line of these literals, which is watched, where propagation derives it; answers whether it does. Ends at level 0.
+    /// A line of these literals, which is watched, where propagation derives it; answers whether it
+    /// does. Ends at level 0.
     pub(crate) fn make_lemma(
         &mut self,
         alloc: Global,
@@ -383,7 +390,8 @@ impl Engine {
         Ok(conflict.is_some())
     }
 
-    /// Makes two literals true, of which the first one stays so until the next return to level 0, for the next pair.
+    /// Makes two literals true, of which the first one stays so until the next return to level 0,
+    /// for the next pair.
     fn assume_pair(
         &mut self,
         alloc: Global,
@@ -403,7 +411,8 @@ impl Engine {
         self.assume_one(alloc, second)
     }
 
-    /// A line that these two literals aren't both true, which is watched from the next return to level 0 on, where propagation derives it.
+    /// A line that these two literals aren't both true, which is watched from the next return to
+    /// level 0 on, where propagation derives it.
     pub(crate) fn make_pair(
         &mut self,
         alloc: Global,
@@ -422,8 +431,8 @@ impl Engine {
         }
     }
 
-    /// Takes in the line of others that has this lemma, which is watched from the next return to level 0 on, and answers whether there is one. A short one was
-    /// imported.
+    /// Takes in the line of others that has this lemma, which is watched from the next return to
+    /// level 0 on, and answers whether there is one. A short one was imported.
     fn takes_lemma(
         &mut self,
         alloc: Global,

@@ -8,8 +8,8 @@ use std::alloc::{AllocError, Global};
 /// For how many places there is room at first.
 const FIRST_PLACES: usize = 64;
 
-/// The negations of what a conflict rests on, with the places of what stands on the way, rising; `roots` are those of them at level 0, where
-/// the way ends.
+/// The negations of what a conflict rests on, with the places of what stands on the way, rising;
+/// `roots` are those of them at level 0, where the way ends.
 #[derive(Drop)]
 struct Explained {
     literals: Vec<u32>,
@@ -17,7 +17,8 @@ struct Explained {
     roots: Vec<usize>,
 }
 
-/// Something true from which a conflict follows, and the decision from which it follows by clauses of two literals alone.
+/// Something true from which a conflict follows, and the decision from which it follows by clauses
+/// of two literals alone.
 #[derive(Clone, Copy, PartialEq, Eq, PartialOrd, Ord)]
 struct Cause {
     decision: usize,
@@ -40,7 +41,8 @@ struct Values<'v> {
 }
 
 impl Values<'_> {
-    /// The variable from whose value alone this one's follows, by a clause of two literals; none where that one has its value at level 0.
+    /// The variable from whose value alone this one's follows, by a clause of two literals; none
+    /// where that one has its value at level 0.
     fn single_cause(&self, variable: usize) -> Option<usize> {
         let &[one, other] = self.store.literals(self.trail.reason_of(variable)) else {
             return None;
@@ -78,7 +80,8 @@ impl Values<'_> {
         Ok(())
     }
 
-    /// Follows the reason of the value at this place, or takes it for a cause, where it follows from one decision alone and isn't that of `falsified`.
+    /// Follows the reason of the value at this place, or takes it for a cause, where it follows
+    /// from one decision alone and isn't that of `falsified`.
     fn follow(
         &self,
         marks: &mut Marks,
@@ -101,7 +104,8 @@ impl Values<'_> {
         self.mark_all(marks, self.trail.reason_of(variable))
     }
 
-    /// Follows the reasons of the marked variables downwards, to what follows from one decision alone, and to level 0.
+    /// Follows the reasons of the marked variables downwards, to what follows from one decision
+    /// alone, and to level 0.
     fn trace(
         &self,
         alloc: Global,
@@ -138,7 +142,8 @@ impl Values<'_> {
         Ok(())
     }
 
-    /// Goes back, of the causes that follow from the same decision, to the last one from which all of them do.
+    /// Goes back, of the causes that follow from the same decision, to the last one from which all
+    /// of them do.
     fn narrowed(&self, alloc: Global, way: Way) -> Result<Explained, AllocError> {
         let Way {
             mut causes,
@@ -236,9 +241,10 @@ impl Engine {
         Ok(tags)
     }
 
-    /// The clause by which there is no such conflict: the one that is named alone, or one more line. Of each decision that the conflict rests on it has the
-    /// last of its consequences from which the conflict follows as well, by clauses of two literals: that holds in more states. None where no number
-    /// is left for it.
+    /// The clause by which there is no such conflict: the one that is named alone, or one more
+    /// line. Of each decision that the conflict rests on it has the last of its consequences from
+    /// which the conflict follows as well, by clauses of two literals: that holds in more states.
+    /// None where no number is left for it.
     pub(crate) fn write(
         &mut self,
         alloc: Global,

@@ -30,8 +30,9 @@ pub(crate) struct Explorer<'e> {
     pub(crate) shape: Shape<'e>,
     pub(crate) engine: Engine,
     lemmas: Lemmas,
-    /// For each state that is closed the clause by which it is, by its key's hash. Of two states with the same one the second isn't closed by the clause of
-    /// the first, which is seen where it isn't false, and then a clause is learnt.
+    /// For each state that is closed the clause by which it is, by its key's hash. Of two states
+    /// with the same one the second isn't closed by the clause of the first, which is seen where it
+    /// isn't false, and then a clause is learnt.
     table: HashMap<u64, u32>,
     /// The clauses that closed states with the same matched calls, by the hash of these.
     near: HashMap<u64, Vec<u32>>,
@@ -50,11 +51,13 @@ pub(crate) struct Explorer<'e> {
     others: SharedClosed,
     /// Which states searches are closing, where they tell each other.
     claims: Option<&'e InProgress>,
-    /// Which lemmas it makes first. Its turn tells, too, which state below another one is visited first.
+    /// Which lemmas it makes first. Its turn tells, too, which state below another one is visited
+    /// first.
     pub(crate) portion: Portion,
 }
 
-/// The place, of so many, at which a search of this turn begins below the state with this key: the first one at turn 0.
+/// The place, of so many, at which a search of this turn begins below the state with this key: the
+/// first one at turn 0.
 fn first_of(turn: u32, key: Key, length: usize) -> usize
     ensures { result ≤ length }
 {
@@ -160,7 +163,8 @@ impl<'e> Explorer<'e> {
         self.drop_closed(alloc)
     }
 
-    /// Takes in what others closed and made, by clauses of the formula and then of the log's lines, of which these come next, from this place on.
+    /// Takes in what others closed and made, by clauses of the formula and then of the log's lines,
+    /// of which these come next, from this place on.
     pub(crate) fn take_in(
         &mut self,
         first: usize,
@@ -171,7 +175,8 @@ impl<'e> Explorer<'e> {
         self.others.take_in(closings)
     }
 
-    /// The states that were closed in the last batch, whose first line has this number, and the lemmas that were made.
+    /// The states that were closed in the last batch, whose first line has this number, and the
+    /// lemmas that were made.
     pub(crate) fn closings(
         &self,
         alloc: Global,
@@ -192,7 +197,8 @@ impl<'e> Explorer<'e> {
         Ok(closings)
     }
 
-    /// What the task at this place assumes of the state that it is to close, where others closed that.
+    /// What the task at this place assumes of the state that it is to close, where others closed
+    /// that.
     fn assumed_of_closed(
         &self,
         alloc: Global,
@@ -207,8 +213,8 @@ impl<'e> Explorer<'e> {
         Ok(Some(assumptions.to_vec(alloc)?))
     }
 
-    /// Closes the state that the task at this place is to close by the clause of others that does, and drops all that was to be done for it. Answers
-    /// whether the clause closes it.
+    /// Closes the state that the task at this place is to close by the clause of others that does,
+    /// and drops all that was to be done for it. Answers whether the clause closes it.
     fn drop_task(&mut self, alloc: Global, place: usize) -> Result<bool, AllocError> {
         let Some(assumptions) = self.assumed_of_closed(alloc, place)? else {
             return Ok(false);
@@ -233,7 +239,8 @@ impl<'e> Explorer<'e> {
         Some(key)
     }
 
-    /// Drops the first task for a state that others have closed, and all that was to be done for it before.
+    /// Drops the first task for a state that others have closed, and all that was to be done for it
+    /// before.
     fn drop_closed(&mut self, alloc: Global) -> Result<(), AllocError> {
         for place in 0..self.tasks.len() {
             if self.drop_task(alloc, place)? {
@@ -243,8 +250,9 @@ impl<'e> Explorer<'e> {
         Ok(())
     }
 
-    /// Closes the state with this key, whose assumptions stand on the trail, by the clause of others that closes it, and answers whether there
-    /// is one that is false. What others know may make one false that isn't so here.
+    /// Closes the state with this key, whose assumptions stand on the trail, by the clause of
+    /// others that closes it, and answers whether there is one that is false. What others know may
+    /// make one false that isn't so here.
     fn take_over(&mut self, alloc: Global, key: Key) -> Result<bool, AllocError> {
         let mut codes = Vec::new(alloc);
         let Some((number, clause)) = self.others.closing(key.state) else {
@@ -262,7 +270,8 @@ impl<'e> Explorer<'e> {
         Ok(true)
     }
 
-    /// The same where that clause is false under the assumptions alone, as most are, so that nothing has to follow from them.
+    /// The same where that clause is false under the assumptions alone, as most are, so that
+    /// nothing has to follow from them.
     fn takes_over(
         &mut self,
         alloc: Global,
@@ -313,7 +322,8 @@ impl<'e> Explorer<'e> {
         self.teach(alloc, number, clause)
     }
 
-    /// Takes in a clause that was derived, and its number. One whose number no hint can have is left out, and so is a long one of others.
+    /// Takes in a clause that was derived, and its number. One whose number no hint can have is
+    /// left out, and so is a long one of others.
     pub(crate) fn import(
         &mut self,
         alloc: Global,
@@ -415,8 +425,9 @@ impl<'e> Explorer<'e> {
         Ok(true)
     }
 
-    /// Makes lemmas that are due, or cuts a cycle, and answers whether there were any; then the trail is at level 0. Where nothing is due at the level that is
-    /// given, only what is above it is looked at, and no cycle is looked for, since that comes once the state there is visited.
+    /// Makes lemmas that are due, or cuts a cycle, and answers whether there were any; then the
+    /// trail is at level 0. Where nothing is due at the level that is given, only what is above it
+    /// is looked at, and no cycle is looked for, since that comes once the state there is visited.
     fn makes_lemmas(
         &mut self,
         alloc: Global,
@@ -480,8 +491,8 @@ impl<'e> Explorer<'e> {
         Ok(())
     }
 
-    /// Branches the state, unless it is closed already or meets a conflict at once, as what leads to it then does too. One that another search is closing comes
-    /// last, unless it has to be now.
+    /// Branches the state, unless it is closed already or meets a conflict at once, as what leads
+    /// to it then does too. One that another search is closing comes last, unless it has to be now.
     pub(crate) fn visit(
         &mut self,
         alloc: Global,
@@ -496,7 +507,8 @@ impl<'e> Explorer<'e> {
         self.visit_unknown(alloc, state, key, is_last, batch)
     }
 
-    /// Branches a state with this key, which wasn't closed, unless others did or it meets a conflict at once.
+    /// Branches a state with this key, which wasn't closed, unless others did or it meets a
+    /// conflict at once.
     fn visit_unknown(
         &mut self,
         alloc: Global,
@@ -537,7 +549,8 @@ impl<'e> Explorer<'e> {
         self.visit_read(alloc, read, key, assumptions, batch)
     }
 
-    /// Branches the state that was read off the trail of the one with this key, or visits it before, where it is another one.
+    /// Branches the state that was read off the trail of the one with this key, or visits it
+    /// before, where it is another one.
     fn visit_read(
         &mut self,
         alloc: Global,
@@ -598,8 +611,9 @@ impl<'e> Explorer<'e> {
         self.visit_all(states, first)
     }
 
-    /// Has these states closed: from one on that the turn tells, in the order of a round, where there are many. Of two the first one often closes the
-    /// second, too, but not the other way round.
+    /// Has these states closed: from one on that the turn tells, in the order of a round, where
+    /// there are many. Of two the first one often closes the second, too, but not the other way
+    /// round.
     fn visit_all(&mut self, mut states: Vec<State>, first: usize) -> Result<(), AllocError>
         requires { first ≤ vec_len states }
     {
@@ -636,8 +650,8 @@ impl<'e> Explorer<'e> {
         Ok(Below::State(below))
     }
 
-    /// The same once no lemma is due there, unless that takes too many lines or rounds, or lemmas tell more of the state itself. Where lemmas are made, the state
-    /// isn't settled any more.
+    /// The same once no lemma is due there, unless that takes too many lines or rounds, or lemmas
+    /// tell more of the state itself. Where lemmas are made, the state isn't settled any more.
     fn below_lemmas(
         &mut self,
         alloc: Global,
@@ -659,7 +673,8 @@ impl<'e> Explorer<'e> {
         Ok(Below::Lemmas)
     }
 
-    /// Adds what is below the literals, and answers whether lemmas were made, with the trail at level 0; else it stands as before.
+    /// Adds what is below the literals, and answers whether lemmas were made, with the trail at
+    /// level 0; else it stands as before.
     fn look_below(
         &mut self,
         alloc: Global,

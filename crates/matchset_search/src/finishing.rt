@@ -97,8 +97,8 @@ impl<'e> Explorer<'e> {
         Ok(Against::Closed(written.clause))
     }
 
-    /// Makes a literal false that has no value yet, and answers the end that this comes to. Where that takes nothing but
-    /// the assumptions, its clause closes the state, too, with no line.
+    /// Makes a literal false that has no value yet, and answers the end that this comes to. Where
+    /// that takes nothing but the assumptions, its clause closes the state, too, with no line.
     fn exclude(
         &mut self,
         alloc: Global,
@@ -120,8 +120,9 @@ impl<'e> Explorer<'e> {
         }
     }
 
-    /// Propagates with the clause of the state below the literal, and answers the end that this comes to. Where that
-    /// takes nothing but the assumptions, that clause closes the state, too, with no line.
+    /// Propagates with the clause of the state below the literal, and answers the end that this
+    /// comes to. Where that takes nothing but the assumptions, that clause closes the state, too,
+    /// with no line.
     fn propagate_below(
         &mut self,
         alloc: Global,

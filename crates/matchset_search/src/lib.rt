@@ -1,8 +1,9 @@
 //! A search over sets of matched calls, which writes down why a program has no stuck run.
 //!
-//! Clause learning counts in which order sends were taken; this search keeps only which sends were taken. A state is closed by one clause,
-//! which follows by propagation from those of the states below it, so each line has its hints. `specs/Answers.antt` says what an import and a
-//! search may answer. Nothing is promised of the lines of a batch: whoever takes them checks them.
+//! Clause learning counts in which order sends were taken; this search keeps only which sends were
+//! taken. A state is closed by one clause, which follows by propagation from those of the states
+//! below it, so each line has its hints. `specs/Answers.antt` says what an import and a search may
+//! answer. Nothing is promised of the lines of a batch: whoever takes them checks them.
 #![tactic(auto)]
 
 mod claims;

@@ -21,8 +21,8 @@ pub(crate) struct Told {
     pub(crate) clause: u32,
 }
 
-/// What others closed, and the lines by which they did, and what this search closed in the last batch. Nothing of it is trusted: a clause that isn't the
-/// state's is of no use, and no harm.
+/// What others closed, and the lines by which they did, and what this search closed in the last
+/// batch. Nothing of it is trusted: a clause that isn't the state's is of no use, and no harm.
 #[derive(Drop)]
 pub(crate) struct SharedClosed {
     alloc: Global,
@@ -48,7 +48,8 @@ impl SharedClosed {
         }
     }
 
-    /// Puts these lines of the log in, from this place on, in place of those that are in from there on. Where lines between are missing, all others go.
+    /// Puts these lines of the log in, from this place on, in place of those that are in from there
+    /// on. Where lines between are missing, all others go.
     pub(crate) fn put_lines(&mut self, first: usize, lines: Lines) -> Result<(), AllocError> {
         if lines.len() == 0 {
             return Ok(());
@@ -66,7 +67,8 @@ impl SharedClosed {
         self.log.follow(self.alloc, 0, lines)
     }
 
-    /// Puts these states and lemmas in, whose clauses are those of the formula and then of the lines.
+    /// Puts these states and lemmas in, whose clauses are those of the formula and then of the
+    /// lines.
     pub(crate) fn take_in(&mut self, closings: &[ClosedState]) -> Result<(), AllocError> {
         for closing in closings {
             self.numbers.insert(closing.state, closing.number)?;

@@ -183,14 +183,14 @@ impl<'e> Explorer<'e> {
         Ok(())
     }
 
-    /// Whether lines of the learner's stand in this batch. It would lose them if it searched once more
-    /// before they come back, and begin anew.
+    /// Whether lines of the learner's stand in this batch. It would lose them if it searched once
+    /// more before they come back, and begin anew.
     fn awaits_lines(&self) -> bool {
         self.learnt_from < self.learnt_to
     }
 
-    /// Has the learner look for a clause of negations of these literals, unless lines of its own have to
-    /// come back first.
+    /// Has the learner look for a clause of negations of these literals, unless lines of its own
+    /// have to come back first.
     fn learn(
         &mut self,
         alloc: Global,
@@ -338,7 +338,8 @@ impl<'e> Explorer<'e> {
         }
     }
 
-    /// The clause by which the first state is closed, where it is empty under what holds at level 0.
+    /// The clause by which the first state is closed, where it is empty under what holds at level
+    /// 0.
     fn close_first(
         &mut self,
         alloc: Global,

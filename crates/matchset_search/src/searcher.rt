@@ -47,12 +47,14 @@ impl<'e> StateSearch<'e> {
         })
     }
 
-    /// Takes in a clause that was derived from the formula, under this number. Where clauses come back as they stand in the last batch, in its
-    /// order, their lines get these numbers; where not all have come back before the next search, that one begins anew. Other clauses help only
+    /// Takes in a clause that was derived from the formula, under this number. Where clauses come
+    /// back as they stand in the last batch, in its order, their lines get these numbers; where not
+    /// all have come back before the next search, that one begins anew. Other clauses help only
     /// where they are short.
     ///
-    /// Refused with [`SolveFault::Spent`] exactly where memory ran out before, and else with [`SolveFault::Foreign`] exactly where the clause has a
-    /// variable that isn't one of the formula's.
+    /// Refused with [`SolveFault::Spent`] exactly where memory ran out before, and else with
+    /// [`SolveFault::Foreign`] exactly where the clause has a variable that isn't one of the
+    /// formula's.
     pub fn import(&mut self, alloc: Global, number: u32, clause: &Clause) -> Result<(), SolveFault>
         ensures { Imported self.old self.new clause.now result }
     {
@@ -71,20 +73,25 @@ impl<'e> StateSearch<'e> {
         }
     }
 
-    /// Has searches of different numbers, from 0 and below 64, over the same program begin elsewhere, so that each closes states that the others need.
-    /// They tell each other by these claims which state each is closing.
+    /// Has searches of different numbers, from 0 and below 64, over the same program begin
+    /// elsewhere, so that each closes states that the others need. They tell each other by these
+    /// claims which state each is closing.
     pub fn share(&mut self, claims: &'e InProgress, number: u32)
         ensures { self.new ≡ self.old }
     {
         self.explorer.share(claims, number);
     }
 
-    /// Takes in which states other searches over the same program closed, and which lemmas they made, by clauses of the formula and then of the lines of a
-    /// log. Of these the given ones stand from the given place on, counted from 0; where they were given before, the last ones count. A state whose clause
-    /// is false under what is assumed of it isn't closed once more, and what was to be done for it is dropped. A lemma isn't made once more either: its line
-    /// is taken in, unless it has two literals at most. Lines of others that have no more are to be imported before.
+    /// Takes in which states other searches over the same program closed, and which lemmas they
+    /// made, by clauses of the formula and then of the lines of a log. Of these the given ones
+    /// stand from the given place on, counted from 0; where they were given before, the last ones
+    /// count. A state whose clause is false under what is assumed of it isn't closed once more, and
+    /// what was to be done for it is dropped. A lemma isn't made once more either: its line is
+    /// taken in, unless it has two literals at most. Lines of others that have no more are to be
+    /// imported before.
     ///
-    /// Refused with [`SolveFault::Spent`] exactly where memory ran out before; never with [`SolveFault::Foreign`].
+    /// Refused with [`SolveFault::Spent`] exactly where memory ran out before; never with
+    /// [`SolveFault::Foreign`].
     pub fn take_in(
         &mut self,
         first: usize,
@@ -105,19 +112,24 @@ impl<'e> StateSearch<'e> {
         }
     }
 
-    /// The states that the last search closed, and the lemmas that it made, where the first line of its batch has this number, from 1.
+    /// The states that the last search closed, and the lemmas that it made, where the first line of
+    /// its batch has this number, from 1.
     pub fn closings(&self, alloc: Global, base: u32) -> Result<Vec<ClosedState>, AllocError> {
         self.explorer.closings(alloc, base)
     }
 
-    /// Searches on until the formula is refuted, an assignment is found that satisfies it, or as many lines and conflicts as the budget were counted:
-    /// one for each line. The step that uses the budget up writes all its lines, those past the budget uncounted. Of the lemmas that are due at once no
-    /// more are begun once the batch has as many lines as the budget. A search of many steps without lines counts as if the budget were used up, too, and so
-    /// does one that would have to learn by conflicts once more after lines that it learnt so. With budget 0 it answers at once, with no line.
-    /// A model that fails its test is told as want of memory. A batch has less than 2^31 lines. What is kept grows with the lines, by about a kilobyte
-    /// each: whoever wants less stops calling.
+    /// Searches on until the formula is refuted, an assignment is found that satisfies it, or as
+    /// many lines and conflicts as the budget were counted: one for each line. The step that uses
+    /// the budget up writes all its lines, those past the budget uncounted. Of the lemmas that are
+    /// due at once no more are begun once the batch has as many lines as the budget. A search of
+    /// many steps without lines counts as if the budget were used up, too, and so does one that
+    /// would have to learn by conflicts once more after lines that it learnt so. With budget 0 it
+    /// answers at once, with no line. A model that fails its test is told as want of memory. A
+    /// batch has less than 2^31 lines. What is kept grows with the lines, by about a kilobyte each:
+    /// whoever wants less stops calling.
     ///
-    /// Refused with [`SolveFault::Spent`] exactly where memory ran out before; never with [`SolveFault::Foreign`].
+    /// Refused with [`SolveFault::Spent`] exactly where memory ran out before; never with
+    /// [`SolveFault::Foreign`].
     pub fn search(&mut self, alloc: Global, budget: u64) -> Result<Found, SolveFault>
         ensures { Searched self.old self.new budget result }
     {
@@ -144,7 +156,8 @@ impl<'e> StateSearch<'e> {
         }
     }
 
-    /// How many lines and conflicts were counted in the last search that wasn't refused; 0 before the first.
+    /// How many lines and conflicts were counted in the last search that wasn't refused; 0 before
+    /// the first.
     pub fn conflicts(&self) -> u64
         ensures { result ≡ self.now.conflicts }
     {

@@ -38,7 +38,8 @@ pub(crate) enum Task {
     Start,
     /// To close this state.
     Visit(State),
-    /// The same where another search was closing it, once nothing else is left to do below the same state.
+    /// The same where another search was closing it, once nothing else is left to do below the same
+    /// state.
     VisitLast(State),
     /// To close the first state by what closes the second.
     Alias(Key, Key),

@@ -6,8 +6,8 @@ use propagation::{unit_tags, variable_of, with_reasons};
 use std::alloc::{AllocError, Global};
 
 impl Engine {
-    /// Derives the literal at this place of level 0 as a clause of its own, where it isn't one yet. The other variables of
-    /// its reason have theirs.
+    /// Derives the literal at this place of level 0 as a clause of its own, where it isn't one yet.
+    /// The other variables of its reason have theirs.
     fn derive_unit(
         &mut self,
         alloc: Global,
@@ -27,7 +27,8 @@ impl Engine {
         Ok(())
     }
 
-    /// Derives the literals at these places of level 0, and all that they rest on, as clauses of their own.
+    /// Derives the literals at these places of level 0, and all that they rest on, as clauses of
+    /// their own.
     pub(crate) fn derive_units(
         &mut self,
         alloc: Global,

@@ -7,15 +7,16 @@ use formula::Condition;
 use propagation::{Trail, negated};
 use std::alloc::{AllocError, Global};
 
-/// How many partners a call may still have, and how many of them are pairs with sends that aren't issued.
+/// How many partners a call may still have, and how many of them are pairs with sends that aren't
+/// issued.
 #[derive(Clone, Copy)]
 struct Candidates {
     count: usize,
     jumps: usize,
 }
 
-/// A call that must be matched. Those of a smaller group come first, then those of fewer candidates, then those of fewer sends that aren't issued,
-/// then the first.
+/// A call that must be matched. Those of a smaller group come first, then those of fewer
+/// candidates, then those of fewer sends that aren't issued, then the first.
 #[derive(Clone, Copy)]
 struct Due {
     group: u32,
@@ -234,8 +235,8 @@ fn two(alloc: Global, one: u32, other: u32) -> Result<Vec<u32>, AllocError> {
     Ok(codes)
 }
 
-/// The numbers of literals one of which is true, where propagation of what the state assumes has come to its end; none where no such rule
-/// helps.
+/// The numbers of literals one of which is true, where propagation of what the state assumes has
+/// come to its end; none where no such rule helps.
 pub fn choose(
     alloc: Global,
     shape: &Shape<'_>,

@@ -144,8 +144,9 @@ fn cheaper(
     }))
 }
 
-/// A cheapest cycle in the order that holds, where it has one: what holds at level 0 costs less. The only error is want of memory. Takes time by the
-/// square of the events for each event on a cycle or behind one.
+/// A cheapest cycle in the order that holds, where it has one: what holds at level 0 costs less.
+/// The only error is want of memory. Takes time by the square of the events for each event on a
+/// cycle or behind one.
 pub fn find_cycle(
     alloc: Global,
     shape: &Shape<'_>,

@@ -183,7 +183,8 @@ impl HappensBefore {
         Ok(())
     }
 
-    /// Takes away the events that lie on no cycle and behind none, and answers whether some are left.
+    /// Takes away the events that lie on no cycle and behind none, and answers whether some are
+    /// left.
     pub(crate) fn has_cycle(&mut self, alloc: Global) -> Result<bool, AllocError> {
         let mut free = self.free(alloc)?;
         for turn in 0..self.entering.len() {

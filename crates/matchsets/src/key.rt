@@ -6,7 +6,8 @@ const MIXER: u64 = 0x9E37_79B9_7F4A_7C15;
 /// The hash of nothing. With 0 in its place a first number 0 would add nothing.
 pub(crate) const NOTHING: u64 = MIXER;
 
-/// What tells a state from nearly all others of the same program: a hash of it, and one of its matched calls alone.
+/// What tells a state from nearly all others of the same program: a hash of it, and one of its
+/// matched calls alone.
 #[derive(Clone, Copy, PartialEq, Eq)]
 pub struct Key {
     /// The hash of the state.

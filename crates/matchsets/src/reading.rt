@@ -120,7 +120,8 @@ fn is_never_fetched(shape: &Shape<'_>, state: &State, taker: &CallShape) -> bool
     }
 }
 
-/// Whether nothing rests any more on the partner by which the send returns: one that is never fetched lets nobody go on.
+/// Whether nothing rests any more on the partner by which the send returns: one that is never
+/// fetched lets nobody go on.
 fn is_closed_send(shape: &Shape<'_>, state: &State, send: &CallShape, taker: &CallShape) -> bool {
     match send.part {
         Role::Standard if shape.policy == Policy::Always => true,
@@ -131,7 +132,8 @@ fn is_closed_send(shape: &Shape<'_>, state: &State, send: &CallShape, taker: &Ca
     }
 }
 
-/// Forgets the partners of a pair that has happened, where nothing waits for it any more; else keeps it.
+/// Forgets the partners of a pair that has happened, where nothing waits for it any more; else
+/// keeps it.
 fn close(
     shape: &Shape<'_>,
     trail: &Trail,
@@ -184,7 +186,8 @@ fn take_pairs(
     Ok(())
 }
 
-/// The state that is told by what holds now, where this one was told before. The only error is want of memory.
+/// The state that is told by what holds now, where this one was told before. The only error is want
+/// of memory.
 pub fn read_off(
     alloc: Global,
     shape: &Shape<'_>,

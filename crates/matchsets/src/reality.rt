@@ -52,7 +52,8 @@ impl<'a, 'e> Reality<'a, 'e> {
         self.is_matched.get(call).copied().unwrap_or(false)
     }
 
-    /// Whether the taker's message is fetched, as that of a matched probe is by the receive on its handle.
+    /// Whether the taker's message is fetched, as that of a matched probe is by the receive on its
+    /// handle.
     fn fetches(&self, taker: usize) -> bool {
         match self.shape.call(taker).receive {
             Some(receive) => self.is_issued(receive),
@@ -128,7 +129,8 @@ impl<'a, 'e> Reality<'a, 'e> {
             && self.is_first_send(send, taker)
     }
 
-    /// The pair at this place of the list happens, where it can and hasn't yet. Answers whether it does.
+    /// The pair at this place of the list happens, where it can and hasn't yet. Answers whether it
+    /// does.
     fn happen(&mut self, place: usize, pair: usize) -> bool {
         let pair = self.shape.pair(pair);
         let is_known = self.is_real.get(place).copied().unwrap_or(true);

@@ -41,7 +41,8 @@ pub(crate) struct CallShape {
     pub(crate) receive: Option<usize>,
     /// The literal that it is issued.
     pub(crate) issued: u32,
-    /// The literal that the rank goes on after it: the next call is issued, or the rank isn't unfinished.
+    /// The literal that the rank goes on after it: the next call is issued, or the rank isn't
+    /// unfinished.
     pub(crate) passed: u32,
     /// Whether it is the last one of its rank.
     pub(crate) is_last: bool,
@@ -58,7 +59,8 @@ pub(crate) struct RankShape {
     pub(crate) unfinished: u32,
 }
 
-/// A send and a taker that fit, or a send and a probe. Calls are named by their places in the program, from 0.
+/// A send and a taker that fit, or a send and a probe. Calls are named by their places in the
+/// program, from 0.
 #[derive(Clone, Copy)]
 pub struct PairShape {
     /// The send.
@@ -69,7 +71,8 @@ pub struct PairShape {
     pub matched: u32,
 }
 
-/// A program with the numbers of its facts' literals. Calls, ranks and pairs are named by their places, from 0.
+/// A program with the numbers of its facts' literals. Calls, ranks and pairs are named by their
+/// places, from 0.
 #[derive(Drop)]
 pub struct Shape<'e> {
     pub(crate) policy: Policy,
@@ -442,7 +445,8 @@ impl<'e> Shape<'e> {
         self.variables.clock_size()
     }
 
-    /// The events, by their places from 0, of which the literal of this number says that the first is earlier.
+    /// The events, by their places from 0, of which the literal of this number says that the first
+    /// is earlier.
     pub fn order_of(&self, code: u32) -> Option<(usize, usize)> {
         let (first, second) = self.orders.get((code / 2) as usize).copied()??;
         if code % 2 == 0 {

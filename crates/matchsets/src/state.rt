@@ -14,15 +14,18 @@ pub(crate) struct Progress {
     /// So many first calls are issued.
     pub(crate) issued: usize,
     pub(crate) is_finished: bool,
-    /// No call from this one on is issued; at the number of calls: the rank isn't finished; above: nothing is known.
+    /// No call from this one on is issued; at the number of calls: the rank isn't finished; above:
+    /// nothing is known.
     pub(crate) end: usize,
 }
 
-/// What is known: how far the ranks come, which calls are matched among themselves, and which pairs are matched and still matter.
+/// What is known: how far the ranks come, which calls are matched among themselves, and which pairs
+/// are matched and still matter.
 #[derive(Drop)]
 pub struct State {
     pub(crate) ranks: Vec<Progress>,
-    /// Sends and takers that are matched with one another, their partners forgotten, and probes that have seen a message, whose is forgotten.
+    /// Sends and takers that are matched with one another, their partners forgotten, and probes
+    /// that have seen a message, whose is forgotten.
     pub(crate) is_matched: Vec<bool>,
     /// Pairs that are matched, rising.
     pub(crate) kept: Vec<usize>,
@@ -163,7 +166,8 @@ impl State {
         }
     }
 
-    /// What tells what is known. States of one program with the same key have, but for chance, the same assumptions.
+    /// What tells what is known. States of one program with the same key have, but for chance, the
+    /// same assumptions.
     pub fn key(&self) -> Key {
         let matched = mixed_places(&self.is_matched);
         let ranks = mixed_ranks(matched, &self.ranks);
@@ -194,8 +198,8 @@ impl State {
         self.is_passed(&call) || self.is_never(&call)
     }
 
-    /// Whether just one of the two calls is among those whose partners are forgotten, so that they aren't matched with one another. A probe may
-    /// see a message that is taken by another call.
+    /// Whether just one of the two calls is among those whose partners are forgotten, so that they
+    /// aren't matched with one another. A probe may see a message that is taken by another call.
     fn is_cut(&self, shape: &Shape<'_>, pair: &PairShape) -> bool {
         !shape.is_probe(pair.taker) && self.is_matched(pair.send) != self.is_matched(pair.taker)
     }
@@ -209,7 +213,8 @@ impl State {
         Ok(())
     }
 
-    /// The numbers of literals that say all this. That the forgotten pairs are among themselves is said by what isn't matched.
+    /// The numbers of literals that say all this. That the forgotten pairs are among themselves is
+    /// said by what isn't matched.
     pub fn assumptions(&self, alloc: Global, shape: &Shape<'_>) -> Result<Vec<u32>, AllocError> {
         let most = self.ranks.len().saturating_mul(CODES_OF_A_RANK);
         let mut codes = Vec::with_capacity(alloc, most.saturating_add(self.kept.len()))?;

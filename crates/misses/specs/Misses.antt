@@ -1,5 +1,5 @@
--- Near misses: which one part of the matching rule keeps a send from fitting. Calls are named by their place, from 0, in the
--- program's list.
+-- Near misses: which one part of the matching rule keeps a send from fitting. Calls are named by
+-- their place, from 0, in the program's list.
 use Rattle.std.specs.Prelude.{ℕ, Bool, true, false, not, ◌==◌, ◌&&◌, if◌then◌else◌, List, [], length, Option, Some, None, is_some}
 use Rattle.std.specs.List.{filter, list_any, range_with_len}
 use Rattle.callorder.specs.declared.calls.Call.{Call}
@@ -12,7 +12,8 @@ use Rattle.waits.specs.Waiting.{fits_with}
 use Rattle.misses.specs.declared.parts.Mismatch.{Mismatch}
 use Rattle.misses.specs.declared.parts.Mismatch.TheVariants.{Destination, Communicator, Source, Tag}
 
--- the part of the rule holds of a message that rank `sender` sends and a pattern that rank `finder` looks for
+-- the part of the rule holds of a message that rank `sender` sends and a pattern that rank `finder`
+-- looks for
 abbrev pub holds_in : Mismatch → ℕ → Message → ℕ → Pattern → Bool
 holds_in Destination sender message finder pattern = message.destination == finder
 holds_in Communicator sender message finder pattern = message.communicator == pattern.communicator
@@ -52,7 +53,8 @@ missed_calls (Some call) (Some other) =
     else if is_probe_kind other.kind then None
     else missed_by call other
 
--- The one part in which two calls miss each other: the second is a send, or else no probe, since a send looks for no probe.
+-- The one part in which two calls miss each other: the second is a send, or else no probe, since a
+-- send looks for no probe.
 abbrev pub misses_in : MpiProgram → ℕ → ℕ → Option Mismatch
 misses_in p c e = missed_calls (call_at p c) (call_at p e)
 

@@ -1,4 +1,5 @@
-//! Near misses: calls that would match with a call that waits, but for one part of the matching rule.
+//! Near misses: calls that would match with a call that waits, but for one part of the matching
+//! rule.
 //!
 //! A call is named by its place, from 0, in the program's list of calls.
 #![tactic(auto)]

@@ -9,8 +9,9 @@ use semantics::State;
 use std::alloc::{AllocError, Global};
 use waits::fits_with;
 
-/// The one part in which the calls at two places miss each other, if one is a send, the other a receive or a matched probe, or, where
-/// the first call is that, a probe, and all other parts hold. A send misses no probe, as it looks for none.
+/// The one part in which the calls at two places miss each other, if one is a send, the other a
+/// receive or a matched probe, or, where the first call is that, a probe, and all other parts hold.
+/// A send misses no probe, as it looks for none.
 pub fn misses_in(program: &LongProgram, call: usize, other: usize) -> Option<Mismatch>
     ensures { result ≡ misses_in program.now call other }
 {
@@ -49,7 +50,8 @@ fn has_unmatched_fit(program: &LongProgram, state: &State, call: usize) -> bool
     (0..program.calls().len()).any(|other| is_unmatched_fit(program, state, call, other))
 }
 
-/// The places of the calls that have no partner and miss the one at this place in exactly one part, in rising order.
+/// The places of the calls that have no partner and miss the one at this place in exactly one part,
+/// in rising order.
 fn unmatched_misses(
     alloc: Global,
     program: &LongProgram,
@@ -64,8 +66,8 @@ fn unmatched_misses(
         .collect(alloc)
 }
 
-/// The places of the calls that have no partner and miss the one at this place in exactly one part, in rising order; none where a
-/// call without a partner fits. The only error is want of memory.
+/// The places of the calls that have no partner and miss the one at this place in exactly one part,
+/// in rising order; none where a call without a partner fits. The only error is want of memory.
 pub fn near_misses(
     alloc: Global,
     program: &LongProgram,

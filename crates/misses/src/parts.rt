@@ -6,7 +6,8 @@ ghost use Rattle.misses.specs.Misses.{missed_by, only_false};
 
 use callorder::Call;
 
-/// A part of the rule by which a send fits a receive, a matched probe or a probe (MPI 4.1, section 3.2.4).
+/// A part of the rule by which a send fits a receive, a matched probe or a probe (MPI 4.1, section
+/// 3.2.4).
 #[derive(Clone, Copy, PartialEq, Eq)]
 pub enum Mismatch {
     /// The send's destination is the rank of the other call.
@@ -42,8 +43,8 @@ fn is_covered(wanted: Option<u32>, number: u32) -> bool
     }
 }
 
-/// The one part in which a send misses a receive, a matched probe or a probe, if all others hold. None where all parts hold, where
-/// several fail, and where the calls are none of these.
+/// The one part in which a send misses a receive, a matched probe or a probe, if all others hold.
+/// None where all parts hold, where several fail, and where the calls are none of these.
 pub fn missed_by(send: &Call, finder: &Call) -> Option<Mismatch>
     ensures { result ≡ missed_by send.now finder.now }
 {

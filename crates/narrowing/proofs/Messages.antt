@@ -1,4 +1,5 @@
--- A call that finds messages with a source and a tag in the place of stars: each run in which it found such a message, or none, is one of the narrowed program.
+-- A call that finds messages with a source and a tag in the place of stars: each run in which it
+-- found such a message, or none, is one of the narrowed program.
 use Rattle.std.proofs.Common.{◌≡◌, ℕ, zero, suc, ◌<◌, inl, inr, Bool, true, false, not, List, Option, Some, None, take, slice_get, refl, sym, ap, ◌∙◌, subst}
 use Rattle.std.specs.Option.{option_map}
 use Rattle.std.specs.Prelude.{◌&&◌, ◌||◌, ◌==◌, slice_index}
@@ -109,7 +110,8 @@ finder_so s t (Some x) (Some y) way h = between_so x.rank y.rank s t (message_of
 
 -- ---- both programs
 
--- the second program is the first one, but that the call finds no message but those of this rank with this tag
+-- the second program is the first one, but that the call finds no message but those of this rank
+-- with this tag
 record Both (p q : MpiProgram) (c s t : ℕ) : Type 0 where
   narrowed : IsNarrowed p c (taken.Message s t) q
 
@@ -308,7 +310,8 @@ run_kept p q c s t n steps run so = run_from_each q (opening p) steps (λ i x th
     kept i (See x f) there can =
         (same_probe p q c s t n f ∙ can.0, find_kept p q c s t n (after_all (opening p) (take i steps)) x f (λ e. so x (subst (λ (z : ℕ). partner_of (after_all (opening p) steps) z ≡ Some x) e (finding p steps x f i true run there).taker_kept)) can.1)
 
--- a run that ends stuck, in which the call found no message but such a one, is one of the narrowed program
+-- a run that ends stuck, in which the call found no message but such a one, is one of the narrowed
+-- program
 pub stuck_run_so : (p q : MpiProgram) (c s t : ℕ) → IsNarrowed p c (taken.Message s t) q → (steps : List Step) → IsStuckRun p steps → ((x : ℕ) → partner_of (after_all (opening p) steps) c ≡ Some x → way_to p x ≡ Some (taken.Message s t)) → IsStuckRun q steps
 stuck_run_so p q c s t narrowed steps stuck so =
     let n : Both p q c s t = record { narrowed = narrowed } in

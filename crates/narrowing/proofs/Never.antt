@@ -28,7 +28,8 @@ way_of_fit (Some x) (Some y) fit = at (message_of x.kind) fit
     at None h = absurd (cc)
     at (Some message) h = (x.rank, message.tag, refl)
 
--- a run that ends stuck, in which the call found no message but this one, has no place where such runs are never stuck
+-- a run that ends stuck, in which the call found no message but this one, has no place where such
+-- runs are never stuck
 excluded : (p : MpiProgram) (call : ℕ) (way : Taken) (steps : List Step) (send : ℕ) → IsStuckRun p steps → NeverStuckSo p call way → are_fit p send call ≡ true → way_to p send ≡ Some way → ((x : ℕ) → partner_of (after_all (opening p) steps) call ≡ Some x → way_to p x ≡ Some way) → ⊥
 excluded p call way steps send stuck never fit is so =
     let found = way_of_fit (call_at p send) (call_at p call) fit in

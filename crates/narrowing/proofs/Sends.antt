@@ -1,5 +1,6 @@
--- A standard send in buffered mode, or synchronous: each run in which it was buffered, or not, or wasn't issued, is one of the narrowed program, but that the step
--- that issues it buffers nothing by choice.
+-- A standard send in buffered mode, or synchronous: each run in which it was buffered, or not, or
+-- wasn't issued, is one of the narrowed program, but that the step that issues it buffers nothing
+-- by choice.
 use Rattle.std.proofs.Common.{◌≡◌, ℕ, zero, suc, ◌+◌, ◌<◌, ◌≤◌, inl, inr, Bool, true, false, not, List, [], ◌∷◌, Option, Some, None, is_some, length, get_or, slice_get, refl, sym, ap, ◌∙◌, subst, arith, length-set, get_or-set_same, get_or-set_other}
 use Rattle.std.specs.Option.{option_map, unwrap_or}
 use Rattle.std.specs.Prelude.{◌&&◌, ◌||◌, ◌==◌, nat_lt, slice_index, slice_set}
@@ -107,7 +108,8 @@ fetches_kept false p m (Wait operation) = refl
 
 -- ---- both programs
 
--- The second program is the first one, but that this standard send, which the policy leaves open, is in buffered mode, or synchronous.
+-- The second program is the first one, but that this standard send, which the policy leaves open,
+-- is in buffered mode, or synchronous.
 record Both (p q : MpiProgram) (c : ℕ) (b : Bool) : Type 0 where
   narrowed : IsNarrowed p c (way_of b) q
   program : IsProgram p
@@ -289,7 +291,8 @@ can_issue_at p m r b can i = sym (ap (can_issue_next p m r b) i.next ∙ ap (can
 next_is : (p : MpiProgram) (m : Configuration) (r : ℕ) (i : Issues p m r) → slice_index m.next r ≡ i.place
 next_is p m r i = get_or_from_slice_get m.next r i.place 0 i.next
 
--- it can be issued in the other program too, where the other call that stands there may be issued so
+-- it can be issued in the other program too, where the other call that stands there may be issued
+-- so
 issue_to : (p q : MpiProgram) (c : ℕ) (b : Bool) → Both p q c b → (m k : Configuration) → IsLike c m k → IsSo p c b m → (r : ℕ) (one other : Bool) (i : Issues p m r) (call : Call) → call_at q i.place ≡ Some call → call.rank ≡ i.call.rank → may_be q.policy call.kind other ≡ true → can_issue p m r one ≡ true → can_issue q k r other ≡ true
 issue_to p q c b n m k like so r one other i call there own may can =
     let parts = and_true _ _ (can_issue_at p m r one can i) in
@@ -486,7 +489,8 @@ stuck_alike p q c b n m k like so stuck =
     none (Match x f) can = stuck.none_enabled (Match x f) (ap not (sym (same_probe p q c b n f)) ∙ can.0, find_from p q c b n m k like x f can.1)
     none (See x f) can = stuck.none_enabled (See x f) (sym (same_probe p q c b n f) ∙ can.0, find_from p q c b n m k like x f can.1)
 
--- a run that ends stuck, in which the send was buffered, or not, or wasn't issued, has one of the narrowed program beside it
+-- a run that ends stuck, in which the send was buffered, or not, or wasn't issued, has one of the
+-- narrowed program beside it
 pub stuck_run_of_send : (p q : MpiProgram) (c : ℕ) (b : Bool) → IsNarrowed p c (way_of b) q → IsProgram p → IsOpenSend p c → (steps : List Step) → IsStuckRun p steps → (is_issued p (after_all (opening p) steps) c ≡ true → is_buffered (after_all (opening p) steps) c ≡ b) → (others : List Step) × IsStuckRun q others
 stuck_run_of_send p q c b narrowed program send steps stuck so =
     let n : Both p q c b = record { narrowed = narrowed; program = program; send = send } in

@@ -1,4 +1,5 @@
--- The test whether a program is a narrowed one, place by place, and the other ways that are found, send by send.
+-- The test whether a program is a narrowed one, place by place, and the other ways that are found,
+-- send by send.
 use Rattle.std.proofs.Common.{◌≡◌, ℕ, ◌+◌, ◌<◌, ◌≤◌, inl, inr, true, List, [], ◌∷◌, ◌++◌, Some, None, length, refl, sym, ap, ◌∙◌, subst, arith}
 use Rattle.std.specs.Prelude.{Contains}
 use Rattle.std.specs.Option.{option_map}

@@ -26,7 +26,8 @@ pub record IsOpenSend (p : MpiProgram) (call : ℕ) : Type 0 where
   pub message : Message
   pub there : call_at p call ≡ Some (record { rank = rank; kind = Send Standard blocking message })
 
--- The call leaves open whether it is buffered; of a call that finds messages nothing is asked, since what fits it is asked of its other ways.
+-- The call leaves open whether it is buffered; of a call that finds messages nothing is asked,
+-- since what fits it is asked of its other ways.
 abbrev pub LeavesOpen : MpiProgram → ℕ → Taken → Type 0
 LeavesOpen p call taken.Buffered = IsOpenSend p call
 LeavesOpen p call taken.NotBuffered = IsOpenSend p call
@@ -44,7 +45,8 @@ IsTakenSo p m call taken.Buffered = IsTrue (is_issued p m call) × (is_buffered 
 IsTakenSo p m call taken.NotBuffered = IsTrue (is_issued p m call) × (is_buffered m call ≡ false)
 IsTakenSo p m call (taken.Message source tag) = HasFound p m call (taken.Message source tag)
 
--- Where a choice has other ways, and with each of them no run ends stuck, it was made so in each run that does.
+-- Where a choice has other ways, and with each of them no run ends stuck, it was made so in each
+-- run that does.
 abbrev pub TakenWhereNeverOtherwise : Type 0
 TakenWhereNeverOtherwise =
     (p : MpiProgram) (call : ℕ) (way : Taken) (others : List Taken) (steps : List Step) → IsProgram p → LeavesOpen p call way → AreOtherWays p call way others

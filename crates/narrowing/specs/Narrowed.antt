@@ -18,8 +18,9 @@ named (Some wanted) number = Some wanted
 abbrev pub named_pattern : ℕ → ℕ → Pattern → Pattern
 named_pattern source tag pattern = record pattern { source = named pattern.source source; tag = named pattern.tag tag }
 
--- The call of this kind with no more left open: a standard send in buffered mode, or synchronous, or a call that finds messages with this source and
--- this tag in the place of stars. Other calls are as they were.
+-- The call of this kind with no more left open: a standard send in buffered mode, or synchronous,
+-- or a call that finds messages with this source and this tag in the place of stars. Other calls
+-- are as they were.
 abbrev pub narrowed_kind : Taken → Kind → Kind
 narrowed_kind taken.Buffered (Send Standard blocking message) = Send Buffered blocking message
 narrowed_kind taken.NotBuffered (Send Standard blocking message) = Send Synchronous blocking message
@@ -39,7 +40,8 @@ pub record IsNarrowed (p : MpiProgram) (call : ℕ) (way : Taken) (q : MpiProgra
   pub there : call_at q call ≡ option_map (narrowed_call way) (call_at p call)
   pub elsewhere : (c : ℕ) → (c ≡ call → ⊥) → call_at q c ≡ call_at p c
 
--- the call at this place is as it was, or leaves open no more than this way where it is the one that is meant
+-- the call at this place is as it was, or leaves open no more than this way where it is the one
+-- that is meant
 pub record IsNarrowedAt (p : MpiProgram) (call : ℕ) (way : Taken) (q : MpiProgram) (place : ℕ) : Type 0 where
   pub same : (place ≡ call → ⊥) → call_at q place ≡ call_at p place
   pub narrowed : place ≡ call → call_at q place ≡ option_map (narrowed_call way) (call_at p place)

@@ -22,7 +22,8 @@ pub record IsOtherMessage (p : MpiProgram) (call : ℕ) (taken way : Taken) : Ty
   pub is : way_to p send ≡ Some way
   pub other : way ≡ taken → ⊥
 
--- Of a call that found a message, the rank and the tag of each send of the program that fits it, but those that it found.
+-- Of a call that found a message, the rank and the tag of each send of the program that fits it,
+-- but those that it found.
 pub record AreOtherMessages (p : MpiProgram) (call : ℕ) (taken : Taken) (others : List Taken) : Type 0 where
   pub all : (send : ℕ) (way : Taken) → IsTrue (are_fit p send call) → way_to p send ≡ Some way → (way ≡ taken) ⊎ Contains others way
   pub each : All (λ way. IsOtherMessage p call taken way) others
@@ -32,8 +33,9 @@ pub record AreOthersBelow (p : MpiProgram) (call : ℕ) (taken : Taken) (count :
   pub all : (send : ℕ) (way : Taken) → send < count → IsTrue (are_fit p send call) → way_to p send ≡ Some way → (way ≡ taken) ⊎ Contains others way
   pub each : All (λ way. IsOtherMessage p call taken way) others
 
--- All other ways of a choice: a send that was buffered could not have been, and the other way round; a call that found a message could have found
--- that of each other rank and tag of a send of the program that fits it.
+-- All other ways of a choice: a send that was buffered could not have been, and the other way
+-- round; a call that found a message could have found that of each other rank and tag of a send of
+-- the program that fits it.
 abbrev pub AreOtherWays : MpiProgram → ℕ → Taken → List Taken → Type 0
 AreOtherWays p call taken.Buffered others = others ≡ taken.NotBuffered ∷ []
 AreOtherWays p call taken.NotBuffered others = others ≡ taken.Buffered ∷ []

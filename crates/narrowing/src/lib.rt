@@ -1,7 +1,9 @@
-//! Programs in which one choice is left open no more, and what is known of a choice where no run of the others ends stuck.
+//! Programs in which one choice is left open no more, and what is known of a choice where no run of
+//! the others ends stuck.
 //!
-//! A choice is what a call leaves open: whether a standard send is buffered, or which message a receive, matched probe or probe
-//! with a star finds. Calls are named by their place, from 0, in the program's list of calls.
+//! A choice is what a call leaves open: whether a standard send is buffered, or which message a
+//! receive, matched probe or probe with a star finds. Calls are named by their place, from 0, in
+//! the program's list of calls.
 #![tactic(auto)]
 
 mod laws;

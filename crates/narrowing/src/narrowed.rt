@@ -91,7 +91,8 @@ fn is_same(call: Option<Call>, other: Option<Call>) -> bool
     call == other
 }
 
-/// Whether the second program has at this place the first one's call, with no more left open where it is the one that is meant.
+/// Whether the second program has at this place the first one's call, with no more left open where
+/// it is the one that is meant.
 fn is_narrowed_at(
     program: &LongProgram,
     call: usize,
@@ -110,7 +111,8 @@ fn is_narrowed_at(
     is_same(other.call(place), wanted)
 }
 
-/// Whether the second program is the first one, but that this call of it leaves open no more than this way. Takes no memory.
+/// Whether the second program is the first one, but that this call of it leaves open no more than
+/// this way. Takes no memory.
 pub fn is_narrowed(program: &LongProgram, call: usize, way: Taken, other: &LongProgram) -> bool
     ensures { IsTrue result ↔ IsNarrowed program.now call way other.now }
 {

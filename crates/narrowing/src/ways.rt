@@ -46,7 +46,8 @@ fn is_same(way: Taken, other: Taken) -> bool
     way == other
 }
 
-/// Adds the rank and the tag of a send that fits the call, unless they are those that it found, or are there.
+/// Adds the rank and the tag of a send that fits the call, unless they are those that it found, or
+/// are there.
 fn put_other(
     others: &mut Vec<Taken>,
     program: &LongProgram,
@@ -69,7 +70,8 @@ fn put_other(
     Ok(())
 }
 
-/// The rank and the tag of each send of the program that fits the call, each once, but for those that it found.
+/// The rank and the tag of each send of the program that fits the call, each once, but for those
+/// that it found.
 fn other_messages(
     alloc: Global,
     program: &LongProgram,
@@ -94,8 +96,9 @@ fn one_way(alloc: Global, way: Taken) -> Result<Vec<Taken>, AllocError>
     Ok(ways)
 }
 
-/// All other ways of a choice that was made so: for a send the other one of the two, for a call that found a message the rank and the tag of each send of
-/// the program that fits it, each once, but for those that it found. The only error is want of memory.
+/// All other ways of a choice that was made so: for a send the other one of the two, for a call
+/// that found a message the rank and the tag of each send of the program that fits it, each once,
+/// but for those that it found. The only error is want of memory.
 pub fn other_ways(
     alloc: Global,
     program: &LongProgram,

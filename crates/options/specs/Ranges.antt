@@ -1,7 +1,8 @@
 -- The ranges of a search's options.
 use Rattle.std.specs.Prelude.{◌≡◌, ℕ, ◌≤◌}
 
--- the numbers of a search's options: workers, depth of the first tree, and conflicts for each worker
+-- the numbers of a search's options: workers, depth of the first tree, and conflicts for each
+-- worker
 abbrev pub AreInRange : ℕ → ℕ → ℕ → Type 0
 AreInRange workers depth budget = (1 ≤ workers) × (workers ≤ 64) × (depth ≤ 15) × (budget ≤ 1000000000)
 

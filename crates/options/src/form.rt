@@ -17,6 +17,7 @@ pub enum Form {
     Page,
     /// A JSON object.
     Object,
-    /// A line for each rank that waits, with the place of its call in front, as compilers tell faults.
+    /// A line for each rank that waits, with the place of its call in front, as compilers tell
+    /// faults.
     Messages,
 }

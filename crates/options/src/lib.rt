@@ -1,4 +1,5 @@
-//! How much work a search may do, in how many pieces a refutation is checked, and in which form an explanation is printed.
+//! How much work a search may do, in how many pieces a refutation is checked, and in which form an
+//! explanation is printed.
 #![tactic(auto)]
 
 mod form;

@@ -13,8 +13,8 @@ pub enum Searches {
     Sets,
 }
 
-/// The number of workers, 1 to 64, the depth of the first tree, 0 to 15, the conflicts that each worker may meet, 0 to
-/// 1,000,000,000, and which searches are made.
+/// The number of workers, 1 to 64, the depth of the first tree, 0 to 15, the conflicts that each
+/// worker may meet, 0 to 1,000,000,000, and which searches are made.
 #[derive(Clone, Copy, PartialEq, Eq)]
 pub struct Options {
     workers: u32,

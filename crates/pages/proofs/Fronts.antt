@@ -67,7 +67,8 @@ copied_behind {X} kept from count xs ys within many =
     ∙ ap (λ (l : List X). l ++ take (count - 0) (drop 0 ys)) (take_on kept (from - kept) xs ∙ ap (λ n. take n xs) at)
     ∙ ap (λ (l : List X). take from xs ++ l) all
 
--- where all lines from a place on are the first of others, those of the others that are missing are the rest of them
+-- where all lines from a place on are the first of others, those of the others that are missing are
+-- the rest of them
 pub appended : {X : Type 0} (from held count : ℕ) (xs ys : List X) → held ≡ length xs - from → held ≤ count → count ≡ length ys → take held (drop from xs) ≡ take held ys
     → xs ++ take (count - held) (drop held ys) ≡ take from xs ++ ys
 appended {X} from held count xs ys is within many same =

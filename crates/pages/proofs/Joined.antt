@@ -1,4 +1,5 @@
--- Full pages one after another: how many lines they have, where a line stands, and what is left after the first ones.
+-- Full pages one after another: how many lines they have, where a line stands, and what is left
+-- after the first ones.
 use Rattle.std.proofs.Common.{◌≡◌, ℕ, zero, suc, ◌+◌, ◌-◌, ◌*◌, ◌<◌, ◌≤◌, ◌^◌, List, [], ◌∷◌, ◌++◌, Option, Some, None, Bor, length, drop, take, refl, sym, ap, ◌∙◌, append_assoc, arith, length-append}
 use Rattle.std.specs.Option.{option_map}
 use Rattle.std.specs.Slice.{IsItemAt}

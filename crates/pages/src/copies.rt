@@ -66,8 +66,8 @@ pub(crate) fn copies<L: LineList>(
     Ok(copies)
 }
 
-/// Makes these lines the same as others, of which those that they lack are copied. Where memory runs
-/// out, they stay as they were.
+/// Makes these lines the same as others, of which those that they lack are copied. Where memory
+/// runs out, they stay as they were.
 pub(crate) fn go_on(alloc: Global, lines: &mut Vec<Line>, others: &[Line]) -> Result<(), AllocError>
     ensures same { OnOk result (lines.new.items ≡ others.now) }
     ensures unchanged { OnErr result (lines.new.items ≡ lines.old.items) }

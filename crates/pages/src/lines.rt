@@ -9,8 +9,8 @@ use refutations::{Line, LineList};
 use std::alloc::{AllocError, Global};
 use std::marker::Model;
 
-/// A list of proof lines that doesn't change. Its full pages may be shared with a log and with other
-/// lists; it may begin within the first of them.
+/// A list of proof lines that doesn't change. Its full pages may be shared with a log and with
+/// other lists; it may begin within the first of them.
 #[derive(Debug, Drop)]
 pub struct Lines {
     log: Log,
@@ -38,8 +38,8 @@ impl Lines {
         Lines { log, from }
     }
 
-    /// The log of which these are the lines after the first ones, which stand in one page, and how many
-    /// those are.
+    /// The log of which these are the lines after the first ones, which stand in one page, and how
+    /// many those are.
     pub(crate) fn parts(&self) -> (&Log, usize)
         ensures same { self.now ≡ drop result.1 result.0.now }
         ensures few { result.1 < 256 }
@@ -63,8 +63,8 @@ impl Lines {
         self.log.len().saturating_sub(self.from)
     }
 
-    /// The line at this place, counted from 0, in constant time and without memory; there is none from
-    /// the length on.
+    /// The line at this place, counted from 0, in constant time and without memory; there is none
+    /// from the length on.
     pub fn get(&self, place: usize) -> Option<&Line>
         ensures { option_map (λ line. line.now) result ≡ slice_get self.now place }
     {

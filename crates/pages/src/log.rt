@@ -98,8 +98,8 @@ impl Log {
         self.pages.len() * LINES_PER_PAGE + self.last.len()
     }
 
-    /// The line at this place, counted from 0, in constant time and without memory; there is none from
-    /// the length on.
+    /// The line at this place, counted from 0, in constant time and without memory; there is none
+    /// from the length on.
     pub fn get(&self, place: usize) -> Option<&Line>
         ensures { option_map (λ line. line.now) result ≡ slice_get self.now place }
     {
@@ -126,7 +126,8 @@ impl Log {
         Ok(())
     }
 
-    /// Appends these lines, of which none is copied. Where memory runs out, the log stays as it was.
+    /// Appends these lines, of which none is copied. Where memory runs out, the log stays as it
+    /// was.
     pub fn append(&mut self, alloc: Global, mut lines: Vec<Line>) -> Result<(), AllocError>
         ensures appended { OnOk result (self.new ≡ self.old ++ lines.items) }
         ensures unchanged { OnErr result (self.new ≡ self.old) }
@@ -162,8 +163,9 @@ impl Log {
         Ok(lines)
     }
 
-    /// Keeps its first pages, and has all lines of another log follow, whose full pages are shared. Of the
-    /// lines after them those that this log lacks are copied. Where memory runs out, it stays as it was.
+    /// Keeps its first pages, and has all lines of another log follow, whose full pages are shared.
+    /// Of the lines after them those that this log lacks are copied. Where memory runs out, it
+    /// stays as it was.
     fn share(&mut self, alloc: Global, kept: usize, other: &Log) -> Result<(), AllocError>
         requires within { kept * 256 ≤ length self.old }
         requires few { kept * 256 + length other.now < 2 ^ 63 }
@@ -177,8 +179,8 @@ impl Log {
         Ok(())
     }
 
-    /// Keeps its first `from` lines, and has copies of these follow. Where memory runs out, it stays as it
-    /// was.
+    /// Keeps its first `from` lines, and has copies of these follow. Where memory runs out, it
+    /// stays as it was.
     fn copy_behind(&mut self, alloc: Global, from: usize, lines: &Lines) -> Result<(), AllocError>
         requires within { from ≤ length self.old }
         requires few { from + length lines.now < 2 ^ 63 }
@@ -192,11 +194,12 @@ impl Log {
         self.share(alloc, kept, &later)
     }
 
-    /// Keeps its first `from` lines, and has these follow them. What [`after`](Log::after) handed out, from
-    /// this place on, of a log that begins with the same lines, costs as little as there: its full pages are
-    /// shared, also in place of lines that this log has, and of the lines after them only those are copied
-    /// that this log lacks. Any other list is copied line by line, as far as the log doesn't have it.
-    /// Where memory runs out, the log stays as it was; 2^63 lines are refused as want of memory.
+    /// Keeps its first `from` lines, and has these follow them. What [`after`](Log::after) handed
+    /// out, from this place on, of a log that begins with the same lines, costs as little as there:
+    /// its full pages are shared, also in place of lines that this log has, and of the lines after
+    /// them only those are copied that this log lacks. Any other list is copied line by line, as
+    /// far as the log doesn't have it. Where memory runs out, the log stays as it was; 2^63 lines
+    /// are refused as want of memory.
     pub fn follow(&mut self, alloc: Global, from: usize, lines: &Lines) -> Result<(), AllocError>
         requires { from ≤ length self.old }
         ensures followed { OnOk result (self.new ≡ take from self.old ++ lines.now) }

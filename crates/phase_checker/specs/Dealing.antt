@@ -46,7 +46,8 @@ pub record IsEarly (phases : List Phase) (order : List ℕ) (place : ℕ) (phase
   pub is : IsAt phases order later other
   pub sends : IsLooseSend entry other.program
 
--- The phase at the place keeps to itself: it finds no message of a later one, and leaves none to it.
+-- The phase at the place keeps to itself: it finds no message of a later one, and leaves none to
+-- it.
 pub record KeepsToItself (phases : List Phase) (order : List ℕ) (place : ℕ) (phase : Phase) : Type 0 where
   pub late : IsEarly phases order place phase → ⊥
   pub even : LeavesNothing phase.program

@@ -17,8 +17,8 @@ use phases::first_places;
 use semantics::Step;
 use std::alloc::{AllocError, Global};
 
-/// Takes the phase at a place of the order off what is left of the program, or tells that it isn't in
-/// front.
+/// Takes the phase at a place of the order off what is left of the program, or tells that it isn't
+/// in front.
 fn is_dealt(
     program: &LongProgram,
     phases: &[Phase],
@@ -136,8 +136,8 @@ fn stuck_along(
 /// A run of the program of a text that ends stuck, along a run of one of its phases that does: the
 /// steps are such a run of the program of the text `part`, which stands at this place of the order,
 /// from 0, behind the phases before it. These run first, and whatever can go on behind the steps
-/// does. The text has no limit but memory's and that numbers have 31 bits. The only error is want of
-/// memory.
+/// does. The text has no limit but memory's and that numbers have 31 bits. The only error is want
+/// of memory.
 ///
 /// `None` where the phases before aren't in front of the program, or where the run that is made so
 /// doesn't end stuck: a later phase may send what the stuck one waits for.

@@ -29,12 +29,13 @@ fn start_of(lines: usize, pieces: usize, piece: usize) -> usize
     (piece as u128 * lines as u128 / pieces as u128) as usize
 }
 
-/// Whether each line of one piece is derived from the formula and all lines before it, in this piece or an earlier one; else the
-/// first line of the piece that isn't.
+/// Whether each line of one piece is derived from the formula and all lines before it, in this
+/// piece or an earlier one; else the first line of the piece that isn't.
 ///
-/// There are 1 to 64 pieces. Pieces and the places of lines are numbered from 0; of `n` lines, piece `j` has those from
-/// `j * n / pieces`, rounded down, up to where the next piece starts. A piece without lines is right. Takes four bytes for each
-/// variable, and answers [`LinesFault::Memory`] where there isn't so much memory.
+/// There are 1 to 64 pieces. Pieces and the places of lines are numbered from 0; of `n` lines,
+/// piece `j` has those from `j * n / pieces`, rounded down, up to where the next piece starts. A
+/// piece without lines is right. Takes four bytes for each variable, and answers
+/// [`LinesFault::Memory`] where there isn't so much memory.
 pub fn check_piece(
     alloc: Global,
     formula: &Formula,
@@ -57,9 +58,11 @@ pub fn check_piece(
     }
 }
 
-/// Whether each line is derived from the formula and the lines before it; else the first that isn't.
+/// Whether each line is derived from the formula and the lines before it; else the first that
+/// isn't.
 ///
-/// All lines are one piece, which the calling thread checks: [`check_pieces`](crate::check_pieces) without threads and gate.
+/// All lines are one piece, which the calling thread checks: [`check_pieces`](crate::check_pieces)
+/// without threads and gate.
 pub fn check_all(alloc: Global, formula: &Formula, lines: &[Line]) -> Result<(), LinesFault>
     ensures { Answers formula.now lines.now result }
 {

@@ -11,11 +11,13 @@ use std::alloc::{AllocError, Global};
 use std::thread;
 use std::thread::Threads;
 
-/// What each piece passes through before it is checked, so that tests can tell the order of pieces and set it.
+/// What each piece passes through before it is checked, so that tests can tell the order of pieces
+/// and set it.
 pub trait PieceGate {
-    /// Called once for each piece, numbered from 0, by the thread that checks it and before its first line is checked. A gate
-    /// that keeps a piece waiting for another one has to give up at some time: where no thread can be started the calling
-    /// thread checks one piece after the other.
+    /// Called once for each piece, numbered from 0, by the thread that checks it and before its
+    /// first line is checked. A gate that keeps a piece waiting for another one has to give up at
+    /// some time: where no thread can be started the calling thread checks one piece after the
+    /// other.
     fn before(&self, piece: usize);
 }
 
@@ -57,15 +59,18 @@ fn answers_of<R: Threads + Sync, G: PieceGate + Sync>(
     )
 }
 
-/// Whether each line is derived from the formula and the lines before it; else the first that isn't, over all pieces.
+/// Whether each line is derived from the formula and the lines before it; else the first that
+/// isn't, over all pieces.
 ///
-/// The lines are checked in 1 to 64 pieces, each after it passed the gate; [`check_piece`] says which lines a piece has and
-/// what memory it takes. Each piece has a thread of its own, of which the calling thread is one. A piece whose thread can't be
-/// started is checked by the thread that was to start it, the calling thread or another piece's. The call waits for all pieces,
-/// also where one of them has a fault.
+/// The lines are checked in 1 to 64 pieces, each after it passed the gate; [`check_piece`] says
+/// which lines a piece has and what memory it takes. Each piece has a thread of its own, of which
+/// the calling thread is one. A piece whose thread can't be started is checked by the thread that
+/// was to start it, the calling thread or another piece's. The call waits for all pieces, also
+/// where one of them has a fault.
 ///
-/// [`LinesFault::Memory`] comes where any piece, or the list of the answers, met want of memory, whatever the other pieces
-/// found. Apart from that the answer doesn't depend on the number of pieces or on the order in which they are checked.
+/// [`LinesFault::Memory`] comes where any piece, or the list of the answers, met want of memory,
+/// whatever the other pieces found. Apart from that the answer doesn't depend on the number of
+/// pieces or on the order in which they are checked.
 pub fn check_pieces<R: Threads + Sync, G: PieceGate + Sync>(
     rt: &R,
     alloc: Global,

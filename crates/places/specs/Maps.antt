@@ -18,7 +18,8 @@ IsDigit byte = (48 ≤ byte) × (byte ≤ 57)
 abbrev pub AreDigits : List ℕ → Type 0
 AreDigits bytes = AllByRecursion IsDigit bytes
 
--- the line of a map on the line of a text whose number has these digits: its rank, and what is said of it
+-- the line of a map on the line of a text whose number has these digits: its rank, and what is said
+-- of it
 abbrev pub entry_line : List ℕ → List ℕ → List ℕ → List ℕ
 entry_line digits rank words = codes "line " ++ (digits ++ (codes ": rank " ++ (rank ++ (codes ", " ++ words))))
 
@@ -76,8 +77,8 @@ pub record IsNewEntry (text : List ℕ) (above : List (List ℕ)) (line : List �
 abbrev pub IsEnd : List (List ℕ) → List ℕ → Type 0
 IsEnd above line = (line ≡ []) × ((front : List (List ℕ)) × (above ≡ front ++ (codes "end" ++ 10 ∷ []) ∷ []))
 
--- The line, with its LF, may stand in a map of the text below these lines: `map 1`, then the text's name, then remarks and
--- entries. Behind the last LF stands a line of no byte.
+-- The line, with its LF, may stand in a map of the text below these lines: `map 1`, then the text's
+-- name, then remarks and entries. Behind the last LF stands a line of no byte.
 abbrev pub MayStand : List ℕ → List (List ℕ) → List ℕ → Type 0
 MayStand text [] line = line ≡ codes "map 1" ++ 10 ∷ []
 MayStand text (first ∷ []) line = line ≡ heading text ++ 10 ∷ []

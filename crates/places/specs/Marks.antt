@@ -6,7 +6,8 @@ use Rattle.places.specs.Maps.{IsDigit}
 abbrev pub Lacks : List ℕ → List ℕ → Type 0
 Lacks mark text = (front behind : List ℕ) → text ≡ front ++ (mark ++ behind) → ⊥
 
--- the text is what stands before the mark, the mark, and what stands behind it; and the mark stands nowhere before that
+-- the text is what stands before the mark, the mark, and what stands behind it; and the mark stands
+-- nowhere before that
 pub record IsAround (mark text front behind : List ℕ) : Type 0 where
   pub parts : text ≡ front ++ (mark ++ behind)
   pub first : (a b : List ℕ) → text ≡ a ++ (mark ++ b) → length front ≤ length a

@@ -18,7 +18,8 @@ marker forms.Picture = codes "line "
 marker forms.Page = codes "line "
 marker forms.Messages = codes "line "
 
--- what stands for a byte in a text, in quotes, or in a picture or a page: a question mark where it isn't printable ASCII
+-- what stands for a byte in a text, in quotes, or in a picture or a page: a question mark where it
+-- isn't printable ASCII
 abbrev pub plain_byte : ℕ → List ℕ
 plain_byte byte = if nat_lt byte 32 || nat_lt 126 byte then 63 ∷ [] else byte ∷ []
 
@@ -48,8 +49,8 @@ abbrev pub closing : Form → List ℕ
 closing forms.Object = codes "\""
 closing _ = codes ")"
 
--- what a text of this form tells of the words of a map: all in an object, and in another what stands before the first mark
--- ` < `, behind which callers stand
+-- what a text of this form tells of the words of a map: all in an object, and in another what
+-- stands before the first mark ` < `, behind which callers stand
 abbrev pub IsTold : Form → List ℕ → List ℕ → Type 0
 IsTold forms.Object words told = told ≡ words
 IsTold _ words told = (Lacks (codes " < ") words × (told ≡ words)) ⊎ ((callers : List ℕ) × IsAround (codes " < ") words told callers)
@@ -63,7 +64,8 @@ pub record Piece : Type 0 where
   pub kept : List ℕ
   pub told : List ℕ
 
--- what is added behind the digits of a line's number: the place that the map has for that line, or nothing where it has none
+-- what is added behind the digits of a line's number: the place that the map has for that line, or
+-- nothing where it has none
 abbrev pub IsSaid : Form → List ℕ → List ℕ → List ℕ → Type 0
 IsSaid form map digits added =
     ((words : List ℕ) × (short : List ℕ) × HasEntry map digits words × IsTold form words short × (added ≡ place_text form short))
@@ -93,7 +95,8 @@ IsNamedIf false form map digits named = (added : List ℕ) × IsSaid form map di
 abbrev pub IsNamed : Form → List ℕ → List ℕ → List ℕ → Type 0
 IsNamed form = IsNamedIf (is_in_place form) form
 
--- the part ends with the first marker in it and the digits behind that, and in their place it is told what names their line
+-- the part ends with the first marker in it and the digits behind that, and in their place it is
+-- told what names their line
 pub record IsPlaced (form : Form) (map : List ℕ) (piece : Piece) : Type 0 where
   pub front : List ℕ
   pub digits : List ℕ
@@ -115,7 +118,8 @@ abbrev pub AreCut : Form → List ℕ → List Piece → List ℕ → Type 0
 AreCut form map [] rest = Unit {0}
 AreCut form map (piece ∷ pieces) rest = IsPlaced form map piece × BeginsWithNoDigit (kept_of pieces ++ rest) × AreCut form map pieces rest
 
--- The one text is cut behind each number of a line, and the other is the same with the places told there.
+-- The one text is cut behind each number of a line, and the other is the same with the places told
+-- there.
 pub record IsWoven (form : Form) (map plain told : List ℕ) : Type 0 where
   pub pieces : List Piece
   pub rest : List ℕ
@@ -124,8 +128,8 @@ pub record IsWoven (form : Form) (map plain told : List ℕ) : Type 0 where
   pub plain_is : plain ≡ kept_of pieces ++ rest
   pub told_is : told ≡ told_of pieces ++ rest
 
--- The text with all its places. Strings of an object name lines as labels of a graph do, with the same quoting: they come first,
--- then its members.
+-- The text with all its places. Strings of an object name lines as labels of a graph do, with the
+-- same quoting: they come first, then its members.
 abbrev pub HasPlaces : Form → List ℕ → List ℕ → List ℕ → Type 0
 HasPlaces forms.Object map plain told = (strings : List ℕ) × IsWoven forms.Graph map plain strings × IsWoven forms.Object map strings told
 HasPlaces form map plain told = IsWoven form map plain told

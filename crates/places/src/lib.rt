@@ -1,5 +1,5 @@
-//! The map of a program's text, which the recorder writes: for each line of the text the place in the sources that it comes from. A text
-//! that names lines gets these places beside them.
+//! The map of a program's text, which the recorder writes: for each line of the text the place in
+//! the sources that it comes from. A text that names lines gets these places beside them.
 //!
 //! A map is trusted by nobody: it changes words alone. Lines count from 1.
 #![tactic(auto)]

@@ -151,9 +151,10 @@ fn line_count(text: &[u8]) -> usize
 
 /// What a map says of the lines of this text.
 ///
-/// A map begins with the line `map 1` and the one that names its text, and ends with the line `end`. Between them stand
-/// remarks, and at most one line for each line of the text, up to 2,147,483,647. Of a map of another text that is told;
-/// else a fault names the first line, from 1, that may not stand there or is missing.
+/// A map begins with the line `map 1` and the one that names its text, and ends with the line
+/// `end`. Between them stand remarks, and at most one line for each line of the text, up to
+/// 2,147,483,647. Of a map of another text that is told; else a fault names the first line, from 1,
+/// that may not stand there or is missing.
 pub fn read_map<'a>(alloc: Global, map: &'a [u8], text: &[u8]) -> Result<Places<'a>, MapFault>
     ensures places { IfOk result (AreFrom map.now) }
     ensures whole { IfOk result (λ _places. IsMapOf text.now map.now) }

@@ -83,7 +83,8 @@ fn put_words(out: &mut Vec<u8>, form: Form, words: &[u8]) -> Result<(), AllocErr
     Ok(())
 }
 
-/// What a text of this form tells of the words of a map: the call and its place, and in an object its callers too.
+/// What a text of this form tells of the words of a map: the call and its place, and in an object
+/// its callers too.
 fn told_of<'a>(form: Form, words: &'a [u8]) -> &'a [u8]
     ensures { IsTold form words.now result.now }
 {

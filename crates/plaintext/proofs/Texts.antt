@@ -1,4 +1,5 @@
--- Texts and their lines: the lines of what lines are joined to, and what a text's lines are joined to.
+-- Texts and their lines: the lines of what lines are joined to, and what a text's lines are joined
+-- to.
 use Rattle.std.proofs.Common.{◌≡◌, ℕ, ◌<◌, ◌≤◌, Bool, true, false, cond, eqb, List, [], ◌∷◌, ◌++◌, length, min, refl, sym, ap, ◌∙◌, append_assoc, arith}
 use Rattle.std.specs.List.{AllByRecursion, flat_map, onto_first, join_with_byte}
 use Rattle.std.proofs.lemmas.Grind.{flat_map-append}

@@ -1,10 +1,12 @@
--- The first faulty line of a text. A format is a language of lists of lines, and what is wrong with a text is told at the first
--- line with which its lines can no longer be a front of any list of the language. No parser is needed to say so.
+-- The first faulty line of a text. A format is a language of lists of lines, and what is wrong with
+-- a text is told at the first line with which its lines can no longer be a front of any list of the
+-- language. No parser is needed to say so.
 use Rattle.std.specs.Prelude.{◌≡◌, ℕ, Bool, true, List, [], ◌∷◌, ◌++◌, map}
 use Rattle.std.specs.List.{AllByRecursion, flat_map}
 use Rattle.plaintext.specs.Plain.{IsPlain, line_of, text_lines}
 
--- To the end of a text stand its lines, and then the end itself, which counts as a last line with no byte at all.
+-- To the end of a text stand its lines, and then the end itself, which counts as a last line with
+-- no byte at all.
 abbrev pub to_end : List (List ℕ) → List (List ℕ)
 to_end lines = lines ++ [] ∷ []
 
@@ -20,7 +22,8 @@ CanBegin Value Keeps lines front = (value : Value) × Keeps value × BeginsWith 
 abbrev pub IsClosedUnderFronts : (List (List ℕ) → Type 0) → Type 0
 IsClosedUnderFronts CanGoOn = (front more : List (List ℕ)) → CanGoOn (front ++ more) → CanGoOn front
 
--- The line after these lines is the text's first faulty one: the lines before it can go on, and with it they can't.
+-- The line after these lines is the text's first faulty one: the lines before it can go on, and
+-- with it they can't.
 pub record IsFirstFaultyLine (CanGoOn : List (List ℕ) → Type 0) (bytes : List ℕ) (before : List (List ℕ)) (line : List ℕ) : Type 0 where
   -- the text's lines are these, the faulty one, and others after it
   pub cut : (after : List (List ℕ)) × (text_lines bytes ≡ before ++ line ∷ after)
@@ -37,7 +40,8 @@ LinesMakeText = (bytes : List ℕ) → flat_map (λ line. line) (text_lines byte
 abbrev pub WordsMakeLines : Type 0
 WordsMakeLines = (lines : List (List (List ℕ))) → AllByRecursion (AllByRecursion IsPlain) lines → text_lines (flat_map line_of lines) ≡ to_end (map line_of lines)
 
--- Whatever test says which lines can go on, if it passes each front of what it passes: two first faulty lines of one text are the same line, after the same lines.
+-- Whatever test says which lines can go on, if it passes each front of what it passes: two first
+-- faulty lines of one text are the same line, after the same lines.
 abbrev pub OneFaultyLine : Type 0
 OneFaultyLine = (test : List (List ℕ) → Bool) (bytes : List ℕ) (before before' : List (List ℕ)) (line line' : List ℕ)
     → IsClosedUnderFronts (λ lines. test lines ≡ true)

@@ -4,7 +4,8 @@ use Rattle.std.specs.Prelude.{ℕ, zero, suc, ◌+◌, ◌<◌, ◌≤◌, List,
 use Rattle.std.specs.List.{AllByRecursion, onto_first, join_with_byte}
 use Rattle.std.specs.Int.Digits.{digits_of}
 
--- The numeral of a number is its decimal digits, of a number of any size: 0 is the one digit `0`, and no other numeral begins with `0`.
+-- The numeral of a number is its decimal digits, of a number of any size: 0 is the one digit `0`,
+-- and no other numeral begins with `0`.
 unfoldable pub numeral : ℕ → List ℕ
 numeral zero = 48 ∷ []
 numeral (suc n) = map (λ d. 48 + d) (digits_of 10 (suc n))
@@ -18,7 +19,8 @@ abbrev pub spaced : List (List ℕ) → List ℕ
 spaced [] = []
 spaced (word ∷ others) = 32 ∷ (word ++ spaced others)
 
--- The lines of a text are what each LF ends, the LF with it, and then what stands after the last LF, which may be nothing.
+-- The lines of a text are what each LF ends, the LF with it, and then what stands after the last
+-- LF, which may be nothing.
 abbrev pub text_lines : List ℕ → List (List ℕ)
 text_lines [] = [] ∷ []
 text_lines (b ∷ bytes) = if b == 10 then (10 ∷ []) ∷ text_lines bytes else onto_first b (text_lines bytes)

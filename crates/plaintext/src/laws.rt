@@ -12,8 +12,8 @@ pub fn words_make_lines()
     ensures { WordsMakeLines }
 {}
 
-/// A text has one first faulty line at most, for any Boolean test of lines that can go on, so long as what can go on
-/// can go on at each of its fronts.
+/// A text has one first faulty line at most, for any Boolean test of lines that can go on, so long
+/// as what can go on can go on at each of its fronts.
 pub fn one_faulty_line()
     ensures { OneFaultyLine }
 {}

@@ -2,7 +2,8 @@
 //!
 //! A text is lines, each ended by one LF; a line is words, parted by one space each; a number is
 //! written as its decimal digits with no leading zero. What a format adds are the words of its
-//! lines. `specs/Plain.antt` defines the parts, `specs/Fronts.antt` the first faulty line of a text.
+//! lines. `specs/Plain.antt` defines the parts, `specs/Fronts.antt` the first faulty line of a
+//! text.
 #![tactic(auto)]
 
 mod laws;

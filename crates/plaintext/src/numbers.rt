@@ -36,7 +36,8 @@ pub fn number_of(word: &[u8]) -> Option<u32>
     Some(value)
 }
 
-/// Writes the number's numeral at the end. The only error is want of memory, after which nothing is written.
+/// Writes the number's numeral at the end. The only error is want of memory, after which nothing is
+/// written.
 pub fn put_number(out: &mut Vec<u8>, number: u32) -> Result<(), AllocError>
     ensures written { OnOk result (out.new.items ≡ out.old.items ++ numeral number) }
     ensures unchanged { OnErr result (out.new.items ≡ out.old.items) }

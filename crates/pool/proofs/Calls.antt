@@ -1,4 +1,5 @@
--- Each call that isn't answered with want of memory: what it makes of the pool, and that it is a step.
+-- Each call that isn't answered with want of memory: what it makes of the pool, and that it is a
+-- step.
 use Rattle.std.proofs.Common.{◌≡◌, ◌<◌, ℕ, List, length, Result, Ok, Err, refl, sym, subst}
 use Rattle.std.proofs.lemmas.List.{length-map}
 use Rattle.std.proofs.lemmas.Option.{slice_get_within}

@@ -1,4 +1,5 @@
--- A pool's log only grows, and the program and its formula stay. So what was told once stands there for each later call.
+-- A pool's log only grows, and the program and its formula stay. So what was told once stands there
+-- for each later call.
 use Rattle.std.proofs.Common.{◌≡◌, ℕ, zero, suc, ◌+◌, ◌-◌, ◌<◌, ◌≤◌, List, [], ◌∷◌, ◌++◌, length, drop, Option, Some, None, slice_get, Ok, Err, refl, sym, ap, ◌∙◌, subst, append_assoc, append-nil, arith}
 use Rattle.std.proofs.lemmas.List.{length-append}
 use Rattle.std.proofs.lemmas.Option.{slice_get_within}

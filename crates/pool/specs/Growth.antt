@@ -7,7 +7,8 @@ use Rattle.pool.specs.declared.entry.Operation.TheVariants.{Publish, Fetch, Clos
 use Rattle.pool.specs.declared.entry.LoggedCall.{LoggedCall}
 use Rattle.pool.specs.States.{PoolState, IsRun, after_all}
 
--- the place in the log, from 0, of the first line that an accepted publish was given, or that an accepted fetch answered
+-- the place in the log, from 0, of the first line that an accepted publish was given, or that an
+-- accepted fetch answered
 abbrev pub first_place : Conjunction → Operation → Option ℕ
 first_place formula (Publish count (Ok base)) = Some (base - (length formula.clauses + 1))
 first_place formula (Publish count (Err fault)) = None

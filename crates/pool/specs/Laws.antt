@@ -24,7 +24,8 @@ ClosedPoolsRefute = (h : PoolState) → IsSound h → ((leaf : ℕ) → IsOpen h
 abbrev pub RunsStaySound : Type 0
 RunsStaySound = (h : PoolState) (items : List LoggedCall) → IsSound h → IsRun h items → IsSound (after_all h items)
 
--- after a run of calls the history, with its lines and its schedules, is legal from the opening pool on
+-- after a run of calls the history, with its lines and its schedules, is legal from the opening
+-- pool on
 abbrev pub RunsAreLegal : Type 0
 RunsAreLegal =
     (encoded : EncodedProgram) (tree : TreeState) (events : List Event) (pool : PoolWithHistory) (replies : List Reply) → IsPoolRun encoded tree events pool replies

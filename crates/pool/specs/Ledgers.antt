@@ -3,7 +3,8 @@ use Rattle.std.specs.Prelude.{◌≡◌, ℕ, ◌+◌, ◌<◌, List, length}
 use Rattle.pool.specs.declared.entry.Entry.{Entry}
 use Rattle.pool.specs.declared.why.Why.{Why}
 
--- there is room for so many calls and so many reasons, and so many places of both are kept for leaves
+-- there is room for so many calls and so many reasons, and so many places of both are kept for
+-- leaves
 pub record LedgerState : Type 0 where
   pub history : List Entry
   pub reasons : List Why

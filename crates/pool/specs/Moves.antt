@@ -11,7 +11,8 @@ use Rattle.pool.specs.Growth.{Tells}
 use Rattle.pool.specs.Replies.{resolved_lines, DeriveAfter}
 use Rattle.pool.specs.States.{PoolState, IsRun, after_all}
 
--- the hint names one of the batch's own lines, or a clause with a smaller number than its first line
+-- the hint names one of the batch's own lines, or a clause with a smaller number than its first
+-- line
 abbrev pub is_earlier : ℕ → Hint → Bool
 is_earlier base (Known number) = nat_lt number base
 is_earlier base (Own place) = true
@@ -39,7 +40,8 @@ moved_hint old base number = if nat_lt number old then number else (number - old
 abbrev pub moved_line : ℕ → ℕ → ProofLine → ProofLine
 moved_line old base line = record { literals = line.literals; hints = map (moved_hint old base) line.hints }
 
--- lines that derive behind a log derive behind any longer one, with their own numbers moved, unless they name numbers past the log
+-- lines that derive behind a log derive behind any longer one, with their own numbers moved, unless
+-- they name numbers past the log
 abbrev pub BatchesMove : Type 0
 BatchesMove =
     (f : Conjunction) (log more : List ProofLine) (batch : List BatchLine) → IsTrue (are_earlier (number_after f log) batch)

@@ -33,7 +33,8 @@ after_event k (Found worker steps) (reply.Found given) = after_found k worker st
 after_event k (Leave worker why) reply.Leave = noted k (leave_item worker why)
 after_event k event given = k
 
--- the calls, made in order from this pool on, are answered so, one reply each, and leave the other pool
+-- the calls, made in order from this pool on, are answered so, one reply each, and leave the other
+-- pool
 abbrev pub AreAnswered : PoolWithHistory → List Event → PoolWithHistory → List Reply → Type 0
 AreAnswered k [] pool [] = pool ≡ k
 AreAnswered k [] pool (given ∷ replies) = ⊥

@@ -35,8 +35,8 @@ use Rattle.pool.specs.declared.entry.LoggedCall.{LoggedCall}
 use Rattle.pool.specs.declared.why.Why.{Why}
 use Rattle.pool.specs.Replies.{resolved_lines, DeriveAfter, FailsAt, most_lines}
 
--- All but the history. `closed` has for each node of the tree the number of the clause that closes it, and 0 where
--- none does; `reasons` are those for which workers left, the oldest first.
+-- All but the history. `closed` has for each node of the tree the number of the clause that closes
+-- it, and 0 where none does; `reasons` are those for which workers left, the oldest first.
 pub record PoolState : Type 0 where
   pub program : MpiProgram
   pub formula : Conjunction
@@ -82,8 +82,9 @@ IsClosedBy h leaf number = IsRefuted (clauses_before h.formula h.log) (path_at h
 abbrev pub IsVariable : PoolState → ℕ → Type 0
 IsVariable h variable = (1 ≤ variable) × (variable ≤ h.formula.variables)
 
--- Each line derives from what stands before it, each closed node is refuted by its clause, and a kept schedule is a stuck run.
--- The tree is over the formula's variables, and the formula is the program's.
+-- Each line derives from what stands before it, each closed node is refuted by its clause, and a
+-- kept schedule is a stuck run. The tree is over the formula's variables, and the formula is the
+-- program's.
 pub record IsSound (h : PoolState) : Type 0 where
   pub encoded : IsEncoded (record { program = h.program; pairs = pairs_of h.program; formula = h.formula })
   pub few_lines : length h.log ≤ most_lines
@@ -130,7 +131,8 @@ noted k item = record { held = after k.held item; history = k.history ++ item.en
 abbrev pub with_places : PoolWithHistory → ℕ → PoolWithHistory
 with_places k places = record k { places = places }
 
--- a reply that may be given to a call at this point. What a refused call was given is not told by its entry
+-- a reply that may be given to a call at this point. What a refused call was given is not told by
+-- its entry
 abbrev pub IsReply : PoolState → Operation → List ProofLine → List Step → Type 0
 IsReply h (Publish count (Ok base)) lines steps =
     (length lines ≡ count) × (base ≡ next_number h) × DeriveAfter h.formula h.log lines × (length h.log + count ≤ most_lines)
@@ -168,7 +170,8 @@ abbrev pub after_all : PoolState → List LoggedCall → PoolState
 after_all h [] = h
 after_all h (item ∷ items) = after_all (after h item) items
 
--- the items are the history with its lines and its schedules. Taken in order from the opening pool, they give just these replies and this pool
+-- the items are the history with its lines and its schedules. Taken in order from the opening pool,
+-- they give just these replies and this pool
 pub record IsLegal (opening : PoolState) (items : List LoggedCall) (k : PoolWithHistory) : Type 0 where
   pub entries : k.history ≡ map (λ (item : LoggedCall). item.entry) items
   pub run : IsRun opening items
@@ -213,7 +216,8 @@ found_item worker steps reply = item_of worker (Found (length steps) reply) [] (
 abbrev pub leave_item : ℕ → Option Why → LoggedCall
 leave_item worker why = item_of worker (Leave why) [] []
 
--- ---- the exact reply to each call, and the pool after it. Want of memory changes nothing and is not in the history
+-- ---- the exact reply to each call, and the pool after it. Want of memory changes nothing and is
+-- not in the history
 
 abbrev pub IsPublished : PoolState → List BatchLine → Result ℕ PublishFault → Type 0
 IsPublished h batch (Ok base) =
@@ -279,12 +283,13 @@ after_found k worker steps (Err found.NotStuck) = noted k (found_item worker ste
 
 -- ---- evidence
 
--- the nodes are those of this tree in preorder, each leaf with the number of the clause that closes it
+-- the nodes are those of this tree in preorder, each leaf with the number of the clause that closes
+-- it
 abbrev pub IsTreeOf : List TreeNode → List ℕ → List Node → Type 0
 IsTreeOf nodes numbers claimed = (tree : Tree) × (preorder tree ≡ claimed) × IsBelow nodes numbers tree 0
 
--- all leaves are closed and nothing was found, and the claim is the log with the tree, which refute the formula; it may have lines that
--- are not needed
+-- all leaves are closed and nothing was found, and the claim is the log with the tree, which refute
+-- the formula; it may have lines that are not needed
 pub record IsRefutationOf (h : PoolState) (claim : ClaimedRefutation) : Type 0 where
   pub none_found : IsNone h.schedule
   pub none_open : (leaf : ℕ) → IsOpen h leaf → ⊥

@@ -28,7 +28,8 @@ pub enum AssembleFault {
     Open,
 }
 
-/// The schedule of a run of the program that ends stuck. Each such run is within the limits of schedules.
+/// The schedule of a run of the program that ends stuck. Each such run is within the limits of
+/// schedules.
 pub fn schedule_of_run(program: &Program, steps: Vec<Step>) -> Schedule
     requires { IsStuckRun program.now steps.items }
     ensures { result ≡ steps.items }
@@ -54,8 +55,8 @@ pub(crate) fn lines_of(alloc: Global, log: &Log) -> Result<Vec<Line>, AllocError
     Ok(lines)
 }
 
-/// The refutation of these lines and a tree all of whose leaves are closed by these clauses, which is within
-/// the limits of refutations.
+/// The refutation of these lines and a tree all of whose leaves are closed by these clauses, which
+/// is within the limits of refutations.
 pub(crate) fn refutation_of(
     alloc: Global,
     formula: &Formula,

@@ -11,8 +11,8 @@ use std::alloc::Global;
 use std::marker::Model;
 use std::mem;
 
-/// The lines of a batch that derive behind some log, and the number that the first has there. Clauses are numbered from 1,
-/// and the lines of the log after those of the formula.
+/// The lines of a batch that derive behind some log, and the number that the first has there.
+/// Clauses are numbered from 1, and the lines of the log after those of the formula.
 #[derive(Drop)]
 pub struct DerivedLines {
     base: u32,
@@ -27,7 +27,8 @@ impl Model for DerivedLines {
     ghost view = { λ d. record { base = d.base; lines = d.lines.items } };
 }
 
-/// What a number becomes where all from `first` on are moved, so that they begin at `base`; a number that no line can hold where it doesn't fit.
+/// What a number becomes where all from `first` on are moved, so that they begin at `base`; a
+/// number that no line can hold where it doesn't fit.
 fn moved_hint(first: u32, base: u32, number: u32) -> u32
     ensures { result ≡ capped_move first base number }
 {
@@ -83,7 +84,8 @@ impl DerivedLines {
         DerivedLines { base, lines }
     }
 
-    /// The lines where the first has this number: hints that name one of them are moved with it. Takes no memory.
+    /// The lines where the first has this number: hints that name one of them are moved with it.
+    /// Takes no memory.
     pub(crate) fn numbered(self, alloc: Global, base: u32) -> Vec<Line>
         requires { IsTrue (list_all (λ line. are_numbers line.hints) (map (moved_line self.base base) self.lines)) }
         ensures { result.items ≡ map (moved_line self.base base) self.lines }

@@ -12,8 +12,8 @@ pub enum PublishFault {
     /// Memory ran out.
     #[error("memory")]
     Memory,
-    /// The first line, by its place in the batch from 0, that doesn't derive from the formula, the log
-    /// and the lines before it.
+    /// The first line, by its place in the batch from 0, that doesn't derive from the formula, the
+    /// log and the lines before it.
     #[error("line {0} not derived")]
     NotDerived(usize),
     /// Each line derives, and the log would have more than 1,000,000 lines.
@@ -56,7 +56,8 @@ pub enum SplitFault {
     /// There is no open leaf of this number.
     #[error("not open")]
     NotOpen,
-    /// The leaf is open, and the tree would have more than 65,536 nodes, or a path more than 64 literals.
+    /// The leaf is open, and the tree would have more than 65,536 nodes, or a path more than 64
+    /// literals.
     #[error("tree full")]
     Full,
     /// The leaf is open and there is room, and the formula has no variable of this number.

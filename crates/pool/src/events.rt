@@ -13,8 +13,8 @@ use semantics::Step;
 use std::alloc::{AllocError, Global};
 use trees::Tree;
 
-/// A call of a pool, with all that it is given. Workers, leaves and places of lines count from 0, variables
-/// and clauses from 1.
+/// A call of a pool, with all that it is given. Workers, leaves and places of lines count from 0,
+/// variables and clauses from 1.
 #[derive(Drop)]
 pub enum Event {
     /// [`Pool::publish`].
@@ -157,8 +157,8 @@ fn with_replies(
     }
 }
 
-/// Makes these calls, in order, of a new pool, and answers the pool with the reply to each. Want of memory in
-/// any of them ends the run.
+/// Makes these calls, in order, of a new pool, and answers the pool with the reply to each. Want of
+/// memory in any of them ends the run.
 pub fn run(
     alloc: Global,
     encoded: Encoded,

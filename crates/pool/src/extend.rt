@@ -18,7 +18,8 @@ use std::alloc::{AllocError, Global};
 /// How many lines a log has at most.
 pub const MOST_LINES: usize = 1_000_000;
 
-/// How many lines a batch has at most, so that each of them has a number that a line can hold as a hint.
+/// How many lines a batch has at most, so that each of them has a number that a line can hold as a
+/// hint.
 pub(crate) const LONGEST_BATCH: usize = 2_000_000_000;
 
 /// The number of what a hint names; a number that no line can hold where it doesn't fit.
@@ -41,7 +42,8 @@ fn resolved_hints(alloc: Global, base: u32, hints: &[Hint]) -> Result<Vec<u32>, 
     Ok(numbers)
 }
 
-/// The line of a batch whose first line has this number; none where no line can hold one of its hints.
+/// The line of a batch whose first line has this number; none where no line can hold one of its
+/// hints.
 fn resolved_line(alloc: Global, base: u32, line: &BatchLine) -> Result<Option<Line>, AllocError>
     ensures made { IfOk result (λ found. IfSome found (λ made. made ≡ resolved base line.now)) }
     ensures none { IfOk result (λ found. IfNone found (are_numbers (map (resolved_hint base) line.now.hints.items) ≡ false)) }
@@ -111,8 +113,8 @@ pub(crate) fn checked_lines(
     Ok(lines)
 }
 
-/// The lines of a batch whose first line has this number, each of which derives from the formula, the log and the lines before it. Those that are known to
-/// derive aren't checked again, nor made.
+/// The lines of a batch whose first line has this number, each of which derives from the formula,
+/// the log and the lines before it. Those that are known to derive aren't checked again, nor made.
 fn lines_behind(
     alloc: Global,
     known: &mut PartialAssignment,
@@ -137,8 +139,9 @@ fn lines_behind(
     }
 }
 
-/// Appends the lines of a batch whose first line has this number, all or none. Where lines are given that are known to derive, these are appended,
-/// with their numbers moved. A batch of more than [`LONGEST_BATCH`] lines is refused as want of memory, which comes long before.
+/// Appends the lines of a batch whose first line has this number, all or none. Where lines are
+/// given that are known to derive, these are appended, with their numbers moved. A batch of more
+/// than [`LONGEST_BATCH`] lines is refused as want of memory, which comes long before.
 pub(crate) fn extend(
     alloc: Global,
     known: &mut PartialAssignment,

@@ -46,10 +46,10 @@ pub struct Status {
     pub why: Option<Why>,
 }
 
-/// What the workers of a search over one program share. Each line of its log derives from the formula
-/// and the lines before it, each closed leaf is refuted by its clause, and a schedule that it keeps is a
-/// run of the program that ends stuck. Workers are numbered from 0; their calls stand in the history,
-/// in order, but for those that were refused for want of memory.
+/// What the workers of a search over one program share. Each line of its log derives from the
+/// formula and the lines before it, each closed leaf is refuted by its clause, and a schedule that
+/// it keeps is a run of the program that ends stuck. Workers are numbered from 0; their calls stand
+/// in the history, in order, but for those that were refused for want of memory.
 #[derive(Drop)]
 pub struct Pool {
     encoded: Arc<Encoded>,
@@ -156,8 +156,8 @@ fn tables(
 }
 
 impl Pool {
-    /// The pool in which all leaves of the tree are open, and nothing else is. The tree has to be over as many variables as
-    /// the formula has.
+    /// The pool in which all leaves of the tree are open, and nothing else is. The tree has to be
+    /// over as many variables as the formula has.
     pub fn new(alloc: Global, encoded: Encoded, tree: Tree) -> Result<Pool, AllocError>
         requires { tree.variables ≡ encoded.formula.variables }
         ensures { IfOk result (λ pool. pool ≡ opening encoded tree) }
@@ -219,7 +219,8 @@ impl Pool {
         &self.log
     }
 
-    /// The program with its formula, for whoever reads it while others have the pool. It isn't copied. The only error is want of memory.
+    /// The program with its formula, for whoever reads it while others have the pool. It isn't
+    /// copied. The only error is want of memory.
     pub fn lend_encoded(&self) -> Result<Arc<Encoded>, AllocError>
         ensures program { IfOk result (λ lent. (arc_value lent).program ≡ self.now.held.program) }
         ensures formula { IfOk result (λ lent. (arc_value lent).formula ≡ self.now.held.formula) }
@@ -304,8 +305,9 @@ impl Pool {
         }
     }
 
-    /// The schedule that was found, or else the refutation of the formula by all lines of the log and the
-    /// tree with the clauses that close its leaves, which there is where all leaves are closed.
+    /// The schedule that was found, or else the refutation of the formula by all lines of the log
+    /// and the tree with the clauses that close its leaves, which there is where all leaves are
+    /// closed.
     pub fn assemble(&self, alloc: Global) -> Result<Evidence, AssembleFault>
         ensures evidence { IfOk result (λ evidence. IsAssembled self.now.held evidence) }
         ensures open { result ≡ Err AssembleFault.Open ↔ IsUndecided self.now.held }
@@ -339,7 +341,8 @@ impl Pool {
         refutation_of(alloc, formula, lines, &self.tree, self.closed.as_slice())
     }
 
-    /// The same evidence of a pool that isn't needed any more: the lines of the log are moved where nobody else has them.
+    /// The same evidence of a pool that isn't needed any more: the lines of the log are moved where
+    /// nobody else has them.
     pub fn into_evidence(self, alloc: Global) -> Result<Evidence, AssembleFault>
         ensures evidence { IfOk result (λ evidence. IsAssembled self.held evidence) }
         ensures open { result ≡ Err AssembleFault.Open ↔ IsUndecided self.held }
@@ -366,12 +369,13 @@ impl Pool {
         }
     }
 
-    /// Appends the lines of a batch to the log, each `Own` hint as the number of the batch's line at that
-    /// place, and answers the number of the first line; for an empty batch, that of the next line. The
-    /// check of the lines takes no time by the size of the formula or the log. A batch of more than
-    /// 2,000,000,000 lines is refused as want of memory, which comes long before. Refused with
-    /// [`PublishFault::NotDerived`] at the first line that doesn't derive, counted from 0, and else with
-    /// [`PublishFault::Full`] where the log would have more than 1,000,000 lines; nothing is appended then.
+    /// Appends the lines of a batch to the log, each `Own` hint as the number of the batch's line
+    /// at that place, and answers the number of the first line; for an empty batch, that of the
+    /// next line. The check of the lines takes no time by the size of the formula or the log. A
+    /// batch of more than 2,000,000,000 lines is refused as want of memory, which comes long
+    /// before. Refused with [`PublishFault::NotDerived`] at the first line that doesn't derive,
+    /// counted from 0, and else with [`PublishFault::Full`] where the log would have more than
+    /// 1,000,000 lines; nothing is appended then.
     pub fn publish(
         &mut self,
         alloc: Global,
@@ -384,8 +388,9 @@ impl Pool {
         self.publish_as(alloc, worker, batch, None)
     }
 
-    /// The same of a batch whose lines are known to derive behind the log as it is now: where they are given, they are neither
-    /// checked nor made again. They may be numbered for another place of the log, such as a shorter log's end.
+    /// The same of a batch whose lines are known to derive behind the log as it is now: where they
+    /// are given, they are neither checked nor made again. They may be numbered for another place
+    /// of the log, such as a shorter log's end.
     pub fn publish_as(
         &mut self,
         alloc: Global,
@@ -433,7 +438,8 @@ impl Pool {
         }
     }
 
-    /// The lines of the log after the first `from` ones. Refused with [`FetchFault::PastEnd`] exactly where the log has fewer.
+    /// The lines of the log after the first `from` ones. Refused with [`FetchFault::PastEnd`]
+    /// exactly where the log has fewer.
     pub fn fetch(&mut self, alloc: Global, worker: u32, from: usize) -> Result<Lines, FetchFault>
         ensures reply { IsFetched self.old.held from result }
         ensures pool { self.new ≡ fetched self.old worker from result }
@@ -454,9 +460,10 @@ impl Pool {
         Ok(lines)
     }
 
-    /// Closes an open leaf by the clause or line of this number, all of whose literals are negations of
-    /// literals on the leaf's path. Nodes are numbered from 0, clauses and lines from 1. Refused with
-    /// [`CloseFault::NotOpen`] where there is no such open leaf, and else with [`CloseFault::NotRefuted`].
+    /// Closes an open leaf by the clause or line of this number, all of whose literals are
+    /// negations of literals on the leaf's path. Nodes are numbered from 0, clauses and lines from
+    /// 1. Refused with [`CloseFault::NotOpen`] where there is no such open leaf, and else with
+    /// [`CloseFault::NotRefuted`].
     pub fn close(&mut self, worker: u32, leaf: u32, number: u32) -> Result<(), CloseFault>
         ensures reply { IsClosed self.old.held leaf number result }
         ensures pool { self.new ≡ closed self.old worker leaf number result }
@@ -499,9 +506,10 @@ impl Pool {
         None
     }
 
-    /// Splits an open leaf on a variable of the formula, from 1, and answers the numbers of the two new
-    /// leaves: the first has the variable true, the second false. Nodes are numbered from 0. Refused, in this order,
-    /// where there is no such open leaf, no room in the tree (65,536 nodes, 64 literals on a path), or no such variable.
+    /// Splits an open leaf on a variable of the formula, from 1, and answers the numbers of the two
+    /// new leaves: the first has the variable true, the second false. Nodes are numbered from 0.
+    /// Refused, in this order, where there is no such open leaf, no room in the tree (65,536 nodes,
+    /// 64 literals on a path), or no such variable.
     pub fn split_leaf(
         &mut self,
         alloc: Global,
@@ -532,8 +540,8 @@ impl Pool {
         Ok(below)
     }
 
-    /// Notes why a worker leaves, which is `None` where it is done. May want memory, as each call but
-    /// [`leave_kept`](Pool::leave_kept).
+    /// Notes why a worker leaves, which is `None` where it is done. May want memory, as each call
+    /// but [`leave_kept`](Pool::leave_kept).
     pub fn leave(&mut self, worker: u32, why: Option<Why>) -> Result<(), AllocError>
         ensures ok { OnOk result (self.new ≡ noted self.old (leave_item worker why)) }
         ensures err { OnErr result (self.new ≡ self.old) }
@@ -541,8 +549,8 @@ impl Pool {
         self.ledger.leave(worker, why)
     }
 
-    /// Keeps so many more places, each for one [`leave_kept`](Pool::leave_kept): the other calls leave them
-    /// free. Where memory is wanting, none more is kept.
+    /// Keeps so many more places, each for one [`leave_kept`](Pool::leave_kept): the other calls
+    /// leave them free. Where memory is wanting, none more is kept.
     pub fn keep_places(&mut self, places: usize) -> Result<(), AllocError>
         ensures ok { OnOk result (self.new ≡ with_places self.old (self.old.places + places)) }
         ensures err { OnErr result (self.new ≡ self.old) }
@@ -550,8 +558,8 @@ impl Pool {
         self.ledger.keep_places(places)
     }
 
-    /// As [`leave`](Pool::leave), by a place that is kept: then no memory is asked for, and none is wanting.
-    /// Where no place is kept, it is `leave`.
+    /// As [`leave`](Pool::leave), by a place that is kept: then no memory is asked for, and none is
+    /// wanting. Where no place is kept, it is `leave`.
     pub fn leave_kept(&mut self, worker: u32, why: Option<Why>) -> Result<(), AllocError>
         ensures ok { OnOk result (self.new ≡ noted (with_places self.old (self.old.places - 1)) (leave_item worker why)) }
         ensures err { OnErr result (self.new ≡ self.old) }

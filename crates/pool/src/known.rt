@@ -38,8 +38,8 @@ fn are_earlier(base: u32, batch: &[BatchLine]) -> bool
     batch.iter().all(|line| hints_are_earlier(base, line))
 }
 
-/// The lines of a batch, if they derive, each from the formula, the log and the lines before it, and name nothing else. None
-/// where memory runs out, too.
+/// The lines of a batch, if they derive, each from the formula, the log and the lines before it,
+/// and name nothing else. None where memory runs out, too.
 pub fn derived_lines(
     alloc: Global,
     known: &mut PartialAssignment,

@@ -4,8 +4,8 @@ ghost use Rattle.pool.specs.Laws.{LeavesCover, ClosedPoolsRefute, RunsStaySound,
 ghost use Rattle.pool.specs.Growth.{LogsGrow, BasesRise, RunsLoseNothing};
 ghost use Rattle.pool.specs.Moves.{BatchesMove, ToldStands};
 
-/// The leaves of a pool's tree cover all assignments: each makes all literals of one leaf's path true,
-/// and those of no other.
+/// The leaves of a pool's tree cover all assignments: each makes all literals of one leaf's path
+/// true, and those of no other.
 pub fn leaves_cover()
     ensures { LeavesCover }
 {}
@@ -20,7 +20,8 @@ pub fn runs_stay_sound()
     ensures { RunsStaySound }
 {}
 
-/// After a run of calls the history tells it: taken in order from the opening pool, the entries give this pool.
+/// After a run of calls the history tells it: taken in order from the opening pool, the entries
+/// give this pool.
 pub fn runs_are_legal()
     ensures { RunsAreLegal }
 {}
@@ -30,24 +31,26 @@ pub fn logs_grow()
     ensures { LogsGrow }
 {}
 
-/// In a run of calls each accepted batch has a base past all lines of the batches accepted before it. So the bases of
-/// batches that aren't empty rise.
+/// In a run of calls each accepted batch has a base past all lines of the batches accepted before
+/// it. So the bases of batches that aren't empty rise.
 pub fn bases_rise()
     ensures { BasesRise }
 {}
 
-/// In a run of calls an accepted fetch, whoever makes it, lacks no line past its start that was published or told before it.
+/// In a run of calls an accepted fetch, whoever makes it, lacks no line past its start that was
+/// published or told before it.
 pub fn runs_lose_nothing()
     ensures { RunsLoseNothing }
 {}
 
-/// Lines that derive behind a log derive behind any longer one, with the numbers of the batch's own lines moved, where each other number that they name
-/// stands before the batch.
+/// Lines that derive behind a log derive behind any longer one, with the numbers of the batch's own
+/// lines moved, where each other number that they name stands before the batch.
 pub fn batches_move()
     ensures { BatchesMove }
 {}
 
-/// After a run of calls each line that one of them published or was told stands in the log, at that place.
+/// After a run of calls each line that one of them published or was told stands in the log, at that
+/// place.
 pub fn told_stands()
     ensures { ToldStands }
 {}

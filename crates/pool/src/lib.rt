@@ -1,10 +1,10 @@
-//! What the workers of one search share: the program with its formula, a tree of cubes with a clause
-//! for each closed leaf, a log of proof lines, the schedule that was found, why workers left, and the
-//! history of all calls.
+//! What the workers of one search share: the program with its formula, a tree of cubes with a
+//! clause for each closed leaf, a log of proof lines, the schedule that was found, why workers
+//! left, and the history of all calls.
 //!
-//! Workers, nodes and places of lines count from 0, variables and clauses from 1; the lines of the log
-//! are numbered after the formula's clauses. `specs/States.antt` says what each call is answered, and
-//! what it makes of the pool.
+//! Workers, nodes and places of lines count from 0, variables and clauses from 1; the lines of the
+//! log are numbered after the formula's clauses. `specs/States.antt` says what each call is
+//! answered, and what it makes of the pool.
 #![tactic(auto)]
 
 mod assembly;

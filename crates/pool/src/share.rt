@@ -12,8 +12,9 @@ use semantics::Step;
 use std::alloc::{AllocError, Global};
 use std::sync::Wait;
 
-/// The calls of [`Pool`](crate::Pool) through a shared reference. A worker makes its calls with its seat; `status`, `path`
-/// and `assemble` take none. Nothing is promised of the replies: whoever works over a `Share` meets whatever it says.
+/// The calls of [`Pool`](crate::Pool) through a shared reference. A worker makes its calls with its
+/// seat; `status`, `path` and `assemble` take none. Nothing is promised of the replies: whoever
+/// works over a `Share` meets whatever it says.
 pub trait Share {
     /// What a worker makes its calls with.
     type Seat;

@@ -5,11 +5,13 @@ use Rattle.std.specs.Io.KnownBytes.{Appends}
 use Rattle.files.specs.Contents.{AppendsPart}
 use Rattle.progress.specs.declared.moment.Moment.{Moment}
 
--- how many of a hundred parts this part of the whole is, rounded down, and at most all of them; of nothing none
+-- how many of a hundred parts this part of the whole is, rounded down, and at most all of them; of
+-- nothing none
 abbrev pub percent : ℕ → ℕ → ℕ
 percent part whole = min part whole * 100 / whole
 
--- how many of a hundred parts of the tree are closed: a cube whose path has d literals is one of 2 ^ d parts. Not all of them while a cube is open.
+-- how many of a hundred parts of the tree are closed: a cube whose path has d literals is one of 2
+-- ^ d parts. Not all of them while a cube is open.
 abbrev pub tree_percent : Moment → ℕ
 tree_percent m = if m.open == 0 then percent m.share (2 ^ 56) else min (percent m.share (2 ^ 56)) 99
 
@@ -44,7 +46,8 @@ abbrev pub moment_line : Moment → List ℕ
 moment_line m =
     if m.is_begun then search_line m else (if m.clauses == 0 then forming_line m.seconds else formed_line m.seconds m.clauses)
 
--- more seconds have passed than these at the first of some moments, and at each other one more than at the one before it
+-- more seconds have passed than these at the first of some moments, and at each other one more than
+-- at the one before it
 abbrev pub Rises : ℕ → List Moment → Type 0
 Rises seconds [] = Unit {0}
 Rises seconds (moment ∷ later) = (seconds < moment.seconds) × Rises moment.seconds later

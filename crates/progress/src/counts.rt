@@ -9,7 +9,8 @@ use std::sync::atomic::{AtomicU64, Ordering};
 use std::time::Duration;
 use workers::Searched;
 
-/// What a closed cube whose path has so many literals is of the tree; one of more than 56 counts for nothing.
+/// What a closed cube whose path has so many literals is of the tree; one of more than 56 counts
+/// for nothing.
 fn share_of(depth: usize) -> u64
     ensures { depth ≤ 56 → result ≡ 2 ^ 56 / 2 ^ depth }
 {
@@ -69,8 +70,8 @@ impl Counts {
         self.over.load(Ordering::SeqCst) != 0
     }
 
-    /// What was told so far, for the moment after so many seconds. Who tells a closed cube has told before how many are open, so
-    /// the share is read first.
+    /// What was told so far, for the moment after so many seconds. Who tells a closed cube has told
+    /// before how many are open, so the share is read first.
     pub fn at(&self, seconds: u64) -> Moment
         ensures seconds { result.seconds ≡ seconds }
         ensures budget { result.budget ≡ self.now.budget }
@@ -91,7 +92,8 @@ impl Counts {
         }
     }
 
-    /// Rests for at most so long, and no longer than the search goes on. It may also return for no reason.
+    /// Rests for at most so long, and no longer than the search goes on. It may also return for no
+    /// reason.
     pub(crate) fn rest<R: Wait>(&self, rt: &R, at_most: Duration) {
         self.over.park_timeout(rt, 0, at_most);
     }

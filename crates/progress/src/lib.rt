@@ -1,5 +1,6 @@
-//! Tells how far a search is, while it goes on: once a second a line with the time, the cubes, the lines and the conflicts, and how much of the tree is closed and
-//! of the budget and the log is used.
+//! Tells how far a search is, while it goes on: once a second a line with the time, the cubes, the
+//! lines and the conflicts, and how much of the tree is closed and of the budget and the log is
+//! used.
 #![tactic(auto)]
 
 mod counts;

@@ -22,7 +22,8 @@ pub struct Moment {
     pub open: u64,
     /// How many cubes were refuted.
     pub closed: u64,
-    /// How much of the tree is closed, of which the whole is 2^56: a cube whose path has d literals is 2^(56 - d).
+    /// How much of the tree is closed, of which the whole is 2^56: a cube whose path has d literals
+    /// is 2^(56 - d).
     pub share: u64,
     /// How many lines were learnt from conflicts.
     pub lines: u64,
@@ -77,7 +78,8 @@ fn put(line: &mut Vec<u8>, words: &str, number: u64) -> Result<(), AllocError>
     Ok(())
 }
 
-/// Writes at the end how much of the tree is closed, and how much of a budget and of the log is used.
+/// Writes at the end how much of the tree is closed, and how much of a budget and of the log is
+/// used.
 fn put_shares(line: &mut Vec<u8>, moment: &Moment) -> Result<(), AllocError>
     ensures { OnOk result (line.new.items ≡ line.old.items ++ shares_text moment.now) }
 {

@@ -42,9 +42,11 @@ fn to_next_second(passed: Duration) -> Duration {
 
 /// Tells once a second how far the search is, from its first second on, until it is over.
 ///
-/// Before a worker begins the line is `progress S s: runs are tried, and the formula is made`, and then `progress S s: the formula has N
-/// clauses, and is searched next`. Then it is `progress S s: N cubes open, N closed, N lines, N conflicts, N set lines, N % of the tree, N % of the budget, N % of the log`. Each has
-/// more whole seconds than the one before it. Where the clock or the output fails, or memory runs out, nothing more is told.
+/// Before a worker begins the line is `progress S s: runs are tried, and the formula is made`, and
+/// then `progress S s: the formula has N clauses, and is searched next`. Then it is `progress S s:
+/// N cubes open, N closed, N lines, N conflicts, N set lines, N % of the tree, N % of the budget, N
+/// % of the log`. Each has more whole seconds than the one before it. Where the clock or the output
+/// fails, or memory runs out, nothing more is told.
 pub fn tell<R: Wait, C: Clock, E: Write>(
     rt: &R,
     clock: &C,
@@ -76,8 +78,8 @@ pub fn tell<R: Wait, C: Clock, E: Write>(
     }
 }
 
-/// Looks for an answer as `prove` does, and tells meanwhile, as [`tell`] does, how far the search is. What is told comes from a thread of
-/// its own; where none can be started, nothing is told.
+/// Looks for an answer as `prove` does, and tells meanwhile, as [`tell`] does, how far the search
+/// is. What is told comes from a thread of its own; where none can be started, nothing is told.
 pub fn prove_telling<R: Threads + Wait + Clock + Sync, E: Write + Send>(
     rt: &R,
     alloc: Global,

@@ -1,4 +1,5 @@
--- Texts, values and faults of evidence: a text has one value and no fault, and bytes have one fault.
+-- Texts, values and faults of evidence: a text has one value and no fault, and bytes have one
+-- fault.
 use Rattle.std.proofs.Common.{◌≡◌, ◌≢◌, ℕ, ◌+◌, ◌-◌, List, [], ◌∷◌, ◌++◌, length, get_or, map, refl, sym, ap, subst, ◌∙◌, arith}
 use Rattle.std.specs.Prelude.{codes}
 use Rattle.std.specs.List.{AllByRecursion}

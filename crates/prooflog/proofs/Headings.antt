@@ -72,7 +72,8 @@ first_is bytes rest heading version cut e = cut ∙ ap (λ (line : List ℕ). li
 
 -- ---- the second line
 
--- the second line of what begins so is of one of the two kinds, and a schedule's is only in version 1
+-- the second line of what begins so is of one of the two kinds, and a schedule's is only in version
+-- 1
 second_of : (version : Version) (line : List ℕ) (w : Written) (more : List (List ℕ)) → to_end (written_lines w) ≡ heading_line version ∷ line ∷ more → (version ≡ One → schedule_line ≢ line) → ((v c : ℕ) → refutation_line v c ≢ line) → ⊥
 second_of version line (as_schedule ss) more e no_schedule no_refutation =
     let below = below_heading One version (to_end (map step_line ss)) more schedule_line line e in

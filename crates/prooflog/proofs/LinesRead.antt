@@ -1,4 +1,5 @@
--- What a line's words say of the proof line that it may be: when it is in range, and when it is none.
+-- What a line's words say of the proof line that it may be: when it is in range, and when it is
+-- none.
 use Rattle.std.proofs.Common.{◌≡◌, ℕ, Bool, true, false, IsTrue, nat_le, nat_lt, List, [], ◌∷◌, ◌++◌, Option, Some, None, map, refl, sym, ap, subst, ◌∙◌, arith}
 use Rattle.std.specs.Prelude.{codes, ◌&&◌}
 use Rattle.std.specs.List.{AllByRecursion}

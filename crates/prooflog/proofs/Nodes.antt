@@ -74,7 +74,8 @@ nodes_begin version v c lines done more =
     ap (λ (is : List Item). map a_proof lines ++ the_tree ∷ is) (map-append a_node done more) ∙ sym (append_assoc (map a_proof lines) (the_tree ∷ map a_node done) (map a_node more)) in
     subst (λ (front : List (List ℕ)). BeginsWith front (to_end (written_lines (as_refutation r)))) (sym (tree_front version v c lines (map a_node done))) (begins_items r (map a_proof lines ++ the_tree ∷ map a_node done) (map a_node more) cut)
 
--- what begins with these lines and the lines of some nodes is a refutation, and goes on with another node or ends
+-- what begins with these lines and the lines of some nodes is a refutation, and goes on with
+-- another node or ends
 record NextNode (w : Written) (lines : List ProofLine) (done : List Node) (line : List ℕ) : Type 0 where
   pub all : ClaimedRefutation
   pub is : w ≡ as_refutation all

@@ -1,4 +1,5 @@
--- Lines of steps: a line has one step, and after the lines of some steps comes a step's line or the end.
+-- Lines of steps: a line has one step, and after the lines of some steps comes a step's line or the
+-- end.
 use Rattle.std.proofs.Common.{◌≡◌, ◌≢◌, ℕ, ◌<◌, Bool, true, false, List, [], ◌∷◌, ◌++◌, length, get_or, refl, sym, ap, subst, ◌∙◌, arith}
 use Rattle.std.specs.Prelude.{codes}
 use Rattle.std.specs.List.{AllByRecursion}

@@ -1,4 +1,5 @@
--- What is wrong with bytes that are no evidence's text: their first faulty line, and why it can't stand there.
+-- What is wrong with bytes that are no evidence's text: their first faulty line, and why it can't
+-- stand there.
 use Rattle.std.specs.Prelude.{◌≡◌, ◌≢◌, ℕ, ◌+◌, ◌-◌, ◌≤◌, IsTrue, List, [], ◌∷◌, ◌++◌, length, take, All}
 use Rattle.plaintext.specs.Fronts.{to_end, BeginsWith, CanBegin, IsFirstFaultyLine}
 use Rattle.refutations.specs.Proofs.{is_tree}
@@ -19,8 +20,9 @@ abbrev pub IsRanged : Written → Type 0
 IsRanged (as_schedule ss) = All IsStepInRange ss
 IsRanged (as_refutation r) = IsInRangeRefutation r
 
--- What stands on so many of the first lines is not too large: at most 4,096 steps, or so few proof lines and so few nodes, and no node too deep.
--- The two headings stand above all, and the line `tree` above the nodes.
+-- What stands on so many of the first lines is not too large: at most 4,096 steps, or so few proof
+-- lines and so few nodes, and no node too deep. The two headings stand above all, and the line
+-- `tree` above the nodes.
 abbrev pub IsFew : ℕ → Written → Type 0
 IsFew count (as_schedule ss) = length (take (count - 2) ss) ≤ 4096
 IsFew count (as_refutation r) = IsSmall (take (count - 2) r.lines) (take (count - (3 + length r.lines)) r.nodes)

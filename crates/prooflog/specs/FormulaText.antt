@@ -5,7 +5,8 @@ use Rattle.plaintext.specs.Plain.{numeral, line_of}
 use Rattle.clauses.specs.Clauses.{Literal, Conjunction}
 use Rattle.prooflog.specs.Refutations.{literal_word}
 
--- A formula's heading is the line `formula V C`, with the numbers of its variables and of its clauses.
+-- A formula's heading is the line `formula V C`, with the numbers of its variables and of its
+-- clauses.
 abbrev pub formula_heading : ℕ → ℕ → List ℕ
 formula_heading variables clauses = line_of (codes "formula" ∷ numeral variables ∷ numeral clauses ∷ [])
 

@@ -10,7 +10,8 @@ use Rattle.prooflog.specs.declared.step.WrittenStep.{WrittenStep}
 use Rattle.prooflog.specs.Steps.{written, step_line, IsSchedule}
 use Rattle.prooflog.specs.Refutations.{ClaimedRefutation, item_line, items, IsRefutation}
 
--- What evidence texts are written from: a schedule's steps, or a refutation. Numbers may have any size here.
+-- What evidence texts are written from: a schedule's steps, or a refutation. Numbers may have any
+-- size here.
 pub data Written : Type 0 where
   as_schedule : List WrittenStep → Written
   as_refutation : ClaimedRefutation → Written
@@ -24,11 +25,13 @@ heading_line Two = line_of (codes "evidence" ∷ codes "2" ∷ [])
 abbrev pub schedule_line : List ℕ
 schedule_line = line_of (codes "schedule" ∷ [])
 
--- The second line of a refutation is `refutation V C`, with the formula's number of variables and of clauses.
+-- The second line of a refutation is `refutation V C`, with the formula's number of variables and
+-- of clauses.
 abbrev pub refutation_line : ℕ → ℕ → List ℕ
 refutation_line variables clauses = line_of (codes "refutation" ∷ numeral variables ∷ numeral clauses ∷ [])
 
--- After the two headings each step of a schedule and each item of a refutation has its line. Schedules have version 1 alone.
+-- After the two headings each step of a schedule and each item of a refutation has its line.
+-- Schedules have version 1 alone.
 abbrev pub written_lines : Written → List (List ℕ)
 written_lines (as_schedule ss) = heading_line One ∷ schedule_line ∷ map step_line ss
 written_lines (as_refutation r) = heading_line r.version ∷ refutation_line r.variables r.clauses ∷ map item_line (items r)
@@ -43,7 +46,8 @@ abbrev pub IsWithinLimits : Evidence → Type 0
 IsWithinLimits (Schedule ss) = IsSchedule ss
 IsWithinLimits (Refutation r) = IsRefutation r
 
--- The bytes are the text of the evidence: it is within the limits, and the bytes are its lines, one after another.
+-- The bytes are the text of the evidence: it is within the limits, and the bytes are its lines, one
+-- after another.
 pub record IsEvidenceText (bytes : List ℕ) (evidence : Evidence) : Type 0 where
   pub limits : IsWithinLimits evidence
   pub text : bytes ≡ flat_map (λ line. line) (written_lines (written_of evidence))

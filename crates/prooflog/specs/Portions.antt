@@ -20,7 +20,8 @@ lines_text lines = flat_map item_line (map a_proof lines)
 abbrev pub tree_text : List Node → List ℕ
 tree_text nodes = flat_map item_line (the_tree ∷ map a_node nodes)
 
--- the text of a portion of the proof lines: what is written of it, and then that of the lines that aren't
+-- the text of a portion of the proof lines: what is written of it, and then that of the lines that
+-- aren't
 abbrev pub part_text : TextPart → List ℕ
 part_text part = part.text.items ++ lines_text part.lines.items
 

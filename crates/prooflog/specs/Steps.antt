@@ -6,7 +6,8 @@ use Rattle.semantics.specs.declared.state.Step.TheVariants as steps
 use Rattle.prooflog.specs.declared.step.WrittenStep.{WrittenStep}
 use Rattle.prooflog.specs.declared.step.WrittenStep.TheVariants.{Issue, Match, See}
 
--- A step is written with the rank's number, from 0, and with the numbers of calls, from 1: a call's number is its place, from 0, plus 1.
+-- A step is written with the rank's number, from 0, and with the numbers of calls, from 1: a call's
+-- number is its place, from 0, plus 1.
 abbrev pub written : Step → WrittenStep
 written (steps.Issue rank buffered) = Issue rank buffered
 written (steps.Match send taker) = Match (send + 1) (taker + 1)
@@ -41,7 +42,8 @@ step_line step = line_of (step_words step)
 abbrev pub AreCallsInRange : ℕ → ℕ → Type 0
 AreCallsInRange send finder = (1 ≤ send) × (send ≤ 2147483647) × (1 ≤ finder) × (finder ≤ 2147483647)
 
--- A step is in range if its rank is from 0 to 2,147,483,647, and the numbers of its calls from 1 to 2,147,483,647.
+-- A step is in range if its rank is from 0 to 2,147,483,647, and the numbers of its calls from 1 to
+-- 2,147,483,647.
 abbrev pub IsStepInRange : WrittenStep → Type 0
 IsStepInRange (Issue rank buffered) = rank ≤ 2147483647
 IsStepInRange (Match send taker) = AreCallsInRange send taker

@@ -49,7 +49,8 @@ fn tree_place(bytes: &[u8]) -> usize {
     bytes.len()
 }
 
-/// Where the part of this number, from 0, starts, of so many parts that the first `length` bytes are cut into at ends of lines.
+/// Where the part of this number, from 0, starts, of so many parts that the first `length` bytes
+/// are cut into at ends of lines.
 fn part_start(bytes: &[u8], length: usize, parts: usize, part: usize) -> usize {
     let near = length as u128 * part as u128 / parts.max(1) as u128;
     let Ok(near) = usize::try_from(near) else {
@@ -67,7 +68,8 @@ fn part_start(bytes: &[u8], length: usize, parts: usize, part: usize) -> usize {
     }
 }
 
-/// The proof lines that are all of the bytes; none where they are something else, or where memory ran out.
+/// The proof lines that are all of the bytes; none where they are something else, or where memory
+/// ran out.
 fn whole_lines(alloc: Global, bytes: &[u8]) -> Option<Vec<Line>>
     ensures { IfSome result (λ lines. AreWhole bytes.now lines.items) }
 {
@@ -122,7 +124,8 @@ fn parts_of<R: Threads + Sync>(
     )
 }
 
-/// Takes in the lines of the part, where it starts where those so far end, and answers where they end now.
+/// Takes in the lines of the part, where it starts where those so far end, and answers where they
+/// end now.
 fn with_part(bytes: &[u8], lines: &mut Vec<Line>, used: usize, part: Option<TextPart>) -> usize
     requires reached { HaveReached bytes.now used lines.old.items }
     requires part { IfSome part (IsPart bytes.now) }
@@ -163,8 +166,9 @@ fn joined<'a>(alloc: Global, bytes: &'a [u8], parts: Vec<Option<TextPart>>) -> A
     }
 }
 
-/// Proof lines at the beginning of the bytes, which stand from the third line of an evidence's text on, read in so many parts. They
-/// end where a part isn't all proof lines, or where memory ran out for one.
+/// Proof lines at the beginning of the bytes, which stand from the third line of an evidence's text
+/// on, read in so many parts. They end where a part isn't all proof lines, or where memory ran out
+/// for one.
 pub fn lines_ahead<'a, R: Threads + Sync>(
     rt: &R,
     alloc: Global,

@@ -18,8 +18,8 @@ pub enum EvidenceFault {
     #[error("evidence line {line} syntax")]
     Syntax { line: u32 },
     /// The line has a shape that may stand here, and a number out of its range, or literals whose
-    /// variables don't rise strictly. Ranks, and the counts of variables and clauses in the heading,
-    /// are at most 2,147,483,647; all other numbers are from 1 to 2,147,483,647.
+    /// variables don't rise strictly. Ranks, and the counts of variables and clauses in the
+    /// heading, are at most 2,147,483,647; all other numbers are from 1 to 2,147,483,647.
     #[error("evidence line {line} range")]
     Range { line: u32 },
     /// The line may stand here but for a limit: it is step 4,097, proof line 1,000,001 or node

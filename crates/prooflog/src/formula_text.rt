@@ -40,8 +40,9 @@ fn put_clauses(out: &mut Vec<u8>, clauses: &[Clause]) -> Result<(), AllocError>
     Ok(())
 }
 
-/// The text of a formula: the line `formula V C`, with the numbers of its variables and of its clauses, and a line for
-/// each clause, the word `clause` and its literals, for a formula of less than 2^32 clauses. The only error is want of memory.
+/// The text of a formula: the line `formula V C`, with the numbers of its variables and of its
+/// clauses, and a line for each clause, the word `clause` and its literals, for a formula of less
+/// than 2^32 clauses. The only error is want of memory.
 pub fn write_formula(alloc: Global, formula: &Formula) -> Result<Vec<u8>, AllocError>
     requires { length formula.now.clauses < 2 ^ 32 }
     ensures { IfOk result (λ text. text.items ≡ formula_text formula.now) }

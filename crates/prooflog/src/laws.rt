@@ -1,4 +1,5 @@
-//! What texts, values and faults are to one another, apart from any reader, and how deep nodes stand.
+//! What texts, values and faults are to one another, apart from any reader, and how deep nodes
+//! stand.
 
 ghost use Rattle.prooflog.specs.Depths.{DepthsAreOfTheTree};
 ghost use Rattle.prooflog.specs.Fault.{OneFault, OneValue, TextHasNoFault};

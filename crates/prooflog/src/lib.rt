@@ -1,9 +1,10 @@
-//! The text of an evidence: read, written, and what is wrong with a text that is none. The text of a formula: written.
+//! The text of an evidence: read, written, and what is wrong with a text that is none. The text of
+//! a formula: written.
 //!
 //! An evidence is a schedule, the steps of a run, or a refutation, proof lines and a tree over a
 //! formula. Its text is a line with its version (a refutation has 1 or 2, a schedule 1), a line for
-//! the kind of evidence, and then a line for each step, or for each proof line and node. Ranks count
-//! from 0, the numbers of calls, variables and clauses in a text from 1. `specs/Grammar.antt`
+//! the kind of evidence, and then a line for each step, or for each proof line and node. Ranks
+//! count from 0, the numbers of calls, variables and clauses in a text from 1. `specs/Grammar.antt`
 //! defines the text, `specs/Fault.antt` what is wrong with bytes that are none,
 //! `specs/FormulaText.antt` the text of a formula.
 #![tactic(auto)]

@@ -38,7 +38,8 @@ fn word_sum(lines: &[Line]) -> usize {
     sum
 }
 
-/// Portions of the lines that were put in, the last of which isn't full and has about so many words.
+/// Portions of the lines that were put in, the last of which isn't full and has about so many
+/// words.
 #[derive(Drop)]
 pub struct Portions {
     full: Vec<Vec<Line>>,
@@ -140,7 +141,8 @@ fn put_parts(alloc: Global, out: &mut Text, parts: Vec<TextPart>) -> Result<(), 
     Ok(())
 }
 
-/// Writes the lines at the end, so many portions of them, each in a thread of its own, in which it is dropped then.
+/// Writes the lines at the end, so many portions of them, each in a thread of its own, in which it
+/// is dropped then.
 pub(crate) fn put_portions<R: Threads + Sync>(
     rt: &R,
     alloc: Global,

@@ -84,7 +84,8 @@ fn version_of(line: &[u8]) -> Option<Version>
     None
 }
 
-/// Whether an evidence of this version is a schedule, as its second line says. Schedules have version 1 alone.
+/// Whether an evidence of this version is a schedule, as its second line says. Schedules have
+/// version 1 alone.
 fn is_schedule(version: Version, line: &[u8]) -> bool
     ensures yes { result ≡ true → (version ≡ Version.One) × (line.now ≡ codes "schedule") }
     ensures no { result ≡ false → version ≡ Version.One → line.now ≢ codes "schedule" }
@@ -175,9 +176,10 @@ pub fn read_evidence(alloc: Global, bytes: &[u8]) -> Result<Evidence, EvidenceFa
     read_opened(alloc, bytes, opening, no_lines(alloc, opening.rest))
 }
 
-/// The same answer, want of memory aside, with the proof lines of a refutation read in so many parts of about the same size, each
-/// in a thread of its own where one can be started, and else by the calling thread. Lines from the first part on that has a
-/// fault, or for which memory ran out, are read once more by the calling thread.
+/// The same answer, want of memory aside, with the proof lines of a refutation read in so many
+/// parts of about the same size, each in a thread of its own where one can be started, and else by
+/// the calling thread. Lines from the first part on that has a fault, or for which memory ran out,
+/// are read once more by the calling thread.
 pub fn read_evidence_in<R: Threads + Sync>(
     rt: &R,
     alloc: Global,

@@ -27,13 +27,14 @@ pub const MOST_DEPTH: u32 = 64;
 pub enum Version {
     /// Lines that aren't needed may stand among the others.
     One,
-    /// Each line is needed: a leaf of the tree names it, or a hint of a later line. The checker asks this, not the reader.
+    /// Each line is needed: a leaf of the tree names it, or a hint of a later line. The checker
+    /// asks this, not the reader.
     Two,
 }
 
 /// What is said to refute a formula: how many variables and clauses the formula has, each number
-/// from 0 to 2,147,483,647; at most 1,000,000 proof lines, numbered after the clauses; and a tree of
-/// at most 65,536 nodes, none deeper than 64.
+/// from 0 to 2,147,483,647; at most 1,000,000 proof lines, numbered after the clauses; and a tree
+/// of at most 65,536 nodes, none deeper than 64.
 #[derive(Drop)]
 pub struct Refutation {
     version: Version,
@@ -197,7 +198,8 @@ impl Refutation {
         })
     }
 
-    /// Leaves out the lines that aren't needed, and makes it one of version 2. Where that is refused, it stays as it is.
+    /// Leaves out the lines that aren't needed, and makes it one of version 2. Where that is
+    /// refused, it stays as it is.
     pub(crate) fn trim(&mut self, alloc: Global) -> Result<(), TrimFault>
         ensures trimmed { OnOk result (self.new ≡ trimmed_of self.old) }
         ensures unchanged { OnErr result (self.new ≡ self.old) }

@@ -44,7 +44,8 @@ pub fn counts_of(line: &[u8]) -> Option<(u32, u32)>
     Some((variables, clauses))
 }
 
-/// The proof lines from the third line of the text on, and what follows the line `tree`. Some of them were read before.
+/// The proof lines from the third line of the text on, and what follows the line `tree`. Some of
+/// them were read before.
 fn read_lines<'a>(
     alloc: Global,
     bytes: &'a [u8],
@@ -128,7 +129,8 @@ fn read_nodes(alloc: Global, bytes: &[u8], first: u32) -> Result<Vec<Node>, Evid
     Ok(nodes)
 }
 
-/// The refutation of these counts whose items stand from the third line of the text to its end, some of its lines read before.
+/// The refutation of these counts whose items stand from the third line of the text to its end,
+/// some of its lines read before.
 pub fn read_refutation<'a>(
     alloc: Global,
     bytes: &'a [u8],

@@ -10,8 +10,8 @@ use std::marker::Model;
 /// The most steps that a schedule has.
 pub const MOST_STEPS: usize = 4_096;
 
-/// The steps of a run, in order: at most 4,096, with ranks from 0 to 2,147,483,647 and places of calls from 0 to
-/// 2,147,483,646.
+/// The steps of a run, in order: at most 4,096, with ranks from 0 to 2,147,483,647 and places of
+/// calls from 0 to 2,147,483,646.
 #[derive(Drop)]
 pub struct Schedule {
     steps: Vec<Step>,
@@ -36,8 +36,8 @@ fn are_in_range(steps: &[Step]) -> bool
 }
 
 impl Schedule {
-    /// The schedule of these steps; they come back where there are more than 4,096 of them, a rank is
-    /// above 2,147,483,647 or a place above 2,147,483,646. It takes no memory.
+    /// The schedule of these steps; they come back where there are more than 4,096 of them, a rank
+    /// is above 2,147,483,647 or a place above 2,147,483,646. It takes no memory.
     pub fn make(steps: Vec<Step>) -> Result<Schedule, Vec<Step>>
         ensures made { IfOk result (λ schedule. schedule ≡ steps.items) }
         ensures back { IfErr result (λ back. back ≡ steps) }

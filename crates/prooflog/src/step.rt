@@ -20,7 +20,8 @@ pub enum WrittenStep {
     See { send: u32, probe: u32 },
 }
 
-/// The word of the step by which a finder finds a send: a probe sees it, a taker is matched with it.
+/// The word of the step by which a finder finds a send: a probe sees it, a taker is matched with
+/// it.
 pub fn find_word(sees: bool) -> &'static str
     ensures { result.now ≡ find_word sees }
 {
@@ -170,8 +171,9 @@ fn put_issue(out: &mut Vec<u8>, rank: u32, buffered: bool) -> Result<(), AllocEr
     Ok(())
 }
 
-/// Writes the line of the step by which a finder finds a send at the end, by the numbers of the calls, from 1: a probe sees
-/// the send, a taker is matched with it. The only error is want of memory; a beginning of the line may stand there then.
+/// Writes the line of the step by which a finder finds a send at the end, by the numbers of the
+/// calls, from 1: a probe sees the send, a taker is matched with it. The only error is want of
+/// memory; a beginning of the line may stand there then.
 pub fn put_find(out: &mut Vec<u8>, sees: bool, send: u32, finder: u32) -> Result<(), AllocError>
     ensures { OnOk result (out.new.items ≡ out.old.items ++ step_line (find_step sees send finder)) }
 {

@@ -14,7 +14,8 @@ pub enum TrimFault {
     /// Memory ran out.
     #[error("memory")]
     Memory,
-    /// A hint names neither a clause nor an earlier line, or a leaf names neither a clause nor a line.
+    /// A hint names neither a clause nor an earlier line, or a leaf names neither a clause nor a
+    /// line.
     #[error("number")]
     Number,
     /// The evidence is a schedule.
@@ -22,12 +23,15 @@ pub enum TrimFault {
     NotRefutation,
 }
 
-/// Leaves out the lines of the refutation that aren't needed, and makes it one of version 2: a line is needed where a leaf of the tree
-/// names it, or a hint of a later line that is needed. The others stay in their order, their numbers are closed up, and each hint and leaf
-/// has its clause's new number. For each formula with the counts of the heading, where the lines and the tree were accepted they
-/// are accepted still. `NotRefutation` is told of each schedule, `Number` of each refutation with a number that names nothing;
-/// `Memory` may come for any refutation. Where it is refused, the evidence stays as it is. It takes time linear in the evidence, and beside it
-/// nine bytes a line and room for the lines and nodes themselves once more; no literal and no hint is copied.
+/// Leaves out the lines of the refutation that aren't needed, and makes it one of version 2: a line
+/// is needed where a leaf of the tree names it, or a hint of a later line that is needed. The
+/// others stay in their order, their numbers are closed up, and each hint and leaf has its clause's
+/// new number. For each formula with the counts of the heading, where the lines and the tree were
+/// accepted they are accepted still. `NotRefutation` is told of each schedule, `Number` of each
+/// refutation with a number that names nothing; `Memory` may come for any refutation. Where it is
+/// refused, the evidence stays as it is. It takes time linear in the evidence, and beside it nine
+/// bytes a line and room for the lines and nodes themselves once more; no literal and no hint is
+/// copied.
 pub fn trim_in_place(alloc: Global, evidence: &mut Evidence) -> Result<(), TrimFault>
     ensures trimmed { OnOk result (IsTrimmed evidence.old evidence.new) }
     ensures accepted { OnOk result (EachKeepsAccepted evidence.old evidence.new) }
@@ -46,9 +50,10 @@ pub fn trim_in_place(alloc: Global, evidence: &mut Evidence) -> Result<(), TrimF
     }
 }
 
-/// The refutation without the lines that aren't needed, as [`trim_in_place`] makes it, beside the evidence, which is copied: every literal
-/// and every hint once. `NotRefutation` is told of each schedule, `Number` of each refutation with a number that names nothing; `Memory`
-/// may come for any refutation.
+/// The refutation without the lines that aren't needed, as [`trim_in_place`] makes it, beside the
+/// evidence, which is copied: every literal and every hint once. `NotRefutation` is told of each
+/// schedule, `Number` of each refutation with a number that names nothing; `Memory` may come for
+/// any refutation.
 pub fn trim(alloc: Global, evidence: &Evidence) -> Result<Evidence, TrimFault>
     ensures trimmed { IfOk result (IsTrimmed evidence.now) }
     ensures accepted { IfOk result (EachKeepsAccepted evidence.now) }

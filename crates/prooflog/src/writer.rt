@@ -55,8 +55,8 @@ fn put_literal(out: &mut Vec<u8>, literal: &Lit) -> Result<(), AllocError>
     put_number(out, literal.variable())
 }
 
-/// Writes the literals at the end, with a space before each. A negative one begins with `-`. The only error is want of
-/// memory; a beginning of them may stand there then.
+/// Writes the literals at the end, with a space before each. A negative one begins with `-`. The
+/// only error is want of memory; a beginning of them may stand there then.
 pub fn put_literals(out: &mut Vec<u8>, literals: &[Lit]) -> Result<(), AllocError>
     ensures { OnOk result (out.new.items ≡ out.old.items ++ spaced (map literal_word literals.now)) }
 {
@@ -66,8 +66,8 @@ pub fn put_literals(out: &mut Vec<u8>, literals: &[Lit]) -> Result<(), AllocErro
     Ok(())
 }
 
-/// Writes the hints at the end, with a space before each. The only error is want of memory; a beginning of them may stand
-/// there then.
+/// Writes the hints at the end, with a space before each. The only error is want of memory; a
+/// beginning of them may stand there then.
 pub fn put_hints(out: &mut Vec<u8>, hints: &[u32]) -> Result<(), AllocError>
     ensures { OnOk result (out.new.items ≡ out.old.items ++ spaced (map numeral hints.now)) }
 {
@@ -181,8 +181,8 @@ pub fn write_evidence(alloc: Global, evidence: &Evidence) -> Result<Vec<u8>, All
     }
 }
 
-/// The same text in parts, of which proof lines are written in so many portions, or in fewer, each in a thread of its own where one can be started.
-/// What is written is dropped there.
+/// The same text in parts, of which proof lines are written in so many portions, or in fewer, each
+/// in a thread of its own where one can be started. What is written is dropped there.
 pub fn write_evidence_in<R: Threads + Sync>(
     rt: &R,
     alloc: Global,

@@ -1,8 +1,9 @@
-//! What searches that propagate units stand on: literals as numbers, clauses in one list, the trail of values, watched literals, and
-//! lines of a batch.
+//! What searches that propagate units stand on: literals as numbers, clauses in one list, the trail
+//! of values, watched literals, and lines of a batch.
 //!
-//! Look-ups are total: a place past the end has a value that its function names or that means nothing. So no invariant ties the parts
-//! together, and nothing is promised of what propagation finds: whoever takes the lines checks them.
+//! Look-ups are total: a place past the end has a value that its function names or that means
+//! nothing. So no invariant ties the parts together, and nothing is promised of what propagation
+//! finds: whoever takes the lines checks them.
 #![tactic(auto)]
 
 mod batch;

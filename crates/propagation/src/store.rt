@@ -11,8 +11,9 @@ const HEAD: usize = 3;
 /// A clause of so few levels is never dropped.
 const BEST_GLUE: u32 = 2;
 
-/// Clauses, each as its length, its tag, its glue and its literals. A clause is named by the place where it begins.
-/// Where two literals are watched, they are the first two. The first ones may be made to stay for good.
+/// Clauses, each as its length, its tag, its glue and its literals. A clause is named by the place
+/// where it begins. Where two literals are watched, they are the first two. The first ones may be
+/// made to stay for good.
 #[derive(Drop)]
 pub struct ClauseArena {
     words: Vec<u32>,
@@ -89,7 +90,8 @@ impl ClauseArena {
         self.fixed
     }
 
-    /// Drops all clauses but those that stay for good and those at these places, which rise, and tells where each is then.
+    /// Drops all clauses but those that stay for good and those at these places, which rise, and
+    /// tells where each is then.
     pub fn keep(&mut self, alloc: Global, places: &[u32]) -> Result<Moves, AllocError> {
         let old = self.words.split_off(self.fixed.min(self.words.len()))?;
         let mut moves = Moves::new(alloc, self.fixed, old.len())?;
@@ -183,7 +185,8 @@ impl ClauseArena {
         }
     }
 
-    /// Brings up to two of the clause's literals that aren't false to the front, and answers how many there are.
+    /// Brings up to two of the clause's literals that aren't false to the front, and answers how
+    /// many there are.
     pub fn bring_unset(&mut self, place: u32, trail: &Trail) -> usize {
         let length = number_at(&self.words, place as usize) as usize;
         let start = place as usize + HEAD;

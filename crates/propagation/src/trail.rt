@@ -17,8 +17,8 @@ pub enum Truth {
     False,
 }
 
-/// What is kept of a variable: the level at which it got its value, the clause that gave it, the place on the trail, and
-/// the value that it had last.
+/// What is kept of a variable: the level at which it got its value, the clause that gave it, the
+/// place on the trail, and the value that it had last.
 #[derive(Clone, Copy)]
 struct Note {
     level: u32,
@@ -216,13 +216,14 @@ impl Trail {
         self.head = head;
     }
 
-    /// How many literals were true when the level above this one began, which is how many stay where all above this one are taken back. None
-    /// where there is no level above it.
+    /// How many literals were true when the level above this one began, which is how many stay
+    /// where all above this one are taken back. None where there is no level above it.
     pub fn length_at(&self, level: usize) -> Option<usize> {
         self.limits.get(level).copied()
     }
 
-    /// Takes back all levels above this one. Of what stays, what wasn't propagated yet still is to be.
+    /// Takes back all levels above this one. Of what stays, what wasn't propagated yet still is to
+    /// be.
     pub fn back(&mut self, level: usize)
         ensures { self.new.head ≤ self.old.head }
     {

@@ -1,4 +1,5 @@
--- A run that goes on by one step, a run that is gone through step by step, and where no step is enabled.
+-- A run that goes on by one step, a run that is gone through step by step, and where no step is
+-- enabled.
 use Rattle.std.proofs.Common.{◌≡◌, ℕ, ◌+◌, ◌*◌, ◌<◌, ◌≤◌, ◌==◌, Bool, true, false, not, List, [], ◌∷◌, ◌++◌, length, get_or, take, Option, Some, None, slice_get, is_some, refl, sym, ◌∙◌, ap, subst, ◌⊎◌, inl, inr, arith}
 use Rattle.std.specs.List.{Contains, filter, range_with_len}
 use Rattle.std.specs.Prelude.{IsPermutation, IfNone}
@@ -108,7 +109,8 @@ find_parts : (p : MpiProgram) (m : Configuration) (sees : Bool) (s f : ℕ) → 
 find_parts p m true s f enabled = enabled
 find_parts p m false s f enabled = (false_where_not (is_probe p f) enabled.0, enabled.1)
 
--- what is found is an issued send that is not matched, and by an issued finder that has found nothing
+-- what is found is an issued send that is not matched, and by an issued finder that has found
+-- nothing
 both_listed : (p : MpiProgram) (m : Configuration) (sees : Bool) (s f : ℕ) → IsEnabled p m (find_step sees s f)
     → (s < length p.calls) × (is_open_send p m s ≡ true) × (f < length p.calls) × (is_open_finder p m sees f ≡ true)
 both_listed p m sees s f enabled =

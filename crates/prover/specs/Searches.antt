@@ -45,12 +45,14 @@ abbrev pub smallest_with : Option Why → Why → Why
 smallest_with None why = why
 smallest_with (Some noted) why = smaller_of noted why
 
--- the reason that counts beside those that are noted: want of memory where it was met, and else that something is left
+-- the reason that counts beside those that are noted: want of memory where it was met, and else
+-- that something is left
 abbrev pub unnoted : Bool → Why
 unnoted true = Memory
 unnoted false = Left
 
--- nothing is known, for the smallest of the reasons for which workers left, with the one that counts beside them
+-- nothing is known, for the smallest of the reasons for which workers left, with the one that
+-- counts beside them
 abbrev pub IsUnknownFor : List Why → Bool → Answer → Type 0
 IsUnknownFor reasons was_short answer =
     (noted : Option Why) × IsSmallest reasons noted × (answer ≡ Unknown (smallest_with noted (unnoted was_short)))

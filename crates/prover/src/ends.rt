@@ -89,10 +89,11 @@ fn ends_of(alloc: Global, program: &LongProgram, until: Until) -> Result<WalkEnd
     Ok(ends)
 }
 
-/// Takes walks of the program of a text, in one manner after another, and tells how they ended; it stops early where what
-/// is wanted is known. A walk is a run that goes on until no step is enabled, so it ends stuck or with all ranks finished.
-/// There are as many manners as the program has ranks, and five more. Where no walk of a kind is told, there may still be such
-/// a run. The text of no program is refused for its first fault; the only other refusal is want of memory.
+/// Takes walks of the program of a text, in one manner after another, and tells how they ended; it
+/// stops early where what is wanted is known. A walk is a run that goes on until no step is
+/// enabled, so it ends stuck or with all ranks finished. There are as many manners as the program
+/// has ranks, and five more. Where no walk of a kind is told, there may still be such a run. The
+/// text of no program is refused for its first fault; the only other refusal is want of memory.
 pub fn walk_ends(alloc: Global, program: &[u8], until: Until) -> Result<WalkEnds, Reason>
     ensures ends { IfOk result (AreEnds program.now) }
     ensures reason { IfErr result (IsProgramReason program.now) }

@@ -22,7 +22,8 @@ pub fn is_stuck(alloc: Global, program: &LongProgram, steps: &[Step]) -> Result<
     }
 }
 
-/// Walks in one manner after another, until a walk ends stuck: that walk, or none where all end finished.
+/// Walks in one manner after another, until a walk ends stuck: that walk, or none where all end
+/// finished.
 pub fn stuck_walk(alloc: Global, program: &LongProgram) -> Result<Option<Vec<Step>>, AllocError>
     ensures stuck { IfOk result (λ found. IfSome found (λ steps. IsStuckRun program.now steps.items)) }
     ensures none { IfOk result (λ found. IfNone found (HasFinishedRun program.now)) }
@@ -48,9 +49,9 @@ fn is_finished(alloc: Global, program: &LongProgram, steps: &[Step]) -> Result<b
     }
 }
 
-/// A run that ends with all ranks finished, where one of 48 walks does that choose by chance which message
-/// a receive or probe finds; none where none of them does, which tells nothing. Each walk takes time
-/// near that of the square of the calls. The only error is want of memory.
+/// A run that ends with all ranks finished, where one of 48 walks does that choose by chance which
+/// message a receive or probe finds; none where none of them does, which tells nothing. Each walk
+/// takes time near that of the square of the calls. The only error is want of memory.
 pub fn finished_walk(alloc: Global, program: &LongProgram) -> Result<Option<Vec<Step>>, AllocError>
     ensures { IfOk result (λ found. IfSome found (λ steps. IsFinishedRun program.now steps.items)) }
 {
@@ -63,8 +64,8 @@ pub fn finished_walk(alloc: Global, program: &LongProgram) -> Result<Option<Vec<
     Ok(None)
 }
 
-/// A run that takes these steps, then goes on without a buffered send that needn't be, and ends with all
-/// ranks finished, where one of some walks does.
+/// A run that takes these steps, then goes on without a buffered send that needn't be, and ends
+/// with all ranks finished, where one of some walks does.
 fn finished_behind(
     alloc: Global,
     program: &LongProgram,
@@ -81,10 +82,10 @@ fn finished_behind(
     Ok(None)
 }
 
-/// A run that ends with all ranks finished, buffers no send that it needn't but where these steps do, and
-/// goes along with them for as long as one that is tried does: behind that none is known to end so. None
-/// where no such run is found from the beginning, which tells nothing. The number of walks is near the
-/// logarithm of that of the steps. The only error is want of memory.
+/// A run that ends with all ranks finished, buffers no send that it needn't but where these steps
+/// do, and goes along with them for as long as one that is tried does: behind that none is known to
+/// end so. None where no such run is found from the beginning, which tells nothing. The number of
+/// walks is near the logarithm of that of the steps. The only error is want of memory.
 pub fn run_that_parts_last(
     alloc: Global,
     program: &LongProgram,

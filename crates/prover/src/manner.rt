@@ -17,12 +17,13 @@ pub struct Manner {
     pub highest_rank: bool,
     /// A rank that issues only where nothing else is enabled.
     pub held_back: Option<u32>,
-    /// From where on a match or see is looked for first: this many sends and finders behind the first, over
-    /// and over; another number in each step, but 0 stays 0.
+    /// From where on a match or see is looked for first: this many sends and finders behind the
+    /// first, over and over; another number in each step, but 0 stays 0.
     pub chance: u64,
 }
 
-/// Sees where it can, then issues where it can, of the lowest rank first, and else matches; buffers only what it must.
+/// Sees where it can, then issues where it can, of the lowest rank first, and else matches; buffers
+/// only what it must.
 const PLAIN: Manner = Manner {
     buffers: false,
     matches_first: false,
@@ -67,8 +68,8 @@ pub fn manners(ranks: u32) -> u32
     ranks.saturating_add(FIRST.len() as u32)
 }
 
-/// The manner that is tried at this turn, from 0: first those for all programs, then one for each rank
-/// that holds this rank back.
+/// The manner that is tried at this turn, from 0: first those for all programs, then one for each
+/// rank that holds this rank back.
 pub fn manner_at(turn: u32) -> Manner {
     if let Some(manner) = FIRST.get(turn as usize) {
         return *manner;

@@ -23,12 +23,14 @@ use std::sync::Wait;
 use std::thread::Threads;
 use workers::Gate;
 
-/// In how many portions an evidence is written: as many as there are workers, since more threads would take memory that wasn't used before.
+/// In how many portions an evidence is written: as many as there are workers, since more threads
+/// would take memory that wasn't used before.
 fn part_count(options: Options) -> usize {
     options.workers() as usize
 }
 
-/// The answer of a refutation, for each program on which it is an evidence. It is written in so many portions.
+/// The answer of a refutation, for each program on which it is an evidence. It is written in so
+/// many portions.
 fn told_refutation<R: Threads + Sync>(
     rt: &R,
     alloc: Global,
@@ -64,7 +66,8 @@ fn told<R: Threads + Sync>(rt: &R, alloc: Global, evidence: Evidence, parts: usi
     }
 }
 
-/// Leaves out of the evidence the lines that aren't needed. One that can't be trimmed, such as a schedule, stays as it is.
+/// Leaves out of the evidence the lines that aren't needed. One that can't be trimmed, such as a
+/// schedule, stays as it is.
 fn shorten(alloc: Global, evidence: &mut Evidence) -> Result<(), AllocError>
     ensures { (p : MpiProgram) → IsEvidenceOn p evidence.old → IsEvidenceOn p evidence.new }
 {
@@ -75,7 +78,8 @@ fn shorten(alloc: Global, evidence: &mut Evidence) -> Result<(), AllocError>
     }
 }
 
-/// The answer of what a pool assembled, which is written in so many portions. A reason for which a worker left may be noted.
+/// The answer of what a pool assembled, which is written in so many portions. A reason for which a
+/// worker left may be noted.
 fn told_trimmed<R: Threads + Sync>(
     rt: &R,
     alloc: Global,
@@ -91,15 +95,16 @@ fn told_trimmed<R: Threads + Sync>(
     }
 }
 
-/// The reason that counts beside those that are noted at the end of a search, in which memory may have been wanting.
+/// The reason that counts beside those that are noted at the end of a search, in which memory may
+/// have been wanting.
 fn unnoted(was_short: bool) -> Why
     ensures { result ≡ unnoted was_short }
 {
     if was_short { Why::Memory } else { Why::Left }
 }
 
-/// What a pool says at the end of a search, in which memory may have been wanting. A leaf that is open for no reason that was noted counts
-/// as left. An evidence is written in so many portions.
+/// What a pool says at the end of a search, in which memory may have been wanting. A leaf that is
+/// open for no reason that was noted counts as left. An evidence is written in so many portions.
 fn answer_of<R: Threads + Sync>(
     rt: &R,
     alloc: Global,
@@ -171,7 +176,8 @@ fn searched<G: Gate + Sync, R: Threads + Wait + Sync>(
     }
 }
 
-/// The answer of the walks, if there is a budget, and then of the search, or why the text has neither.
+/// The answer of the walks, if there is a budget, and then of the search, or why the text has
+/// neither.
 fn answered<G: Gate + Sync, R: Threads + Wait + Sync>(
     rt: &R,
     alloc: Global,
@@ -198,21 +204,28 @@ fn answered<G: Gate + Sync, R: Threads + Wait + Sync>(
 
 /// Looks for an answer to a program's text.
 ///
-/// `NoDeadlock` and `Deadlock` come with the text of an evidence for which `verdict` gives the same answer on this program's text,
-/// want of memory aside. Where `NoDeadlock` is answered, no run of the program ends where some rank is unfinished and no step is
-/// enabled; where `Deadlock` is, the evidence's schedule is such a run. `Refused` tells the first fault of the program's text, or the first limit
-/// that its formula passes: 8,192 fitting pairs, 1,024 events, 4,000,000 clauses. `Unknown(Memory)` is want of memory. Another `Unknown` comes only for
-/// a program's text whose formula is within the limits, and with a budget above 0 only where some run ends with all ranks finished.
+/// `NoDeadlock` and `Deadlock` come with the text of an evidence for which `verdict` gives the same
+/// answer on this program's text, want of memory aside. Where `NoDeadlock` is answered, no run of
+/// the program ends where some rank is unfinished and no step is enabled; where `Deadlock` is, the
+/// evidence's schedule is such a run. `Refused` tells the first fault of the program's text, or the
+/// first limit that its formula passes: 8,192 fitting pairs, 1,024 events, 4,000,000 clauses.
+/// `Unknown(Memory)` is want of memory. Another `Unknown` comes only for a program's text whose
+/// formula is within the limits, and with a budget above 0 only where some run ends with all ranks
+/// finished.
 ///
-/// Walks come first, before any formula is made, if the budget is above 0: runs that go on until no step is enabled. They differ in whether they
-/// buffer, whether they match or issue first, and which rank and which match comes first, and then for each rank one holds it back as long
-/// as it can. Where none ends stuck, the whole formula is searched for at most 4,000 conflicts, which count for worker 0; where there are several
-/// workers, all but the first 500, and one for each 1,000 clauses, beside them. Then as many workers as the options say search the cubes of the
-/// tree that `split` gives at the depth of the options, each with the budget of the options and in a thread of its own where one can be started.
-/// Cube k of the first tree, from 0 in the order of its nodes, goes to worker k modulo their number; a worker without cubes takes another's. Each
-/// searches over sets of matched calls, too, in turn with cubes; these sets are shared. Who refutes the formula first closes all cubes. The options
-/// may ask for some of these searches alone. `gate.formed` is called
-/// once there is a formula, `gate.before` before each cube, and `gate.after` after each search.
+/// Walks come first, before any formula is made, if the budget is above 0: runs that go on until no
+/// step is enabled. They differ in whether they buffer, whether they match or issue first, and
+/// which rank and which match comes first, and then for each rank one holds it back as long as it
+/// can. Where none ends stuck, the whole formula is searched for at most 4,000 conflicts, which
+/// count for worker 0; where there are several workers, all but the first 500, and one for each
+/// 1,000 clauses, beside them. Then as many workers as the options say search the cubes of the tree
+/// that `split` gives at the depth of the options, each with the budget of the options and in a
+/// thread of its own where one can be started. Cube k of the first tree, from 0 in the order of its
+/// nodes, goes to worker k modulo their number; a worker without cubes takes another's. Each
+/// searches over sets of matched calls, too, in turn with cubes; these sets are shared. Who refutes
+/// the formula first closes all cubes. The options may ask for some of these searches alone.
+/// `gate.formed` is called once there is a formula, `gate.before` before each cube, and
+/// `gate.after` after each search.
 pub fn prove<G: Gate + Sync, R: Threads + Wait + Sync>(
     rt: &R,
     alloc: Global,

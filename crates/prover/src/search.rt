@@ -41,7 +41,8 @@ fn leaves(alloc: Global, tree: &Tree) -> Result<Vec<u32>, AllocError> {
     Ok(leaves)
 }
 
-/// Puts the cubes in, cube k into supply k modulo their number; one comes back where there is no room.
+/// Puts the cubes in, cube k into supply k modulo their number; one comes back where there is no
+/// room.
 fn fill(supplies: &mut [Supply], cubes: &[u32]) -> Result<(), u32>
     requires { 0 < length supplies.old }
     ensures { map deques_of supplies.new ≡ map deques_of supplies.old }
@@ -167,8 +168,9 @@ pub(crate) fn smallest_with(noted: Option<Why>, why: Why) -> Why
     }
 }
 
-/// The pool of a shared one and all its seats, and whether memory was wanting: for a worker that couldn't note why it left, or to
-/// settle the supplies. Where it is wanting before there is a pool, the smallest reason that is known.
+/// The pool of a shared one and all its seats, and whether memory was wanting: for a worker that
+/// couldn't note why it left, or to settle the supplies. Where it is wanting before there is a
+/// pool, the smallest reason that is known.
 fn ended<B: PoolName, R: Wait>(
     rt: &R,
     alloc: Global,
@@ -296,7 +298,8 @@ fn opened(alloc: Global, encoded: Encoded, depth: u32) -> Result<(Pool, Vec<u32>
     }
 }
 
-/// The pool at the end of a search over a program's formula, and whether memory was wanting at the end, or why there is no pool.
+/// The pool at the end of a search over a program's formula, and whether memory was wanting at the
+/// end, or why there is no pool.
 pub fn pool_of<G: Gate + Sync, R: Threads + Wait + Sync>(
     rt: &R,
     alloc: Global,

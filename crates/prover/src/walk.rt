@@ -131,7 +131,8 @@ fn open_sends(alloc: Global, program: &LongProgram, state: &State) -> Result<Vec
         .collect(alloc)
 }
 
-/// The issued probes that have seen nothing, or the issued receives and matched probes that are not matched.
+/// The issued probes that have seen nothing, or the issued receives and matched probes that are not
+/// matched.
 fn open_finders(
     alloc: Global,
     program: &LongProgram,
@@ -200,8 +201,9 @@ fn find_of(
     None
 }
 
-/// An enabled step by which a probe sees a message, or by which a taker is matched, where there is one: by send, then by
-/// finder, as the manner goes through them. It looks only at sends that are not matched and finders that have found nothing.
+/// An enabled step by which a probe sees a message, or by which a taker is matched, where there is
+/// one: by send, then by finder, as the manner goes through them. It looks only at sends that are
+/// not matched and finders that have found nothing.
 fn next_find(
     alloc: Global,
     program: &LongProgram,
@@ -220,7 +222,8 @@ fn next_find(
     Ok(find_of(program, state, sees, &sends, &finders))
 }
 
-/// An enabled issue or match, where there is one; `ranks` are all but the one that is held back, in turn.
+/// An enabled issue or match, where there is one; `ranks` are all but the one that is held back, in
+/// turn.
 fn next_issue_or_match(
     alloc: Global,
     program: &LongProgram,
@@ -303,9 +306,9 @@ fn step_along(
     next_step(alloc, program, state, ranks, manner)
 }
 
-/// A run from the opening state that takes these steps, one after another, as far as they are enabled
-/// when their turn comes, and goes on until no step is enabled: so it ends stuck or finished. No run has
-/// more than two steps for each call.
+/// A run from the opening state that takes these steps, one after another, as far as they are
+/// enabled when their turn comes, and goes on until no step is enabled: so it ends stuck or
+/// finished. No run has more than two steps for each call.
 pub fn walk_along(
     alloc: Global,
     program: &LongProgram,

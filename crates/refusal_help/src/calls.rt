@@ -102,7 +102,8 @@ fn put_faults(help: &mut Help, shape: &str, words: &[&[u8]]) -> Result<(), Alloc
     put_more(help, shape, words.get(known..).unwrap_or(&[]))
 }
 
-/// Tells what is wrong with a call line whose first word is this one, and the shape that it has to have.
+/// Tells what is wrong with a call line whose first word is this one, and the shape that it has to
+/// have.
 pub fn put_call(help: &mut Help, verb: Verb, words: &[&[u8]]) -> Result<(), AllocError> {
     let shape = shape_of(verb);
     if let Verb::WaitAll = verb {

@@ -121,8 +121,8 @@ fn put_help(
     }
 }
 
-/// What helps where a program that was read within these limits, or an evidence that is named, is refused for this reason: lines, each with
-/// its LF. The only error is want of memory.
+/// What helps where a program that was read within these limits, or an evidence that is named, is
+/// refused for this reason: lines, each with its LF. The only error is want of memory.
 pub fn help(
     alloc: Global,
     limits: Limits,
@@ -136,8 +136,9 @@ pub fn help(
     Ok(text.into_bytes())
 }
 
-/// The same as the text of a JSON object, without an LF: which `line` of which `file` is meant, the `rank` whose call it is, what was `found`
-/// there, which `word` of it is meant, `notes` on what is wrong, and what is `expected` there. Each is null where there is nothing to tell.
+/// The same as the text of a JSON object, without an LF: which `line` of which `file` is meant, the
+/// `rank` whose call it is, what was `found` there, which `word` of it is meant, `notes` on what is
+/// wrong, and what is `expected` there. Each is null where there is nothing to tell.
 pub fn help_object(
     alloc: Global,
     limits: Limits,

@@ -1,6 +1,7 @@
 //! What helps where a text is refused: the line that is meant, and what may stand there.
 //!
-//! No contract says which words are told: a refusal is told by its own line, and this stands below it.
+//! No contract says which words are told: a refusal is told by its own line, and this stands below
+//! it.
 #![tactic(auto)]
 
 mod calls;

@@ -43,7 +43,8 @@ pub fn bytes_at<'a>(lines: &[&'a [u8]], number: usize) -> &'a [u8] {
     }
 }
 
-/// Shows bytes, cut where they are many, with a question mark for each that isn't printed as itself.
+/// Shows bytes, cut where they are many, with a question mark for each that isn't printed as
+/// itself.
 pub fn put_shown(out: &mut String, bytes: &[u8]) -> Result<(), AllocError> {
     for byte in bytes.iter().take(MOST_SHOWN) {
         if byte.is_ascii_graphic() || *byte == b' ' {

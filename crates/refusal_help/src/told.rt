@@ -53,7 +53,8 @@ impl Help {
         }
     }
 
-    /// Names the line of this number, from 1, of the program, which is a call of this rank, from 0, and shows it.
+    /// Names the line of this number, from 1, of the program, which is a call of this rank, from 0,
+    /// and shows it.
     pub fn show_call(
         &mut self,
         alloc: Global,

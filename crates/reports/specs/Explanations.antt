@@ -37,7 +37,8 @@ is_leaf (Leaf number) = true
 abbrev pub leaves : List Node → ℕ
 leaves nodes = length (filter is_leaf nodes)
 
--- what stands round the numbers: at the beginning, before each name, between a name and its number, behind that, and at the end
+-- what stands round the numbers: at the beginning, before each name, between a name and its number,
+-- behind that, and at the end
 pub record Marks : Type 0 where
   pub begin : List ℕ
   pub front : List ℕ
@@ -45,7 +46,8 @@ pub record Marks : Type 0 where
   pub back : List ℕ
   pub foot : List ℕ
 
--- by forms: lines; comments of a graph without a node; lines of a picture; lines of a page; members of an object
+-- by forms: lines; comments of a graph without a node; lines of a picture; lines of a page; members
+-- of an object
 abbrev pub line_marks : Marks
 line_marks = record { begin = codes "no deadlock\n"; front = []; middle = codes " "; back = codes "\n"; foot = [] }
 
@@ -99,8 +101,8 @@ marks_of forms.Messages = line_marks
 abbrev pub count_line : Marks → List ℕ → ℕ → List ℕ
 count_line m name count = m.front ++ (name ++ (m.middle ++ (decimal count ++ m.back)))
 
--- the lines on a program tell its numbers of ranks, calls and messages, and those of wildcards with a choice and of sends that the policy
--- leaves open
+-- the lines on a program tell its numbers of ranks, calls and messages, and those of wildcards with
+-- a choice and of sends that the policy leaves open
 abbrev pub size_lines : Marks → MpiProgram → List ℕ
 size_lines m p =
     count_line m (codes "ranks") p.ranks ++
@@ -137,7 +139,8 @@ well_steps often.Always = None
 well_steps (often.Sometimes steps) = Some steps.items
 well_steps often.Unknown = None
 
--- The page has such a text, draws the run of these steps, and exactly where the text says that other runs end well it draws one, too.
+-- The page has such a text, draws the run of these steps, and exactly where the text says that
+-- other runs end well it draws one, too.
 pub record IsExplainedPage (program : List ℕ) (source : ProgramText) (p : MpiProgram) (steps : List Step) (page : List ℕ) : Type 0 where
   pub often : Frequency
   pub is_often : IsFrequency p often
@@ -145,8 +148,9 @@ pub record IsExplainedPage (program : List ℕ) (source : ProgramText) (p : MpiP
   pub says : BeginsWith (often_line often) words
   pub is_page : IsPage program source p steps (well_steps often) words page
 
--- the text draws the run of these steps, as a chart or as a picture, where the form is one of these, and as a text says how often the
--- program gets stuck; a page does both; and messages have a line for each rank that waits
+-- the text draws the run of these steps, as a chart or as a picture, where the form is one of
+-- these, and as a text says how often the program gets stuck; a page does both; and messages have a
+-- line for each rank that waits
 abbrev pub IsDrawnFrom : Form → List ℕ → ProgramText → MpiProgram → List Step → List ℕ → Type 0
 IsDrawnFrom forms.Chart program source p steps text = text ≡ chart_of program source p steps
 IsDrawnFrom forms.Picture program source p steps text = IsPicture program source p steps text
@@ -164,11 +168,13 @@ IsDrawnWithin l form program p steps text = (source : ProgramText) × IsTextWith
 abbrev pub IsDrawn : Form → List ℕ → MpiProgram → List Step → List ℕ → Type 0
 IsDrawn = IsDrawnWithin short
 
--- the steps are a run, that ends stuck, of the program of a text of any length, and the text draws it
+-- the steps are a run, that ends stuck, of the program of a text of any length, and the text draws
+-- it
 abbrev pub IsRunDrawn : Form → List ℕ → List Step → List ℕ → Type 0
 IsRunDrawn form program steps text = (p : MpiProgram) × IsTextOfWithin long program p × IsStuckRun p steps × IsDrawnWithin long form program p steps text
 
--- The line on wildcards: of a program of at most 1,024 calls it tells how many have a choice, and of a larger one how many there are.
+-- The line on wildcards: of a program of at most 1,024 calls it tells how many have a choice, and
+-- of a larger one how many there are.
 abbrev pub wildcard_line : Marks → MpiProgram → List ℕ
 wildcard_line m p =
     if nat_lt 1024 (length p.calls) then count_line m (codes "wildcards") (wildcards p.calls) else count_line m (codes "wildcards with a choice") (choices p.calls)
@@ -177,7 +183,8 @@ wildcard_line m p =
 abbrev pub sizes_text : Marks → MpiProgram → List ℕ
 sizes_text m p = m.begin ++ (size_lines m p ++ (wildcard_line m p ++ (open_line m p ++ m.foot)))
 
--- what a form adds below the numbers of a program, none of whose runs gets stuck: a text tells the messages that no receive takes
+-- what a form adds below the numbers of a program, none of whose runs gets stuck: a text tells the
+-- messages that no receive takes
 abbrev pub IsAdded : Form → MpiProgram → List ℕ → Type 0
 IsAdded forms.Brief p added = TellsLosses p added
 IsAdded forms.Whole p added = TellsLosses p added
@@ -196,9 +203,10 @@ IsNumbered form p numbers text = (added : List ℕ) × IsAdded form p added × (
 abbrev pub TellsSizes : Form → List ℕ → List ℕ → Type 0
 TellsSizes form program text = (p : MpiProgram) × IsTextOfWithin long program p × IsNumbered form p (sizes_text (marks_of form) p) text
 
--- A text that tells sizes comes where the evidence refutes the program, and tells those of the program that the one text is of and of the
--- refutation that the other is of; a text on a deadlock where the evidence shows one, whose run a chart and a picture draw; and a refusal has a
--- verdict's reason.
+-- A text that tells sizes comes where the evidence refutes the program, and tells those of the
+-- program that the one text is of and of the refutation that the other is of; a text on a deadlock
+-- where the evidence shows one, whose run a chart and a picture draw; and a refusal has a verdict's
+-- reason.
 abbrev pub Explains : Form → List ℕ → List ℕ → Explained → Type 0
 Explains form program evidence (told.NoDeadlock text) =
     Refutes program evidence × ((p : MpiProgram) × (claim : ClaimedRefutation) × IsTextOf program p × IsEvidenceText evidence (Refutation claim) × IsNumbered form p (counts_text form p claim) text.items)

@@ -30,7 +30,8 @@ wildcards calls = length (filter (λ call. has_star (pattern_of call.kind)) call
 abbrev pub senders : List Call → Call → ℕ
 senders calls finder = length (filter (λ send. fits send finder) calls)
 
--- a receive, a matched probe or a probe with a star as its source or its tag, which more than one send fits
+-- a receive, a matched probe or a probe with a star as its source or its tag, which more than one
+-- send fits
 abbrev pub has_choice : List Call → Call → Bool
 has_choice calls finder = has_star (pattern_of finder.kind) && nat_lt 1 (senders calls finder)
 

@@ -13,7 +13,8 @@ use Rattle.semantics.specs.declared.state.Step.TheVariants.{Issue, Match, See}
 use Rattle.semantics.specs.Machine.{Configuration, opening, after}
 use Rattle.prooflog.specs.Steps.{step_line, written}
 
--- the verb of a call of this kind, as a program's text has it; a nonblocking call is one that is started
+-- the verb of a call of this kind, as a program's text has it; a nonblocking call is one that is
+-- started
 abbrev pub verb_of : Kind → Verb
 verb_of (Send mode blocking message) = verb.Send mode (not blocking)
 verb_of (Receive blocking pattern) = verb.Receive (not blocking)
@@ -32,7 +33,8 @@ abbrev pub how_issued : Bool → List ℕ
 how_issued false = codes " call "
 how_issued true = codes " buffered call "
 
--- the line that tells the issue of a call: `issue R call N WORD`, or `issue R buffered call N WORD`; ranks count from 0, calls from 1
+-- the line that tells the issue of a call: `issue R call N WORD`, or
+-- `issue R buffered call N WORD`; ranks count from 0, calls from 1
 abbrev pub issue_line : MpiProgram → ℕ → ℕ → Bool → List ℕ
 issue_line p c rank buffered =
     codes "issue " ++ (numeral rank ++ (how_issued buffered ++ (numeral (c + 1) ++ (codes " " ++ (word_of (call_at p c) ++ codes "\n")))))

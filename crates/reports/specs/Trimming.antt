@@ -32,8 +32,9 @@ abbrev pub lines_of : Evidence → ℕ
 lines_of (Refutation claim) = length claim.lines
 lines_of (Schedule steps) = 0
 
--- The one text is that of a refutation each of whose numbers names a clause or a line, and the other that of the refutation without the
--- lines that are not needed, with the number of lines before and after.
+-- The one text is that of a refutation each of whose numbers names a clause or a line, and the
+-- other that of the refutation without the lines that are not needed, with the number of lines
+-- before and after.
 pub record Shortens (evidence : List ℕ) (shortened : Shortened) : Type 0 where
   pub claim : ClaimedRefutation
   pub refutation : IsEvidenceText evidence (Refutation claim)
@@ -42,8 +43,8 @@ pub record Shortens (evidence : List ℕ) (shortened : Shortened) : Type 0 where
   pub before : shortened.before ≡ length claim.lines
   pub after : shortened.after ≡ length (trimmed_of claim).lines
 
--- Why there is no such text: the bytes are no evidence's text; a number of the refutation names nothing; it is a schedule. Want of memory may
--- come at any time.
+-- Why there is no such text: the bytes are no evidence's text; a number of the refutation names
+-- nothing; it is a schedule. Want of memory may come at any time.
 abbrev pub IsWhyUntrimmed : List ℕ → Untrimmed → Type 0
 IsWhyUntrimmed evidence untrimmed.Memory = Unit {0}
 IsWhyUntrimmed evidence (untrimmed.Evidence fault) = HasEvidenceFault evidence fault × (fault ≢ reading.Memory)

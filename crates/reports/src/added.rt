@@ -10,8 +10,8 @@ use explain::{losing, lost_messages};
 use options::Form;
 use std::alloc::{AllocError, Global};
 
-/// The text on the messages of a program that no receive takes; empty where there are none. Only where
-/// there are some is the program's text, `text`, read again for its lines.
+/// The text on the messages of a program that no receive takes; empty where there are none. Only
+/// where there are some is the program's text, `text`, read again for its lines.
 fn losses(alloc: Global, text: &[u8], program: &LongProgram) -> Result<String, AllocError>
     ensures { IfOk result (λ told. TellsLosses program.now (string_bytes told)) }
 {

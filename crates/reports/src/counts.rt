@@ -237,8 +237,9 @@ fn marked_text(
     Ok(out)
 }
 
-/// The text that tells the numbers of a program and of what refutes it: as lines; as a graph without a node, with the lines as comments; as a
-/// picture of the lines; or as the members of a JSON object.
+/// The text that tells the numbers of a program and of what refutes it: as lines; as a graph
+/// without a node, with the lines as comments; as a picture of the lines; or as the members of a
+/// JSON object.
 pub fn counts_text(
     alloc: Global,
     program: &Program,
@@ -254,8 +255,9 @@ pub fn counts_text(
     marked_text(alloc, &marks_of(form), &sizes, &choices, &claim)
 }
 
-/// The text that tells the numbers of a program without a refutation, as `counts_text` tells those of one with it. How many wildcards
-/// have a choice is told of at most 1,024 calls; of more calls it is told how many wildcards there are.
+/// The text that tells the numbers of a program without a refutation, as `counts_text` tells those
+/// of one with it. How many wildcards have a choice is told of at most 1,024 calls; of more calls
+/// it is told how many wildcards there are.
 pub fn sizes_text(alloc: Global, program: &LongProgram, form: Form) -> Result<Vec<u8>, AllocError>
     ensures { IfOk result (λ text. text.items ≡ sizes_text (marks_of form) program.now) }
 {

@@ -39,10 +39,11 @@ fn program_of(alloc: Global, text: &[u8]) -> Result<LongProgram, AllocError>
     }
 }
 
-/// Explains a run of the program of a text of any length, which ends stuck, in the forms of `explain_evidence`. `schedule` is the text of
-/// the steps as an evidence: what decided the run is asked of a program that `prove` takes, by that text, and else it is said that it
-/// isn't asked. Of a program of more than 64 ranks or 1,024 calls long lists are cut sooner, and a chart or a picture has the last 400
-/// steps. The only error is want of memory.
+/// Explains a run of the program of a text of any length, which ends stuck, in the forms of
+/// `explain_evidence`. `schedule` is the text of the steps as an evidence: what decided the run is
+/// asked of a program that `prove` takes, by that text, and else it is said that it isn't asked. Of
+/// a program of more than 64 ranks or 1,024 calls long lists are cut sooner, and a chart or a
+/// picture has the last 400 steps. The only error is want of memory.
 pub fn explain_run<R: Threads + Wait + Sync>(
     rt: &R,
     alloc: Global,
@@ -60,10 +61,11 @@ pub fn explain_run<R: Threads + Wait + Sync>(
     run_text(rt, alloc, text, &source, &program, steps, &asked, form)
 }
 
-/// Tells that no run of the program of a text of any length ends stuck, and the program's numbers: of ranks, calls, messages and
-/// wildcards, and of sends that the policy leaves open. Of at most 1,024 calls it is told how many wildcards have a choice, of more how
-/// many there are. In a graph these are comments, in a chart lines. Below them a text tells the messages that no receive takes. The only
-/// error is want of memory.
+/// Tells that no run of the program of a text of any length ends stuck, and the program's numbers:
+/// of ranks, calls, messages and wildcards, and of sends that the policy leaves open. Of at most
+/// 1,024 calls it is told how many wildcards have a choice, of more how many there are. In a graph
+/// these are comments, in a chart lines. Below them a text tells the messages that no receive
+/// takes. The only error is want of memory.
 pub fn explain_sizes(alloc: Global, text: &[u8], form: Form) -> Result<Vec<u8>, AllocError>
     requires { IsNeverStuckWithin long text.now }
     ensures { IfOk result (λ told. TellsSizes form text.now told.items) }

@@ -19,7 +19,8 @@ use std::thread::Threads;
 /// What is told of a program and an evidence.
 #[derive(Drop)]
 pub enum Explained {
-    /// No run of the program ends stuck. The text tells how large the program and its refutation are.
+    /// No run of the program ends stuck. The text tells how large the program and its refutation
+    /// are.
     NoDeadlock(Vec<u8>),
     /// The evidence's schedule is a run of the program that ends stuck. The text explains it.
     Deadlock(Vec<u8>),
@@ -94,15 +95,17 @@ fn no_deadlock(
     }
 }
 
-/// Explains what the evidence shows of the program, in this form. A deadlock is explained by the steps that decided it, where each rank
-/// stands and who waits for whom, as a text or as a JSON object; by who waits for whom alone, as a graph in Graphviz's language; or by a
-/// chart of its steps, as a text or as a picture. A refutation is explained by the program's numbers of ranks, calls, messages, wildcards
-/// with a choice and sends that the policy leaves open, and its own numbers of variables, clauses, lines and leaves: in a graph as a comment,
-/// in a chart as lines; below them a text tells the messages that no receive takes. It is refused where `verdict` refuses it, for the same reasons.
-/// A refutation's lines are checked in so many pieces, 1 to 64.
+/// Explains what the evidence shows of the program, in this form. A deadlock is explained by the
+/// steps that decided it, where each rank stands and who waits for whom, as a text or as a JSON
+/// object; by who waits for whom alone, as a graph in Graphviz's language; or by a chart of its
+/// steps, as a text or as a picture. A refutation is explained by the program's numbers of ranks,
+/// calls, messages, wildcards with a choice and sends that the policy leaves open, and its own
+/// numbers of variables, clauses, lines and leaves: in a graph as a comment, in a chart as lines;
+/// below them a text tells the messages that no receive takes. It is refused where `verdict`
+/// refuses it, for the same reasons. A refutation's lines are checked in so many pieces, 1 to 64.
 ///
-/// What the checker hands out of the two texts is explained, and neither is read again, so that the checker alone stands between an evidence
-/// and its explanation.
+/// What the checker hands out of the two texts is explained, and neither is read again, so that the
+/// checker alone stands between an evidence and its explanation.
 pub fn explain_evidence<R: Threads + Wait + Sync, G: PieceGate + Sync>(
     rt: &R,
     alloc: Global,

@@ -27,10 +27,11 @@ fn proof_text(
     lrat_text(alloc, formula.len(), lines, &added)
 }
 
-/// The proof that an evidence makes of a program's formula, in the LRAT format, for the formula in the DIMACS format: the evidence's
-/// lines, and then the inner nodes of its tree as lines, from the leaves up. A checker of such proofs needs this text and the formula
-/// alone. Where the evidence doesn't refute the program, the verdict is told, which is never `NoDeadlock`. The refutation's lines are
-/// checked in so many pieces, 1 to 64.
+/// The proof that an evidence makes of a program's formula, in the LRAT format, for the formula in
+/// the DIMACS format: the evidence's lines, and then the inner nodes of its tree as lines, from the
+/// leaves up. A checker of such proofs needs this text and the formula alone. Where the evidence
+/// doesn't refute the program, the verdict is told, which is never `NoDeadlock`. The refutation's
+/// lines are checked in so many pieces, 1 to 64.
 pub fn export_evidence<R: Threads + Sync, G: PieceGate + Sync>(
     rt: &R,
     alloc: Global,

@@ -28,9 +28,10 @@ fn encoded_of(rt: &(impl Threads + Sync), alloc: Global, program: &[u8]) -> Resu
     }
 }
 
-/// The text of the formula of a program's text: the line `formula V C`, with the numbers of its variables and clauses,
-/// and a line for each clause, the word `clause` and its literals. A program's text is refused as `verdict` refuses it;
-/// then a program with more than 8,192 fitting pairs, more than 1,024 events or more than 4,000,000 clauses is.
+/// The text of the formula of a program's text: the line `formula V C`, with the numbers of its
+/// variables and clauses, and a line for each clause, the word `clause` and its literals. A
+/// program's text is refused as `verdict` refuses it; then a program with more than 8,192 fitting
+/// pairs, more than 1,024 events or more than 4,000,000 clauses is.
 pub fn formula_text(
     rt: &(impl Threads + Sync),
     alloc: Global,
@@ -51,8 +52,8 @@ pub fn formula_text(
     }
 }
 
-/// The text of the same formula in the DIMACS format, with a comment line for each variable that tells what it stands for. A program is
-/// refused as by [`formula_text`].
+/// The text of the same formula in the DIMACS format, with a comment line for each variable that
+/// tells what it stands for. A program is refused as by [`formula_text`].
 pub fn dimacs_formula(
     rt: &(impl Threads + Sync),
     alloc: Global,

@@ -1,5 +1,6 @@
-//! From the texts of a program and an evidence to the text that people read, and to the proof that other checkers read; and from an
-//! evidence's text to that of the evidence without lines that aren't needed. What one run decides of a text of any length is told likewise.
+//! From the texts of a program and an evidence to the text that people read, and to the proof that
+//! other checkers read; and from an evidence's text to that of the evidence without lines that
+//! aren't needed. What one run decides of a text of any length is told likewise.
 #![tactic(auto)]
 
 mod added;

@@ -134,9 +134,10 @@ fn text_of(alloc: Global, text: &[u8], run: &StuckRun, lines: bool) -> Result<Ve
     }
 }
 
-/// Replays the schedule of an evidence on a program, and tells its steps, a line for each, and then `stuck`; ranks
-/// count from 0, calls and lines of the program's text from 1. Steps are told by the numbers of their calls, or by the lines that these
-/// stand in. What isn't a run of the program that ends stuck is refused as `verdict` refuses it.
+/// Replays the schedule of an evidence on a program, and tells its steps, a line for each, and then
+/// `stuck`; ranks count from 0, calls and lines of the program's text from 1. Steps are told by the
+/// numbers of their calls, or by the lines that these stand in. What isn't a run of the program
+/// that ends stuck is refused as `verdict` refuses it.
 pub fn replay(alloc: Global, program: &[u8], evidence: &[u8], lines: bool) -> Replayed
     ensures { Replays lines program.now evidence.now result }
 {

@@ -82,7 +82,8 @@ pub fn ask<R: Threads + Wait + Sync>(
     Ok(Asked::Known(decided))
 }
 
-/// The same of a program of any length, by the text of the steps as an evidence: it is asked only of a program that `prove` takes.
+/// The same of a program of any length, by the text of the steps as an evidence: it is asked only
+/// of a program that `prove` takes.
 pub fn ask_if_short<R: Threads + Wait + Sync>(
     rt: &R,
     alloc: Global,
@@ -113,8 +114,8 @@ fn asked_text(alloc: Global, text: &[u8], asked: &Asked) -> Result<String, Alloc
     }
 }
 
-/// How often the runs of a program get stuck, where no run that was tried finishes: of a program of at
-/// most 256 calls, a formula is asked.
+/// How often the runs of a program get stuck, where no run that was tried finishes: of a program of
+/// at most 256 calls, a formula is asked.
 fn often_by_formula<R: Threads + Sync>(
     rt: &R,
     alloc: Global,
@@ -135,8 +136,8 @@ fn often_by_formula<R: Threads + Sync>(
     }
 }
 
-/// How often the runs of a program get stuck, where its runs that buffer most and least don't tell it:
-/// of a program of at most 1,024 calls, runs by chance are tried.
+/// How often the runs of a program get stuck, where its runs that buffer most and least don't tell
+/// it: of a program of at most 1,024 calls, runs by chance are tried.
 fn often_by_chance<R: Threads + Sync>(
     rt: &R,
     alloc: Global,

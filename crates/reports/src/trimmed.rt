@@ -6,7 +6,8 @@ ghost use Rattle.reports.specs.Trimming.{IsWhyUntrimmed, Shortens, lines_of};
 use prooflog::{Evidence, EvidenceFault, TrimFault, read_evidence, trim_in_place, write_evidence};
 use std::alloc::{AllocError, Global};
 
-/// The text of a refutation all of whose lines are needed, and how many lines there were before and are now.
+/// The text of a refutation all of whose lines are needed, and how many lines there were before and
+/// are now.
 #[derive(Drop)]
 pub struct Shortened {
     /// The text.
@@ -24,7 +25,8 @@ pub enum Untrimmed {
     Memory,
     /// The bytes are no evidence's text.
     Evidence(EvidenceFault),
-    /// A hint names neither a clause nor an earlier line, or a leaf names neither a clause nor a line.
+    /// A hint names neither a clause nor an earlier line, or a leaf names neither a clause nor a
+    /// line.
     Number,
     /// The evidence is a schedule.
     NotRefutation,
@@ -69,8 +71,9 @@ fn lines_of(evidence: &Evidence) -> usize
     }
 }
 
-/// The text of the refutation that an evidence's text is, without the lines that aren't needed, or why there is none: the first fault of the
-/// evidence's text; a number of the refutation that names nothing; a schedule. Want of memory may come at any time.
+/// The text of the refutation that an evidence's text is, without the lines that aren't needed, or
+/// why there is none: the first fault of the evidence's text; a number of the refutation that names
+/// nothing; a schedule. Want of memory may come at any time.
 pub fn trim_evidence(alloc: Global, evidence: &[u8]) -> Result<Shortened, Untrimmed>
     ensures shortened { IfOk result (Shortens evidence.now) }
     ensures why { IfErr result (IsWhyUntrimmed evidence.now) }

@@ -1,4 +1,5 @@
--- Every assignment that satisfies the formula of a program gives a stuck run, and the other way round.
+-- Every assignment that satisfies the formula of a program gives a stuck run, and the other way
+-- round.
 use Rattle.std.proofs.Common.{◌≡◌, true, List, [], ◌∷◌, ◌++◌, get_or, refl, sym, ◌∙◌}
 use Rattle.std.specs.Prelude.{All}
 use Rattle.std.specs.List.{flat_map, list_all}

@@ -235,7 +235,8 @@ module _ (p : MpiProgram) (world : World) (says : Consequences p world) (m : Con
   not_in true h = absurd (cc)
   not_in false h = refl
 
-  -- the send is unmatched: what was matched is no later than what is left, and the see comes before its match
+  -- the send is unmatched: what was matched is no later than what is left, and the see comes before
+  -- its match
   send_unmatched : (u : ℕ) → partner_of m s ≡ Some u → ⊥
   send_unmatched u e =
       elim (stage.fits s u e) [

@@ -26,8 +26,8 @@ use Rattle.run_from_formula.proofs.Happening.{IsListed, is_in, by_clock, found_b
 use Rattle.run_laws.proofs.Descent.{takes_fit}
 use Rattle.formula.specs.Facts.{is_same_event}
 
--- What is issued, buffered and matched is what the world says of the events that aren't left. Each rank has gone through
--- its own calls alone.
+-- What is issued, buffered and matched is what the world says of the events that aren't left. Each
+-- rank has gone through its own calls alone.
 pub record IsStage (p : MpiProgram) (world : World) (m : Configuration) (left : List Event) : Type 0 where
   pub size : IsConfigurationOf p m
   pub started : (r : ℕ) → r < p.ranks → first_call p r ≤ slice_index m.next r

@@ -1,5 +1,5 @@
--- Every world in which the clauses of a program hold is that of a stuck run, so the formula of a program can be
--- satisfied exactly where the program has a stuck run.
+-- Every world in which the clauses of a program hold is that of a stuck run, so the formula of a
+-- program can be satisfied exactly where the program has a stuck run.
 use Rattle.std.specs.Prelude.{◌≡◌, ◌↔◌, ◌≤◌, ◌==◌, ℕ, IsTrue, List, filter}
 use Rattle.std.specs.List.{AllPairs, list_all}
 use Rattle.callorder.specs.Programs.{MpiProgram, IsProgram}
@@ -12,8 +12,9 @@ use Rattle.formula.specs.Numbering.{formula_of}
 use Rattle.formula_from_run.specs.Worlds.{World, clauses_hold}
 use Rattle.run_from_formula.specs.Schedules.{happens, sorted_by, schedule_of, world_in}
 
--- The events of a world's schedule have rising clocks, and those of one clock, whichever it is, are the events of that clock that happen, in the
--- order of their list. There is only one such list, so nothing of how it is made matters.
+-- The events of a world's schedule have rising clocks, and those of one clock, whichever it is, are
+-- the events of that clock that happen, in the order of their list. There is only one such list, so
+-- nothing of how it is made matters.
 abbrev pub SchedulesAreByClock : Type 0
 SchedulesAreByClock =
     (p : MpiProgram) (world : World)
@@ -21,7 +22,8 @@ SchedulesAreByClock =
     × ((k : ℕ) → filter (λ (e : Event). world.clock e == k) (sorted_by world.clock (filter (happens p world) (events p)))
     ≡ filter (λ (e : Event). world.clock e == k) (filter (happens p world) (events p)))
 
--- The schedule of a world in which the clauses of all families of a program hold is a stuck run of the program.
+-- The schedule of a world in which the clauses of all families of a program hold is a stuck run of
+-- the program.
 abbrev pub WorldsAreStuckRuns : Type 0
 WorldsAreStuckRuns =
     (p : MpiProgram) (world : World) → IsProgram p → IsTrue (list_all (clauses_hold world) (families p)) → IsStuckRun p (schedule_of p world)

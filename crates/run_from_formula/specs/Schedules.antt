@@ -17,7 +17,8 @@ use Rattle.formula_from_run.specs.Worlds.{World}
 
 -- ---- the steps that events are
 
--- the event happens in the world: the call is issued, or the taker is matched with some send that fits it
+-- the event happens in the world: the call is issued, or the taker is matched with some send that
+-- fits it
 abbrev pub happens : MpiProgram → World → Event → Bool
 happens p world (issue_of c) = world.has (issued c)
 happens p world (match_of t) = list_any (λ s. world.has (matched s t)) (sends_of p t)
@@ -26,7 +27,8 @@ happens p world (match_of t) = list_any (λ s. world.has (matched s t)) (sends_o
 abbrev pub sender_of : MpiProgram → World → ℕ → ℕ
 sender_of p world t = get_or (filter (λ s. world.has (matched s t)) (sends_of p t)) 0 0
 
--- the step that an event is: a send in standard mode is buffered where the world says so, no other call is
+-- the step that an event is: a send in standard mode is buffered where the world says so, no other
+-- call is
 abbrev pub step_of : MpiProgram → World → Event → Step
 step_of p world (issue_of c) = Issue (rank_of p c) (is_standard p c && world.has (buffered c))
 step_of p world (match_of t) = find_step (is_probe p t) (sender_of p world t) t
@@ -43,7 +45,8 @@ abbrev pub sorted_by : {X : Type 0} → (X → ℕ) → List X → List X
 sorted_by key [] = []
 sorted_by key (x ∷ xs) = insert_by key x (sorted_by key xs)
 
--- the schedule of a world: the steps of the events that happen, by clock, and events of one clock in the order of their list
+-- the schedule of a world: the steps of the events that happen, by clock, and events of one clock
+-- in the order of their list
 abbrev pub schedule_of : MpiProgram → World → List Step
 schedule_of p world = map (step_of p world) (sorted_by world.clock (filter (happens p world) (events p)))
 

@@ -28,7 +28,8 @@ use Rattle.run_laws.specs.Laws.{IsInRankOrder, IssuedBeforeMatched, EarlierCalls
 
 -- ---- in the opening configuration no call is issued
 
--- where all calls from a place on are of this rank or a higher one, no more than that place are of a lower rank
+-- where all calls from a place on are of this rank or a higher one, no more than that place are of
+-- a lower rank
 lower_before : (r : ℕ) (calls : List Call) (c : ℕ) → ((d : ℕ) (x : Call) → c ≤ d → slice_get calls d ≡ Some x → r ≤ x.rank) → count_by (λ call. nat_lt call.rank r) calls ≤ c
 lower_before r [] c from = omega arith
 lower_before r (call ∷ calls) zero from =

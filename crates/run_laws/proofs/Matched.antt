@@ -20,7 +20,8 @@ use Rattle.calltext.proofs.Conjunctions.{and_true}
 
 -- ---- a call that is matched in the end is matched by a step
 
--- by the step at this place a finder finds a send that fits it, and the call is the finder, or the send where it is matched
+-- by the step at this place a finder finds a send that fits it, and the call is the finder, or the
+-- send where it is matched
 pub record FitFind (p : MpiProgram) (steps : List Step) (c : ℕ) : Type 0 where
   pub place : ℕ
   pub send : ℕ

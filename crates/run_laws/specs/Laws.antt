@@ -29,8 +29,8 @@ pub record SomeFindUpTo (p : MpiProgram) (m : Configuration) (last_send last_fin
   pub finder_rank : IsTrue (are_of_one_rank p finder last_finder)
   pub can : CanFind p m send finder
 
--- Where a send and a finder that fit are issued, the send is unmatched and the finder has found none, a find is
--- possible, of these two or of earlier calls of their ranks.
+-- Where a send and a finder that fit are issued, the send is unmatched and the finder has found
+-- none, a find is possible, of these two or of earlier calls of their ranks.
 abbrev pub SomeFindIsPossible : Type 0
 SomeFindIsPossible =
     (p : MpiProgram) (m : Configuration) (send finder : ℕ) → IsOpenPair p m send finder → SomeFindUpTo p m send finder
@@ -41,7 +41,8 @@ pub record SomeMatchOrSee (p : MpiProgram) (m : Configuration) : Type 0 where
   pub finder : ℕ
   pub enabled : IsEnabled p m (find_step (is_probe p finder) send finder)
 
--- Where a send and a finder that fit are issued, the send is unmatched and the finder has found none, some match or see is enabled.
+-- Where a send and a finder that fit are issued, the send is unmatched and the finder has found
+-- none, some match or see is enabled.
 abbrev pub SomeMatchOrSeeIsEnabled : Type 0
 SomeMatchOrSeeIsEnabled =
     (p : MpiProgram) (m : Configuration) (send finder : ℕ) → IsOpenPair p m send finder → SomeMatchOrSee p m
@@ -54,15 +55,15 @@ NoOpenPairWhereStuck =
 
 -- ---- non-overtaking
 
--- Where by a step of a run a finder finds a send, each earlier send of the send's rank that fits the finder is matched by
--- an earlier step.
+-- Where by a step of a run a finder finds a send, each earlier send of the send's rank that fits
+-- the finder is matched by an earlier step.
 abbrev pub EarlierSendsMatchFirst : Type 0
 EarlierSendsMatchFirst =
     (p : MpiProgram) (steps : List Step) (place send finder earlier : ℕ) (sees : Bool) → IsRun p (opening p) steps → slice_get steps place ≡ Some (find_step sees send finder)
     → earlier < send → IsTrue (are_of_one_rank p earlier send) → IsTrue (are_fit p earlier finder) → IsSendMatchedBefore steps earlier place
 
--- Where by a step of a run a finder finds a send, each earlier taker of the finder's rank that the send fits is matched by
--- an earlier step.
+-- Where by a step of a run a finder finds a send, each earlier taker of the finder's rank that the
+-- send fits is matched by an earlier step.
 abbrev pub EarlierTakersMatchFirst : Type 0
 EarlierTakersMatchFirst =
     (p : MpiProgram) (steps : List Step) (place send finder earlier : ℕ) (sees : Bool) → IsRun p (opening p) steps → slice_get steps place ≡ Some (find_step sees send finder)
@@ -102,8 +103,8 @@ is_blocking_taker (Probe pattern) = false
 is_blocking_taker (MatchedReceive blocking) = false
 is_blocking_taker (Wait operation) = false
 
--- Where a step of a run issues a call, and the call before it in its rank is a blocking receive or a matched probe,
--- that taker is matched by an earlier step.
+-- Where a step of a run issues a call, and the call before it in its rank is a blocking receive or
+-- a matched probe, that taker is matched by an earlier step.
 abbrev pub BlockingTakersMatchFirst : Type 0
 BlockingTakersMatchFirst =
     (p : MpiProgram) (steps : List Step) (place taker : ℕ) (call : Call) → IsRun p (opening p) steps → IsIssuedAt (opening p) steps (taker + 1) place

@@ -2,24 +2,26 @@
 
 ghost use Rattle.run_laws.specs.Laws.{SomeFindIsPossible, SomeMatchOrSeeIsEnabled, FoundOnce, NoOpenPairWhereStuck, EarlierSendsMatchFirst, EarlierTakersMatchFirst, IssuedBeforeMatched, EarlierCallsIssueFirst, CallBeforeHasReturned, BlockingTakersMatchFirst, MatchedOnce, IssuedOnce};
 
-/// Where a send and a finder that fit are issued, the send is unmatched and the finder has found none, some find is
-/// possible, of these two or of earlier calls of their ranks.
+/// Where a send and a finder that fit are issued, the send is unmatched and the finder has found
+/// none, some find is possible, of these two or of earlier calls of their ranks.
 pub fn some_find_is_possible()
     ensures { SomeFindIsPossible }
 {}
 
-/// In a stuck configuration one of two issued calls that fit is matched, or is a probe that has seen a message.
+/// In a stuck configuration one of two issued calls that fit is matched, or is a probe that has
+/// seen a message.
 pub fn no_open_pair_where_stuck()
     ensures { NoOpenPairWhereStuck }
 {}
 
-/// No send overtakes, by a match or by a see: each earlier one of its rank that fits the same finder is matched by an earlier
-/// step.
+/// No send overtakes, by a match or by a see: each earlier one of its rank that fits the same
+/// finder is matched by an earlier step.
 pub fn earlier_sends_match_first()
     ensures { EarlierSendsMatchFirst }
 {}
 
-/// No finder overtakes: each earlier taker of its rank that the same send fits is matched by an earlier step.
+/// No finder overtakes: each earlier taker of its rank that the same send fits is matched by an
+/// earlier step.
 pub fn earlier_takers_match_first()
     ensures { EarlierTakersMatchFirst }
 {}
@@ -54,8 +56,8 @@ pub fn issued_once()
     ensures { IssuedOnce }
 {}
 
-/// Where a send and a finder that fit are issued, the send is unmatched and the finder has found none, some match or see
-/// is enabled.
+/// Where a send and a finder that fit are issued, the send is unmatched and the finder has found
+/// none, some match or see is enabled.
 pub fn some_match_or_see_is_enabled()
     ensures { SomeMatchOrSeeIsEnabled }
 {}

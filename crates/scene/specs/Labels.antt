@@ -7,14 +7,16 @@ use Rattle.callorder.specs.Expansion.{parts_of_text}
 use Rattle.callorder.specs.Programs.{MpiProgram}
 use Rattle.scene.specs.Lines.{line_of_part}
 
--- a call as it is told: its number, from 1, its rank, from 0, the number of its line, from 1, and the words of that
+-- a call as it is told: its number, from 1, its rank, from 0, the number of its line, from 1, and
+-- the words of that
 pub record Label : Type 0 where
   pub number : ℕ
   pub rank : ℕ
   pub line : ℕ
   pub words : List ℕ
 
--- for each call of a program, in order, the number of the line of the text that it stands in, from 1
+-- for each call of a program, in order, the number of the line of the text that it stands in, from
+-- 1
 abbrev pub numbers_of : ProgramText → List ℕ
 numbers_of source = map (line_of_part source) (parts_of_text source)
 
@@ -39,7 +41,8 @@ part_words line place = if starts_with (λ x y. x == y) line (codes "sendrecv ")
 abbrev pub earlier : List ℕ → ℕ → ℕ
 earlier numbers place = length (take_while (λ number. number == slice_index numbers place) (reverse (take place numbers)))
 
--- the call at a place, of this rank, where the text has these lines, and the calls stand in the lines with these numbers
+-- the call at a place, of this rank, where the text has these lines, and the calls stand in the
+-- lines with these numbers
 abbrev pub label_at : List (List ℕ) → List ℕ → ℕ → ℕ → Label
 label_at lines numbers place rank =
     record {

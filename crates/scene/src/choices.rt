@@ -1,5 +1,5 @@
-//! What decided a run: which sends were buffered, where that is free, and which message a wildcard took, or a probe with a
-//! star saw, where another one fitted too.
+//! What decided a run: which sends were buffered, where that is free, and which message a wildcard
+//! took, or a probe with a star saw, where another one fitted too.
 
 ghost use Rattle.semantics.specs.Machine.{IsRun, opening};
 
@@ -15,7 +15,8 @@ pub enum Choice {
         step: usize,
         send: usize,
     },
-    /// A wildcard took, or a probe with a star saw, the message of the send, where those of its rivals fitted too.
+    /// A wildcard took, or a probe with a star saw, the message of the send, where those of its
+    /// rivals fitted too.
     Found {
         step: usize,
         send: usize,
@@ -40,7 +41,8 @@ fn is_free_send(program: &LongProgram, state: &State, send: usize, finder: usize
     program.are_fit(send, finder) && state.partner(send).is_none()
 }
 
-/// Whether an earlier send of the send's rank would be found by the call first. The calls of a rank stand together.
+/// Whether an earlier send of the send's rank would be found by the call first. The calls of a rank
+/// stand together.
 fn is_behind(program: &LongProgram, state: &State, send: usize, finder: usize) -> bool {
     for earlier in (0..send).rev() {
         if !program.are_of_one_rank(earlier, send) {
@@ -64,8 +66,8 @@ fn names_source(program: &LongProgram, finder: usize) -> bool {
     }
 }
 
-/// The sends of other ranks than that of the send, which the call finds, that fit the call too, of each rank the first one that is
-/// not matched.
+/// The sends of other ranks than that of the send, which the call finds, that fit the call too, of
+/// each rank the first one that is not matched.
 fn rivals(
     alloc: Global,
     program: &LongProgram,

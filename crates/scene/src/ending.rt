@@ -32,7 +32,8 @@ pub struct Scene<'a> {
     pub standings: Vec<Standing>,
     /// For each rank the ranks that it waits for, in rising order.
     pub awaited: Vec<Vec<u32>>,
-    /// The ranks of a cycle, each of which waits for the next one and the last for the first; none where there is no cycle.
+    /// The ranks of a cycle, each of which waits for the next one and the last for the first; none
+    /// where there is no cycle.
     pub cycle: Vec<u32>,
     /// Channels whose sends and takers differ in number.
     pub imbalances: Vec<Imbalance>,
@@ -144,13 +145,14 @@ impl Scene<'_> {
         }
     }
 
-    /// Whether the call may be the one that was meant: one of another line, of a channel that doesn't
-    /// balance.
+    /// Whether the call may be the one that was meant: one of another line, of a channel that
+    /// doesn't balance.
     fn may_be_meant(&self, operation: usize, other: usize) -> bool {
         self.is_unbalanced(other) && !self.are_in_one_line(operation, other)
     }
 
-    /// Whether the calls are of the ranks that name each other, and miss in their tag or communicator.
+    /// Whether the calls are of the ranks that name each other, and miss in their tag or
+    /// communicator.
     fn is_of_peer(&self, operation: usize, other: usize) -> bool {
         matches!(
             misses_in(self.program, operation, other),
@@ -158,9 +160,9 @@ impl Scene<'_> {
         )
     }
 
-    /// The near misses of an operation that no call of the program fits, or whose channel has sends and
-    /// takers that differ in number, among calls of such channels; those of the ranks that name each
-    /// other first. None where it isn't such an operation.
+    /// The near misses of an operation that no call of the program fits, or whose channel has sends
+    /// and takers that differ in number, among calls of such channels; those of the ranks that name
+    /// each other first. None where it isn't such an operation.
     pub fn likely_misses(&self, alloc: Global, operation: usize) -> Result<Vec<usize>, AllocError> {
         if !self.is_unbalanced(operation) && !fitting(alloc, self.program, operation)?.is_empty() {
             return Ok(Vec::new(alloc));
@@ -239,8 +241,9 @@ fn cycle_of(
     }
 }
 
-/// The end of a run, with the calls of its program as they are told, by `text`, the program's text, and `source`, what
-/// it says; `whole` tells that no list is to be cut. The only error is want of memory.
+/// The end of a run, with the calls of its program as they are told, by `text`, the program's text,
+/// and `source`, what it says; `whole` tells that no list is to be cut. The only error is want of
+/// memory.
 pub fn scene_of<'a>(
     alloc: Global,
     text: &[u8],

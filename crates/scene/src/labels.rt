@@ -52,7 +52,8 @@ impl CallLabel {
         self.line
     }
 
-    /// The words of its line, cut where they are long, and behind them which part of a `sendrecv` it is, if it is one.
+    /// The words of its line, cut where they are long, and behind them which part of a `sendrecv`
+    /// it is, if it is one.
     pub fn words(&self) -> &[u8]
         ensures { result.now ≡ self.now.words }
     {
@@ -129,8 +130,8 @@ fn earlier(numbers: &[usize], place: usize) -> usize
     last_ones(before, number_at(numbers, place))
 }
 
-/// What stands behind the words of a line for the call at a place, which stands in it. Only where the line is a `sendrecv` are
-/// its earlier calls counted.
+/// What stands behind the words of a line for the call at a place, which stands in it. Only where
+/// the line is a `sendrecv` are its earlier calls counted.
 fn part_at(line: &[u8], numbers: &[usize], place: usize) -> &'static str
     ensures { result.now ≡ part_words line.now (earlier numbers.now place) }
 {
@@ -164,8 +165,8 @@ fn label_at(
     })
 }
 
-/// The calls of a program, in order, as they are told: `text` is the program's text, `source` what it says, and `program` its calls.
-/// The only error is want of memory.
+/// The calls of a program, in order, as they are told: `text` is the program's text, `source` what
+/// it says, and `program` its calls. The only error is want of memory.
 pub fn call_labels(
     alloc: Global,
     text: &[u8],

@@ -1,8 +1,9 @@
-//! What the end of a run shows to the writer of an MPI code, whatever form it is told in: its calls as they are told, what its steps
-//! did and decided, where each rank stands, what it waits for, and which ranks wait for one another.
+//! What the end of a run shows to the writer of an MPI code, whatever form it is told in: its calls
+//! as they are told, what its steps did and decided, where each rank stands, what it waits for, and
+//! which ranks wait for one another.
 //!
-//! Numbers of calls count from 1 over the program after expansion, ranks from 0, lines of the program's text from 1; places count
-//! from 0.
+//! Numbers of calls count from 1 over the program after expansion, ranks from 0, lines of the
+//! program's text from 1; places count from 0.
 #![tactic(auto)]
 
 mod acts;

@@ -7,7 +7,8 @@ use callorder::LongProgram;
 use semantics::State;
 use waits::{Need, fits_with, need_of};
 
-/// Whether the call is one of this rank that the operation looks for, and its rank has not come to it.
+/// Whether the call is one of this rank that the operation looks for, and its rank has not come to
+/// it.
 fn is_missing(
     program: &LongProgram,
     state: &State,
@@ -22,7 +23,8 @@ fn is_missing(
         && !state.is_issued(program, call)
 }
 
-/// The first call of a rank that an operation looks for, and that its rank has not come to, if there is one.
+/// The first call of a rank that an operation looks for, and that its rank has not come to, if
+/// there is one.
 fn first_missing(program: &LongProgram, state: &State, operation: usize, rank: u32) -> Option<usize>
     ensures { IfSome result (λ call. IsTrue (is_missing program.now state.now operation rank call)) }
 {

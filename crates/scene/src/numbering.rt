@@ -53,8 +53,8 @@ fn push_rank(
     Ok(())
 }
 
-/// For each call of a program, in order, the number of the line that it stands in, from 1. The only error is want of
-/// memory.
+/// For each call of a program, in order, the number of the line that it stands in, from 1. The only
+/// error is want of memory.
 pub fn line_numbers(alloc: Global, source: &LongSource) -> Result<Vec<usize>, AllocError>
     ensures { IfOk result (λ numbers. numbers.items ≡ map (line_of_part source.now) (parts_of_text source.now)) }
 {

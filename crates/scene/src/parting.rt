@@ -86,8 +86,8 @@ enum Wanted {
     Any,
 }
 
-/// Whether this send is looked for: one for which a rank of the cycle waits, one for which some rank
-/// waits, or any.
+/// Whether this send is looked for: one for which a rank of the cycle waits, one for which some
+/// rank waits, or any.
 fn is_wanted(scene: &Scene<'_>, wanted: Wanted, send: usize) -> bool {
     match wanted {
         Wanted::OnCycle => scene.is_waited_for(send) && scene.is_on_cycle(send),
@@ -142,8 +142,8 @@ fn telling_buffered(scene: &Scene<'_>, played: &Played, buffered: &[bool]) -> Op
 }
 
 /// The first thing that a run, whose end is this scene, does and another one doesn't, if there is
-/// one: the call that finds another message, and where each that finds one in both finds the same, a
-/// send that is buffered in one of them alone. The only error is want of memory.
+/// one: the call that finds another message, and where each that finds one in both finds the same,
+/// a send that is buffered in one of them alone. The only error is want of memory.
 pub fn parting_of(
     alloc: Global,
     scene: &Scene<'_>,

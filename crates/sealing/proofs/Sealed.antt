@@ -27,7 +27,8 @@ module _ (p : MpiProgram) (x : Cut) (whole : IsWellFormed p) (one : IsWellFormed
   second_as r n a b past (inl at) = absurd (omega (arith, past, at.next, before_bound p x one two cut r a at.has))
   second_as r n a b past (inr at) = at
 
-  -- A finder of the first part may find a send of the second, in a run that has stayed in its parts.
+  -- A finder of the first part may find a send of the second, in a run that has stayed in its
+  -- parts.
   module _ (m m1 m2 : Configuration) (reached : Reached p m) (first : Reached x.first m1) (both : Both p x one two cut m m1 m2)
       (s f : ℕ) (ws : IsFrom x.second x.moved_second s) (wf : IsFrom x.first x.moved_first f) (can : CanFind p m s f) where
     kept : Kept p m

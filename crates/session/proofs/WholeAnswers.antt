@@ -1,4 +1,5 @@
--- Answers, replays, formulas, explanations, proofs and smaller programs of texts as far as they were read are those of the whole texts.
+-- Answers, replays, formulas, explanations, proofs and smaller programs of texts as far as they
+-- were read are those of the whole texts.
 use Rattle.std.proofs.Common.{ℕ, Bool, true, false, List, inl, inr}
 use Rattle.options.specs.declared.form.Form.{Form}
 use Rattle.checker.specs.declared.reason.Reason.{Reason}

@@ -17,8 +17,9 @@ advice_line whys.Memory = codes "progress: memory ran out: fewer --workers or a 
 abbrev pub next_line : List ℕ
 next_line = codes "progress: mpiprove explain PROGRAM tells where it gets stuck, and why\n"
 
--- where there is no answer the one line is told, after a deadlock the other one, below a refusal what helps, or a beginning of it where the output
--- failed, or nothing, where memory ran out; and else nothing
+-- where there is no answer the one line is told, after a deadlock the other one, below a refusal
+-- what helps, or a beginning of it where the output failed, or nothing, where memory ran out; and
+-- else nothing
 abbrev pub IsAdvisedOn : Answer → Option (List ℕ) → Option (List ℕ) → Type 0
 IsAdvisedOn (answers.Unknown why) told_old told_new = IsTold told_old told_new (advice_line why)
 IsAdvisedOn (answers.NoDeadlock evidence) told_old told_new = told_new ≡ told_old

@@ -56,8 +56,8 @@ pub record TrimmedRefutationIsWritten : Type 0 where
 -- ---- shrink
 
 -- the text is printed, where no file is named for it; else the lines are told that tell a deadlock
--- and which lines are left, and that file holds it, as far as files tell what is written, unless the
--- map is written there too
+-- and which lines are left, and that file holds it, as far as files tell what is written, unless
+-- the map is written there too
 abbrev pub IsHandedOver : SessionRun → Option Text → Option Text → List ℕ → List ℕ → Type 0
 IsHandedOver run None map text lines = PrintsAlone run text 1
 IsHandedOver run (Some file) map text lines =
@@ -70,8 +70,9 @@ IsMapWritten run (Some file) places = IsTrue run.tells.writes → run.after file
 
 -- where words ask for a smaller program, and the run ended with the status 1, some run of the
 -- program of the file ends stuck, and a program was handed over that has such a run too, and is no
--- larger, with the lines that are left in it and their map; with the status 2 some run of the program finishes, or it is beyond the limits of
--- `prove`, and its run that buffers least isn't stuck; and none ends with the status 0
+-- larger, with the lines that are left in it and their map; with the status 2 some run of the
+-- program finishes, or it is beyond the limits of `prove`, and its run that buffers least isn't
+-- stuck; and none ends with the status 0
 pub record ShrunkProgramHangs : Type 0 where
   pub smaller : (run : SessionRun) (p : Text) (out map : Option Text) (program : List ℕ) → SessionEnds run → AskFor run.words (to_shrink p out map)
       → run.before p ≡ Some program → run.status ≡ 1

@@ -20,8 +20,9 @@ map_words (faults.Line line) = codes "refused map line " ++ decimal line
 abbrev pub IsMapRefused : Bool → MapFault → List ℕ → ℕ → Type 0
 IsMapRefused json fault text status = (text ≡ line_text json (map_words fault) 3) × (status ≡ 3)
 
--- Of the program's text in the one file and the map in the other: the map is refused as none of that text; or it is one, and the
--- page is a plain one with the places that the map has for the lines that it names.
+-- Of the program's text in the one file and the map in the other: the map is refused as none of
+-- that text; or it is one, and the page is a plain one with the places that the map has for the
+-- lines that it names.
 abbrev pub IsPlaced : Option (List ℕ) → Option (List ℕ) → Form → (List ℕ → ℕ → Type 0) → List ℕ → ℕ → Type 0
 IsPlaced program_file map_file form IsPage text status =
     (program : List ℕ) × (map : List ℕ) × AreAll program_file program × AreAll map_file map

@@ -41,10 +41,10 @@ CutsStayInFolder =
     (run : SessionRun) (p folder : Text) (path : List ℕ) → SessionEnds run → AskFor run.words (to_phases p folder)
     → ((name : List ℕ) → path ≢ path_in folder name) → run.after path ≡ run.before path
 
--- The run left a cut of the program in the folder, and printed its numbers, and below them a line for
--- each of some ties of the program: a call that takes any source, and a send that fits it. Where the files tell
--- what is written, each different phase's file has its text, `jobs` the paths of those that have to
--- be proved, and `phases` the order. No other file has changed.
+-- The run left a cut of the program in the folder, and printed its numbers, and below them a line
+-- for each of some ties of the program: a call that takes any source, and a send that fits it.
+-- Where the files tell what is written, each different phase's file has its text, `jobs` the paths
+-- of those that have to be proved, and `phases` the order. No other file has changed.
 pub record IsLeft (run : SessionRun) (folder : Text) (program : List ℕ) : Type 0 where
   pub cut : Cut
   pub is : IsCut cut

@@ -37,8 +37,8 @@ pub record IsAmongRanks (text : List ℕ) (ranks : ℕ) : Type 0 where
   pub above : first ≤ ranks
   pub below : ranks ≤ last
 
--- the words ask to decide, or to explain, what the SPMD text at a path is unrolled to for the numbers
--- of ranks that a text tells, with these settings, where collective calls wait so
+-- the words ask to decide, or to explain, what the SPMD text at a path is unrolled to for the
+-- numbers of ranks that a text tells, with these settings, where collective calls wait so
 abbrev pub AskUnrolled : List Text → Text → Text → List Text → Option Text → Type 0
 AskUnrolled words p ranks settings way =
     ((beside : Bool) × (as_json : Bool) × AskFor words (to_decide_unrolled p (Some ranks) settings way beside as_json))
@@ -63,9 +63,10 @@ AskEach words programs junit =
     ((beside : Bool) × (as_json : Bool) × AskFor words (to_decide_each programs junit beside as_json))
     ⊎ ((workers : ℕ) × (depth : ℕ) × (budget : ℕ) × (form : Form) × (beside : Bool) × AskFor words (to_explain_each programs junit workers depth budget form beside))
 
--- A run for several programs with the status 0: none of these programs has a run that gets stuck, as
--- far as files are told. One with the status 1: one of them has. With a status below 4, the file that
--- is named holds a report of tests, one for each program, in their order. No other file changes.
+-- A run for several programs with the status 0: none of these programs has a run that gets stuck,
+-- as far as files are told. One with the status 1: one of them has. With a status below 4, the file
+-- that is named holds a report of tests, one for each program, in their order. No other file
+-- changes.
 pub record EachRunIsRight : Type 0 where
   pub safe : (run : SessionRun) (programs : List Text) (junit : Option Text) (path : Text) (program : List ℕ) → SessionEnds run
       → AskEach run.words programs junit → run.status ≡ 0 → Contains programs path → run.before path ≡ Some program → IsNeverStuckWithin long program

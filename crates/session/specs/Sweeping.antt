@@ -54,8 +54,8 @@ abbrev pub refused_line : Bool → List ℕ → List ℕ
 refused_line false told = refused_text told
 refused_line true told = line_text true (codes "refused " ++ utf8_lossy told) 3
 
--- the page is of the program, by its text and its map, that the SPMD text is unrolled to for so many
--- ranks; or it tells what is wrong with the SPMD text
+-- the page is of the program, by its text and its map, that the SPMD text is unrolled to for so
+-- many ranks; or it tells what is wrong with the SPMD text
 abbrev pub IsPageFor : List ℕ → List ℕ → List (List ℕ) → Bool → Bool → (List ℕ → List ℕ → List ℕ → ℕ → Type 0) → ℕ → List ℕ → ℕ → Type 0
 IsPageFor path source settings barriers json IsPage ranks text status =
     ((program : List ℕ) × (map : List ℕ) × IsUnrolling path source ranks settings barriers true program (Some map) × IsPage program map text status)
@@ -118,7 +118,8 @@ graver one other = if nat_lt (gravity one) (gravity other) then other else one
 abbrev pub gravest : List Row → ℕ
 gravest rows = fold (λ status row. graver status row.status) 0 rows
 
--- the table of pages for numbers of ranks from a first to a last: a row each, and the gravest status
+-- the table of pages for numbers of ranks from a first to a last: a row each, and the gravest
+-- status
 pub record IsTable (IsPage : ℕ → List ℕ → ℕ → Type 0) (json : Bool) (first last : ℕ) (text : List ℕ) (status : ℕ) : Type 0 where
   pub rows : List Row
   pub are : AreRows IsPage first rows

@@ -7,8 +7,8 @@ use Rattle.session.specs.Pages.{IsProgram, IsWritten}
 use Rattle.session.specs.declared.commands.Stop.{Stop}
 use Rattle.session.specs.declared.commands.Stop.TheVariants as stop
 
--- whether collective calls wait for all, as barriers do, by the text behind `--collectives`: `least`
--- is usual, and no other word but `most` is one
+-- whether collective calls wait for all, as barriers do, by the text behind `--collectives`:
+-- `least` is usual, and no other word but `most` is one
 abbrev pub barriers_in : Option (List ℕ) → Option Bool
 barriers_in None = Some false
 barriers_in (Some way) = if bytes_eq way (codes "most") then Some true else (if bytes_eq way (codes "least") then Some false else None)

@@ -42,8 +42,8 @@ fn tell<E: Write>(text: &[u8], err: &mut E)
     }
 }
 
-/// Tells what helps where a program is refused, as `explain` does. Where memory runs out, nothing is
-/// told: the answer doesn't depend on it.
+/// Tells what helps where a program is refused, as `explain` does. Where memory runs out, nothing
+/// is told: the answer doesn't depend on it.
 fn tell_help<E: Write>(alloc: Global, program: &[u8], reason: Reason, err: &mut E)
     ensures { (E.contents err.new ≡ E.contents err.old) ⊎ ((help : List ℕ) × IsTold (E.contents err.old) (E.contents err.new) help) }
 {
@@ -53,8 +53,8 @@ fn tell_help<E: Write>(alloc: Global, program: &[u8], reason: Reason, err: &mut 
     }
 }
 
-/// Says what is used up, and what may help, where there is no answer; where to go on from a deadlock;
-/// and what helps where the program is refused.
+/// Says what is used up, and what may help, where there is no answer; where to go on from a
+/// deadlock; and what helps where the program is refused.
 pub fn advise<E: Write>(alloc: Global, program: &[u8], answer: &Answer, err: &mut E)
     ensures { IsAdvisedOn answer.now (E.contents err.old) (E.contents err.new) }
 {

@@ -406,8 +406,8 @@ fn first_place(order: &[usize], number: usize) -> Option<usize> {
     None
 }
 
-/// The run of the program along a phase that gets stuck, behind the phases before it; else that this
-/// phase gets stuck.
+/// The run of the program along a phase that gets stuck, behind the phases before it; else that
+/// this phase gets stuck.
 fn run_by(
     alloc: Global,
     text: &[u8],

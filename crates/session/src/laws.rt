@@ -173,23 +173,23 @@ pub fn unrolled_text_is_printed()
     ensures { UnrolledTextIsPrinted }
 {}
 
-/// Where words ask to decide or to explain an SPMD text for numbers of ranks, and the run ended with
-/// the status 0, what the text is unrolled to never gets stuck, for each of these numbers; and where
-/// it ended with the status 1, it has a run that does for one of them.
+/// Where words ask to decide or to explain an SPMD text for numbers of ranks, and the run ended
+/// with the status 0, what the text is unrolled to never gets stuck, for each of these numbers; and
+/// where it ended with the status 1, it has a run that does for one of them.
 pub fn unrolled_runs_are_right()
     ensures { UnrolledRunsAreRight }
 {}
 
-/// Where words ask to decide or to explain several programs, and the run ended with the status 0, none
-/// of them has a run that gets stuck; where it ended with the status 1, one of them has; with a status
-/// below 4 the file that is named holds a report of tests; and no other file changes.
+/// Where words ask to decide or to explain several programs, and the run ended with the status 0,
+/// none of them has a run that gets stuck; where it ended with the status 1, one of them has; with
+/// a status below 4 the file that is named holds a report of tests; and no other file changes.
 pub fn each_run_is_right()
     ensures { EachRunIsRight }
 {}
 
 /// Where any run printed the line of a deadlock or ended with the status 1, its words ask to prove,
-/// check, replay, explain, export, shrink, decide, cut or join a program, and that program has a run
-/// that ends stuck.
+/// check, replay, explain, export, shrink, decide, cut or join a program, and that program has a
+/// run that ends stuck.
 pub fn told_deadlock_is_shown()
     ensures { ToldDeadlockIsShown }
 {}
@@ -208,9 +208,9 @@ pub fn decided_runs_are_right()
     ensures { DecidedRunsAreRight }
 {}
 
-/// A run that judges a program by phases: a deadlock that was told is a run of the program that gets
-/// stuck, and the file that is named holds it; where no deadlock was told, no run of the program gets
-/// stuck; and no other file changes.
+/// A run that judges a program by phases: a deadlock that was told is a run of the program that
+/// gets stuck, and the file that is named holds it; where no deadlock was told, no run of the
+/// program gets stuck; and no other file changes.
 pub fn phases_are_joined()
     ensures { PhasesAreJoined }
 {}

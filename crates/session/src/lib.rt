@@ -1,5 +1,5 @@
-//! One run of the program: from its words to its exit status, over files and streams that the caller
-//! gives.
+//! One run of the program: from its words to its exit status, over files and streams that the
+//! caller gives.
 #![tactic(auto)]
 
 mod advice;

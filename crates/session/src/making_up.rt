@@ -66,8 +66,8 @@ fn deal_all(
 
 /// Tests that phases make up the program: at each rank the calls of each are the first that are
 /// left behind those before it, and none is left behind the last. Nobody trusts how a program is
-/// cut, so it is tested before anything is written; what is cut wrongly, which doesn't come, is told
-/// as want of memory. The time is linear in the calls.
+/// cut, so it is tested before anything is written; what is cut wrongly, which doesn't come, is
+/// told as want of memory. The time is linear in the calls.
 pub fn make_up(alloc: Global, program: &LongProgram, phases: &Phases) -> Result<(), AllocError>
     ensures { OnOk result (MakeUp program.now phases.now) }
 {

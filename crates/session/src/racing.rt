@@ -107,7 +107,8 @@ fn json_race(alloc: Global, lines: &[usize], race: Race) -> Result<String, Alloc
     object_with(alloc, "unknown race", UNKNOWN, "race", &object)
 }
 
-/// What tells a race, plain or as a JSON object. `lines` has the number of the line of each call of the program.
+/// What tells a race, plain or as a JSON object. `lines` has the number of the line of each call of
+/// the program.
 pub fn race_text(
     alloc: Global,
     lines: &[usize],

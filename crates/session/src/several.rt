@@ -193,8 +193,8 @@ pub fn decide_each_page<'a, F: FileSet>(
     reported_page(alloc, answers, asked.junit, files)
 }
 
-/// Explains what one run decides, or a search finds, of each of several programs, and writes a report
-/// where a file is named for it. No other file changes.
+/// Explains what one run decides, or a search finds, of each of several programs, and writes a
+/// report where a file is named for it. No other file changes.
 pub fn explain_each_page<'a, R: Threads + Wait + Sync, F: FileSet>(
     rt: &R,
     alloc: Global,

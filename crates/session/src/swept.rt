@@ -1,5 +1,5 @@
-//! The commands `decide` and `explain` for an SPMD text, from the file that it names to the page that
-//! they print.
+//! The commands `decide` and `explain` for an SPMD text, from the file that it names to the page
+//! that they print.
 ghost use Rattle.std.specs.Prelude.{◌≡◌, ◌≤◌, ◌++◌, ◌||◌, IfErr, IfOk, List, OnOk, Some, drop, is_some, map, option_map, ℕ};
 ghost use Rattle.command_line.specs.Requests.{path_of};
 ghost use Rattle.places.specs.Woven.{HasPlaces};
@@ -223,8 +223,8 @@ fn table(
     }
 }
 
-/// Decides by one run, for each number of ranks, whether some run of what the SPMD text of a file is
-/// unrolled to gets stuck. No file changes.
+/// Decides by one run, for each number of ranks, whether some run of what the SPMD text of a file
+/// is unrolled to gets stuck. No file changes.
 pub fn decide_unrolled_page<'a, F: FileSet>(
     alloc: Global,
     asked: &ToDecideUnrolled<'a>,

@@ -27,9 +27,10 @@ pub fn barriers_in(collectives: Option<&str>) -> Option<bool>
     }
 }
 
-/// Unrolls the SPMD text of a file, where collective calls are barriers or not: the page is the text of the program, or that is written to the
-/// file that is named for it; its map is written where a file is named for that. No other file
-/// changes. The page is made before the files are, so that none changes where memory runs out.
+/// Unrolls the SPMD text of a file, where collective calls are barriers or not: the page is the
+/// text of the program, or that is written to the file that is named for it; its map is written
+/// where a file is named for that. No other file changes. The page is made before the files are, so
+/// that none changes where memory runs out.
 pub fn unroll_page<'a, F: FileSet>(
     alloc: Global,
     asked: &ToUnroll<'a>,

@@ -1,4 +1,5 @@
--- In a legal history each call's lines keep their place, and what a seat was told stays true of all that it is told later.
+-- In a legal history each call's lines keep their place, and what a seat was told stays true of all
+-- that it is told later.
 use Rattle.std.proofs.Common.{◌≡◌, ℕ, zero, suc, ◌+◌, ◌<◌, ◌==◌, Bool, true, false, if◌then◌else◌, List, [], ◌∷◌, ◌++◌, length, drop, Option, Some, None, slice_get, Result, Ok, Err, sym, ap, ◌∙◌, subst, append_assoc, arith}
 use Rattle.std.specs.Prelude.{OnOk}
 use Rattle.std.proofs.lemmas.List.{drop-append-le}

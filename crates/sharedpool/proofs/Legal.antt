@@ -129,7 +129,8 @@ pub seat_told : (worker : ℕ) (keeper later seat after : Token) (item : LoggedC
     → chair worker (cell_view after).mine ≡ told (chair worker (cell_view seat).mine) item
 seat_told worker keeper later seat after item noted_as = ap (λ (v : View). chair worker v.mine) noted_as.told
 
--- what holds of the pool before the call holds over a run in which the seat's list is its worker's items
+-- what holds of the pool before the call holds over a run in which the seat's list is its worker's
+-- items
 pub holds_over : (table : TableId) (opening : PoolState) (pool : PoolWithHistory) (workers worker : ℕ) (keeper later seat after : Token) (item : LoggedCall) (P : PoolState → Type 0)
     → IsLocked table opening pool workers keeper → IsSeat table worker seat → AreNoted keeper later seat after item → P pool.held → HoldsOver opening (chair worker (cell_view seat).mine) P
 holds_over table opening pool workers worker keeper later seat after item P locked sits noted_as holds = (

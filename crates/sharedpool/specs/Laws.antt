@@ -4,7 +4,8 @@ use Rattle.pool.specs.Growth.{LosesNothing}
 use Rattle.pool.specs.States.{PoolState, PoolWithHistory}
 use Rattle.sharedpool.specs.Seats.{Chair, IsFinished}
 
--- in each seat's list each accepted fetch tells every line past its start that the seat had published or been told before
+-- in each seat's list each accepted fetch tells every line past its start that the seat had
+-- published or been told before
 abbrev pub NothingSeenIsLost : Type 0
 NothingSeenIsLost =
     (opening : PoolState) (seats : List Chair) (pool : PoolWithHistory) (counts : List ℕ) → IsFinished opening seats pool counts

@@ -50,8 +50,8 @@ pub record IsSeat (table : TableId) (worker : ℕ) (pass : Token) : Type 0 where
   pub free : pass.me.1 ≡ []
   pub knows : cell_view pass ≡ sitting worker (cell_view pass).mine
 
--- The keeper's items are the history of the pool, which goes from the opening pool to this one. A place is kept for each worker
--- that has not left
+-- The keeper's items are the history of the pool, which goes from the opening pool to this one. A
+-- place is kept for each worker that has not left
 pub record IsLocked (table : TableId) (opening : PoolState) (pool : PoolWithHistory) (workers : ℕ) (keeper : Token) : Type 0 where
   pub of : keeper.table_id ≡ table
   pub knows : cell_view keeper ≡ knower workers (cell_view keeper).all
@@ -129,8 +129,8 @@ told_leave seat why = told seat (leave_item seat.worker why)
 
 -- ---- what a reply says of the pool, whatever others did before
 
--- some calls with replies that may be given lead from the opening pool to one of which this holds, and those of this
--- seat's worker among them are, in order, the seat's list
+-- some calls with replies that may be given lead from the opening pool to one of which this holds,
+-- and those of this seat's worker among them are, in order, the seat's list
 abbrev pub HoldsOver : PoolState → Chair → (PoolState → Type 0) → Type 0
 HoldsOver opening seat holds = (items : List LoggedCall) × IsRun opening items × (seat.mine ≡ items_of seat.worker items) × holds (after_all opening items)
 
@@ -151,8 +151,8 @@ abbrev pub AllHeld : Conjunction → List ProofLine → List LoggedCall → Type
 AllHeld formula log [] = Unit {0}
 AllHeld formula log (item ∷ items) = HoldsAt formula log item.entry.deed item.lines × AllHeld formula log items
 
--- over a derivation from the formula that holds all lines of the seat's list, the batch's line at this place is the
--- first that doesn't derive
+-- over a derivation from the formula that holds all lines of the seat's list, the batch's line at
+-- this place is the first that doesn't derive
 abbrev pub IsRefusedOver : Conjunction → List LoggedCall → List BatchLine → ℕ → Type 0
 IsRefusedOver formula mine batch place =
     (log : List ProofLine) × AreDerived formula log × AllHeld formula log mine
@@ -168,8 +168,9 @@ AreNumbered seats = (k : ℕ) (seat : Chair) → k < length seats → slice_get 
 abbrev pub workers_of : List Chair → List ℕ
 workers_of seats = map (λ (seat : Chair). seat.worker) seats
 
--- There is one legal history. Its items of each worker, in order, are that worker's seat's list, and there are no others. Each
--- worker has one of the seats, whichever order they stand in. The counts are how many entries each worker has
+-- There is one legal history. Its items of each worker, in order, are that worker's seat's list,
+-- and there are no others. Each worker has one of the seats, whichever order they stand in. The
+-- counts are how many entries each worker has
 pub record IsFinished (opening : PoolState) (seats : List Chair) (pool : PoolWithHistory) (counts : List ℕ) : Type 0 where
   pub items : List LoggedCall
   pub legal : IsLegal opening items pool

@@ -13,7 +13,8 @@ use Rattle.pool.specs.Replies.{resolved_lines, DeriveAfter}
 abbrev pub IsTold : Conjunction → List LoggedCall → List ProofLine → Type 0
 IsTold formula mine view = (place : ℕ) (line : ProofLine) → slice_get view place ≡ Some line → (i : ℕ) × (item : LoggedCall) × (slice_get mine i ≡ Some item) × Tells formula item place line
 
--- what was told before a fetch, and after it: the same, or the lines before the place that it was asked from and then those of its answer
+-- what was told before a fetch, and after it: the same, or the lines before the place that it was
+-- asked from and then those of its answer
 abbrev pub GoesOn : List ProofLine → ℕ → Result (List ProofLine) FetchFault → List ProofLine → Type 0
 GoesOn view from reply after = (after ≡ view) ⊎ ((lines : List ProofLine) × (reply ≡ Ok lines) × (from ≤ length view) × (after ≡ take from view ++ lines))
 

@@ -1,5 +1,6 @@
--- The rule of the cell beside the lock. One pass at most knows all items. Each seat's list is, in order, that worker's items among them, and there are no others.
--- No worker has two seats, and none whose seat was taken back has one
+-- The rule of the cell beside the lock. One pass at most knows all items. Each seat's list is, in
+-- order, that worker's items among them, and there are no others. No worker has two seats, and none
+-- whose seat was taken back has one
 use Rattle.std.specs.Prelude.{◌≡◌, ◌≢◌, ℕ, ◌+◌, ◌<◌, ◌==◌, true, false, if◌then◌else◌, List, [], ◌∷◌, ◌++◌}
 use mathlib.Core.Option.{some}
 use lib.ListN.{get_elem?}

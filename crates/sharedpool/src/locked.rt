@@ -144,8 +144,8 @@ impl<B: PoolName> Locked<B> {
         self.pool.assemble(alloc)
     }
 
-    /// A batch by the worker of this seat. Where it is known to derive from lines that the seat was told, its lines are given, and neither checked nor made
-    /// again.
+    /// A batch by the worker of this seat. Where it is known to derive from lines that the seat was
+    /// told, its lines are given, and neither checked nor made again.
     pub(crate) fn publish<R: Wait>(
         &mut self,
         rt: &R,

@@ -1,4 +1,5 @@
-//! Both the keeper and a seat in one pass, for as long as their lists are compared, or one item is added to both.
+//! Both the keeper and a seat in one pass, for as long as their lists are compared, or one item is
+//! added to both.
 
 ghost use Rattle.std.specs.Prelude.{◌≡◌, true, []};
 ghost use Rattle.crossbeam_utils.specs.Seq.{cell_view};
@@ -25,8 +26,9 @@ pub(crate) fn match_lists<R: Wait>(rt: &R, cell: &Cell, keeper: &mut Token, seat
     *seat = part(cell, keeper);
 }
 
-/// Adds an item to the keeper's list and to the seat's, which was its worker's items so far. The worker,
-/// the call and its reply are passed for contracts alone: the caller picks the item from them.
+/// Adds an item to the keeper's list and to the seat's, which was its worker's items so far. The
+/// worker, the call and its reply are passed for contracts alone: the caller picks the item from
+/// them.
 pub(crate) fn note<J: ItemName, C, A, R: Wait>(
     rt: &R,
     cell: &Cell,

@@ -69,7 +69,8 @@ pub(crate) fn look<R: Wait>(rt: &R, cell: &Cell, keeper: &mut Token)
     cell.load_as::<Looks, R>(rt, keeper);
 }
 
-/// Takes the seat that is joined back. Its list is its worker's items, and it is another worker's than those that were taken before.
+/// Takes the seat that is joined back. Its list is its worker's items, and it is another worker's
+/// than those that were taken before.
 pub(crate) fn take_back<R: Wait>(rt: &R, cell: &Cell, keeper: &mut Token)
     requires keeper_of { keeper.old.table_id ≡ cell.now.table.shared.table_id }
     requires keeps { (cell_view keeper.old).keeps ≡ true }

@@ -7,8 +7,8 @@ use pool::LoggedCall;
 use std::collections::LinkedList;
 use std::marker::{Brand, PhantomData};
 
-/// Names one shared pool: its cell, the pool that it began with, and how many workers it has. The call
-/// that opens a room picks the three, for [`Brand`].
+/// Names one shared pool: its cell, the pool that it began with, and how many workers it has. The
+/// call that opens a room picks the three, for [`Brand`].
 pub trait PoolName {
     ghost use Rattle.std.specs.Prelude.{ℕ};
     ghost use Rattle.atomic_table.specs.Seated.{TableId};
@@ -58,8 +58,8 @@ impl StepsName for Brand {
     ghost steps = { [] };
 }
 
-/// What a pass knows: the keeper's how many seats were made, all items, and whose seats were taken back; a seat's its
-/// worker and that worker's items. No value of it is made.
+/// What a pass knows: the keeper's how many seats were made, all items, and whose seats were taken
+/// back; a seat's its worker and that worker's items. No value of it is made.
 pub struct View {
     pub keeps: bool,
     pub workers: u64,

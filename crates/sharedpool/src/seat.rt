@@ -37,9 +37,11 @@ impl<B: PoolName> Model for Ticket<B> {
     ghost invariant = { λ s. IsSeat B.table s.worker s.pass };
 }
 
-/// What a worker makes its calls with: its number, and, for contracts, the items of its calls in order.
+/// What a worker makes its calls with: its number, and, for contracts, the items of its calls in
+/// order.
 ///
-/// It has the lines that the fetches with it told, too, so that a batch is checked over them before the lock is taken.
+/// It has the lines that the fetches with it told, too, so that a batch is checked over them before
+/// the lock is taken.
 #[derive(Drop)]
 pub struct Seat<B: PoolName> {
     pub(crate) ticket: Ticket<B>,
@@ -59,7 +61,8 @@ impl<B: PoolName> Model for Seat<B> {
     ghost invariant = { λ s. IsTold B.opening.formula s.ticket.mine s.view × (length s.known ≡ B.opening.formula.variables + 1) };
 }
 
-/// The lines of a batch, if they derive from those that a seat was told. None where memory runs out, too.
+/// The lines of a batch, if they derive from those that a seat was told. None where memory runs
+/// out, too.
 pub(crate) fn derived_from(
     alloc: Global,
     known: &mut PartialAssignment,
@@ -79,8 +82,9 @@ pub(crate) fn derived_from(
     derived_lines(alloc, known, formula, view, batch.lines.as_slice())
 }
 
-/// After a fetch from among the lines that a seat was told, or from their end, has them go on by those that it told. Where memory is wanting they stay as
-/// they were: batches are checked under the lock then.
+/// After a fetch from among the lines that a seat was told, or from their end, has them go on by
+/// those that it told. Where memory is wanting they stay as they were: batches are checked under
+/// the lock then.
 pub(crate) fn follow(alloc: Global, view: &mut Log, from: usize, reply: &Result<Lines, FetchFault>)
     ensures { GoesOn view.old from reply.now view.new }
 {

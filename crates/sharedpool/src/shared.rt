@@ -129,9 +129,10 @@ fn take_all_back<R: Wait, B: PoolName>(rt: &R, cell: &Cell, mut keeper: Token, s
 }
 
 impl<B: PoolName> SharedPool<B> {
-    /// A pool without a history under a lock, and a seat for each worker, in order of their numbers. The
-    /// room is named after the cell, the pool and the number of workers. One to 64 workers. Each seat has a
-    /// place in the history for its first leave, so that this one never wants memory.
+    /// A pool without a history under a lock, and a seat for each worker, in order of their
+    /// numbers. The room is named after the cell, the pool and the number of workers. One to 64
+    /// workers. Each seat has a place in the history for its first leave, so that this one never
+    /// wants memory.
     pub fn new(
         alloc: Global,
         cell: Cell,
@@ -163,8 +164,9 @@ impl<B: PoolName> SharedPool<B> {
         }
     }
 
-    /// The pool, and how many entries each worker has in its history. Takes all seats, in any order, or hands them back
-    /// with the shared pool: `Missing` is told exactly where there are not as many as were made.
+    /// The pool, and how many entries each worker has in its history. Takes all seats, in any
+    /// order, or hands them back with the shared pool: `Missing` is told exactly where there are
+    /// not as many as were made.
     pub fn finish<R: Wait>(
         self,
         rt: &R,

@@ -159,8 +159,8 @@ pub fn shrunk_of(
     })
 }
 
-/// Leaves out ranks and lines, again and again until nothing more can be left out or no walk is left.
-/// Answers whether all was tried.
+/// Leaves out ranks and lines, again and again until nothing more can be left out or no walk is
+/// left. Answers whether all was tried.
 fn leave_out_turns(alloc: Global, best: &mut Excerpt, walks: u32) -> Result<bool, AllocError>
     requires { CanHang best.old.text.items }
     ensures { OnOk result (IsShrunk best.old.text.items best.new.text.items) }
@@ -195,9 +195,9 @@ fn leave_out_all(alloc: Global, text: &[u8], walks: u32) -> Result<Shrunk, Alloc
 /// that may take its message, or misses it by a tag, a communicator or a rank alone; with a start
 /// its wait, with a matched probe its receive. Where the sends and the takers of a channel differ
 /// in number, the last one of a side stays as long as a call of the other side does. Each candidate
-/// is read like any other text, and taken where some walk of its program ends stuck. At most so many walks are taken, or few more; once
-/// none are left, the smallest text so far is the answer. A text of which no walk ends stuck has
-/// none.
+/// is read like any other text, and taken where some walk of its program ends stuck. At most so
+/// many walks are taken, or few more; once none are left, the smallest text so far is the answer. A
+/// text of which no walk ends stuck has none.
 pub fn shrink(alloc: Global, text: &[u8], walks: u32) -> Result<Shrunk, NotShrunk>
     ensures shrunk { IfOk result (λ shrunk. IsShrunk text.now shrunk.text.items) }
     ensures lines { IfOk result (λ shrunk. AreLeft text.now shrunk.text.items shrunk.lines.items) }

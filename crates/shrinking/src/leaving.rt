@@ -162,7 +162,8 @@ pub fn without_over(alloc: Global, hanging: &Hanging) -> Result<Excerpt, AllocEr
     without_marked(alloc, hanging, hanging.units.are_over.clone()?)
 }
 
-/// The text without these units, by their numbers, in the same way. It takes time near linear in the text.
+/// The text without these units, by their numbers, in the same way. It takes time near linear in
+/// the text.
 pub fn without_units(
     alloc: Global,
     hanging: &Hanging,
@@ -173,8 +174,8 @@ pub fn without_units(
 }
 
 /// The text without these ranks, by their numbers, and without the units that have a call of one of
-/// them, or one that names one; the whole text, where a call that stays would lose its last partner.
-/// It takes time near linear in the text.
+/// them, or one that names one; the whole text, where a call that stays would lose its last
+/// partner. It takes time near linear in the text.
 pub fn without_ranks(
     alloc: Global,
     hanging: &Hanging,

@@ -194,9 +194,9 @@ fn pair(
 
 /// For each call the one that found it, or that it found, in the run; of those that found none a
 /// send and the call that may take its message have one another, also where the two miss one
-/// another by a tag, a communicator or a rank, and a probe has the send that it may see. So what is left of
-/// a text, once both are left out, has no new call without a mate. It takes time near linear in the
-/// calls.
+/// another by a tag, a communicator or a rank, and a probe has the send that it may see. So what is
+/// left of a text, once both are left out, has no new call without a mate. It takes time near
+/// linear in the calls.
 pub fn mates_of(
     alloc: Global,
     program: &LongProgram,

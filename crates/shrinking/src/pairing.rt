@@ -85,7 +85,8 @@ fn is_near(program: &Program, send: usize, taker: usize, near: Near) -> bool {
     }
 }
 
-/// Pairs each call that takes messages, and has no send yet, with the first send that is so near and has no such call yet.
+/// Pairs each call that takes messages, and has no send yet, with the first send that is so near
+/// and has no such call yet.
 fn pair(program: &Program, near: Near, mates: &mut [Option<usize>]) {
     for taker in 0..mates.len() {
         let is_free = mates[taker].is_none() && !program.is_probe(taker);
@@ -118,7 +119,8 @@ fn put_pair(mates: &mut [Option<usize>], send: usize, taker: usize) {
     }
 }
 
-/// For each send and each call that takes messages its mate, and for each probe the first send that fits.
+/// For each send and each call that takes messages its mate, and for each probe the first send that
+/// fits.
 fn mates_of(alloc: Global, program: &Program) -> Result<Vec<Option<usize>>, AllocError> {
     let mut mates = vec![in alloc; None; program.calls().len()]?;
     pair(program, Near::Named, &mut mates);
@@ -169,7 +171,8 @@ fn join_at(units: &mut [usize], one: usize, other: usize) {
     }
 }
 
-/// A unit for each call line, each of its own, but for those that follow others. `places` has the line of each call.
+/// A unit for each call line, each of its own, but for those that follow others. `places` has the
+/// line of each call.
 fn single_units(
     alloc: Global,
     program: &Program,

@@ -19,7 +19,8 @@ fn made<'a>(words: &[&'a [u8]]) -> Option<&'a [u8]> {
     if started { words.get(1).copied() } else { None }
 }
 
-/// At which place, from 0, the names begin that a line uses up: requests, or a handle. They are the last words of the line.
+/// At which place, from 0, the names begin that a line uses up: requests, or a handle. They are the
+/// last words of the line.
 fn used_from(words: &[&[u8]]) -> usize {
     match verb_of(words) {
         Some(Verb::Wait | Verb::WaitAll) => 1,
@@ -87,7 +88,8 @@ fn put_used<'a>(
     Ok(())
 }
 
-/// The text without waits for requests that no line above starts, and without receives on handles that no line above makes.
+/// The text without waits for requests that no line above starts, and without receives on handles
+/// that no line above makes.
 fn without_unknown(alloc: Global, from: &Excerpt) -> Result<Excerpt, AllocError> {
     let lines = lines_of(alloc, &from.text)?;
     let mut out = from.emptied(alloc)?;
@@ -108,7 +110,8 @@ fn without_unknown(alloc: Global, from: &Excerpt) -> Result<Excerpt, AllocError>
     Ok(out)
 }
 
-/// Whether what the line makes is wanted below it, or it makes nothing. What it uses up is wanted from then on.
+/// Whether what the line makes is wanted below it, or it makes nothing. What it uses up is wanted
+/// from then on.
 fn is_wanted<'a>(
     alloc: Global,
     wanted: &mut Vec<&'a [u8]>,
@@ -126,7 +129,8 @@ fn is_wanted<'a>(
     Ok(true)
 }
 
-/// The text without starts of requests that no line below waits for, and without handles that no line below receives on.
+/// The text without starts of requests that no line below waits for, and without handles that no
+/// line below receives on.
 fn without_left(alloc: Global, from: &Excerpt) -> Result<Excerpt, AllocError> {
     let lines = lines_of(alloc, &from.text)?;
     let mut stay = vec![in alloc; false; lines.len()]?;
@@ -157,8 +161,8 @@ fn lines_that_stay(
     Ok(out)
 }
 
-/// The text without lines and names whose other half isn't there: waits without a start, starts without a wait, and the
-/// same of handles.
+/// The text without lines and names whose other half isn't there: waits without a start, starts
+/// without a wait, and the same of handles.
 pub fn tidied(alloc: Global, from: &Excerpt) -> Result<Excerpt, AllocError> {
     let known = without_unknown(alloc, from)?;
     without_left(alloc, &known)

@@ -9,8 +9,8 @@ use crate::lines::count_lines;
 use prover::{Reason, Until, walk_ends};
 use std::alloc::{AllocError, Global};
 
-/// Whether some walk of the text's program ends stuck; not where it has none, or no walk is left. Each question takes as many
-/// walks off what is left as were taken, or one.
+/// Whether some walk of the text's program ends stuck; not where it has none, or no walk is left.
+/// Each question takes as many walks off what is left as were taken, or one.
 fn hangs(alloc: Global, text: &[u8], left: &mut u32) -> Result<bool, AllocError>
     ensures { IfOk result (λ hangs. IsTrue hangs → CanHang text.now) }
 {
@@ -39,7 +39,8 @@ pub fn is_smaller(one: &[u8], other: &[u8]) -> bool
     fewer && one.len() < other.len()
 }
 
-/// Takes the candidate in the text's place, where it is smaller and still hangs. Answers whether it was taken.
+/// Takes the candidate in the text's place, where it is smaller and still hangs. Answers whether it
+/// was taken.
 pub fn improve(
     alloc: Global,
     best: &mut Excerpt,

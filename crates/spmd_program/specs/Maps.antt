@@ -13,7 +13,8 @@ use Rattle.spmd_program.specs.Told.{turns_text}
 abbrev pub is_blank : ℕ → Bool
 is_blank b = b == 10 || (b == 32 || (b == 9 || b == 13))
 
--- a blank stands before a byte of a line where blanks came, but not before the first, nor before `<`
+-- a blank stands before a byte of a line where blanks came, but not before the first, nor before
+-- `<`
 abbrev pub blank_before : Bool → Bool → ℕ → List ℕ
 blank_before begun blank b = if begun && (blank && not (b == 60)) then 32 ∷ [] else []
 

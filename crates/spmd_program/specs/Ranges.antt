@@ -26,7 +26,8 @@ pub record AreEnds (before behind : List ℕ) (first last : ℕ) : Type 0 where
   pub is_last : IsCount number last
   pub rises : first ≤ last
 
--- the text is a number of ranks, as `4`, or the first and the last with two dots between, as `2..16`
+-- the text is a number of ranks, as `4`, or the first and the last with two dots between, as
+-- `2..16`
 abbrev pub IsRange : List ℕ → ℕ → ℕ → Type 0
 IsRange text first last =
     ((has_dot text ≡ false) × IsCount text first × (last ≡ first))

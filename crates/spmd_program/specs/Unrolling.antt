@@ -26,7 +26,8 @@ use Rattle.spmd_program.specs.Told.{fault_text}
 -- ---- the meaning
 
 -- The bytes are this text; with these settings and for so many ranks, where collective calls are
--- barriers or not, it has this outcome: the calls of each rank, or the first fault. Calls are as many as memory holds, turns of loops 10,000,000.
+-- barriers or not, it has this outcome: the calls of each rank, or the first fault. Calls are as
+-- many as memory holds, turns of loops 10,000,000.
 pub record Means (bytes : List ℕ) (ranks : ℕ) (settings : List (List ℕ)) (barriers : Bool) (text : Text) (outcome : Outcome) : Type 0 where
   pub values : List (Option Value)
   pub is_text : IsText text bytes

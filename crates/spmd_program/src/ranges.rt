@@ -48,8 +48,8 @@ fn around_dot(text: &str) -> Option<(&str, &str)>
     text.split_once('.')
 }
 
-/// The numbers of ranks that a text tells: one, as `4`, or from a first to a last, which is as large
-/// at least, as `2..16`. Each is 1 to 2,147,483,647.
+/// The numbers of ranks that a text tells: one, as `4`, or from a first to a last, which is as
+/// large at least, as `2..16`. Each is 1 to 2,147,483,647.
 pub fn ranks_of(text: &str) -> Option<Ranks>
     ensures is { IfSome result (λ ranks. IsRange text.now ranks.first ranks.last) }
     ensures none { IfNone result ((first last : ℕ) → IsRange text.now first last → ⊥) }

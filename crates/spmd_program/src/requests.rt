@@ -52,8 +52,8 @@ fn fault_words(fault: CallFault) -> &'static str
     }
 }
 
-/// What is told of a call whose request or handle is wrong. There is such a call wherever there is a
-/// fault; a missing one would be told as want of memory.
+/// What is told of a call whose request or handle is wrong. There is such a call wherever there is
+/// a fault; a missing one would be told as want of memory.
 fn request_text(
     alloc: Global,
     path: &str,

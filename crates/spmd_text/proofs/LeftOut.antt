@@ -1,4 +1,5 @@
--- What may be left out, and tells so by the piece that comes next: a step, and the line of the policy.
+-- What may be left out, and tells so by the piece that comes next: a step, and the line of the
+-- policy.
 use Rattle.std.proofs.Common.{◌≡◌, ℕ, ◌<◌, length, arith, pos, Bool, true, false, nat_eq, if◌then◌else◌, List, [], ◌∷◌, Option, Some, None, refl, ap, sym, ◌∙◌, inr}
 use Rattle.std.proofs.lemmas.Option.{same_Some}
 use Rattle.spmd_tree.specs.declared.tree.Expression.{Expression}

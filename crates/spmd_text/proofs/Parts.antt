@@ -85,8 +85,8 @@ reads_then {X} {Y} {one} {other} {old} {mid} {new} {a} {b} strict follows r s = 
         → one.May both.0 × other.May both.1 → other.ends rest ≡ true → Finds new rest (one.Same a both.0 × other.Same b both.1)
     finds (x, y) rest sound e (may_x, may_y) ends = by_middle x y rest sound may_x may_y ends (one.behind x (Some old.rest.now)) refl e
 
--- What is read as one part is read as another, where a tree of the other one that stands here is one
--- of the first.
+-- What is read as one part is read as another, where a tree of the other one that stands here is
+-- one of the first.
 pub record IsAs {X Z : Type 0} (one : Part X) (other : Part Z) (old : Parser) (a : X) (z : Z) : Type 0 where
   pub back : (w : Z) (rest : List Token) → old.fault ≡ None → other.May w → other.behind w (Some old.rest.now) ≡ Some rest → other.ends rest ≡ true
       → (x : X) × one.May x × (one.behind x (Some old.rest.now) ≡ Some rest) × (one.ends rest ≡ true) × (one.Same a x → other.Same z w)

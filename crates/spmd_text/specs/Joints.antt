@@ -54,8 +54,8 @@ binding_of joint.And = 1
 binding_of (joint.Compared c) = 3
 binding_of (joint.Between o) = closeness_of o
 
--- how close the parts of a tree stand together, on the scale of joints: 2 for `not`, 4 for a choice,
--- 6 for a factor
+-- how close the parts of a tree stand together, on the scale of joints: 2 for `not`, 4 for a
+-- choice, 6 for a factor
 abbrev pub closeness : Expression → ℕ
 closeness (form.Either' p a q b) = 0
 closeness (form.Both' p a q b) = 1

@@ -93,8 +93,8 @@ Alike a b = form_of a ≡ form_of b
 
 -- ---- what is ahead
 
--- nothing is wrong, and what is left begins with this tree, which is within the limits; these pieces
--- are left behind it
+-- nothing is wrong, and what is left begins with this tree, which is within the limits; these
+-- pieces are left behind it
 pub record Ahead (s : Parser) (depth : ℕ) (e : Expression) (rest : List Token) : Type 0 where
   pub sound : s.fault ≡ None
   pub spelled : after_expression e (Some s.rest.now) ≡ Some rest

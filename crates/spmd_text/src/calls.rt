@@ -296,8 +296,8 @@ pub(crate) fn wait_all(parser: &mut Parser<'_>, line: u32) -> Made
     keep(parser, Statement::WaitAll { line, requests })
 }
 
-/// What a word begins: a send, and whether it is started; a receive, or one on a handle, and whether
-/// it is started; a collective call, and whether it has a root; or another call.
+/// What a word begins: a send, and whether it is started; a receive, or one on a handle, and
+/// whether it is started; a collective call, and whether it has a root; or another call.
 #[derive(Clone, Copy)]
 enum Form {
     Send(Mode, bool),

@@ -119,10 +119,10 @@ fn grammar_fault(fault: ParseFault) -> TextFault
     TextFault::Grammar(fault)
 }
 
-/// Reads a text. What is read is what the text says, as `specs/Texts.antt` defines it. Where a fault
-/// of the grammar is told, the text says nothing, and its line is the first that is wrong: no text
-/// that can be read has it behind the lines before it. A statement that goes on over several lines
-/// is told with the number of the first of them.
+/// Reads a text. What is read is what the text says, as `specs/Texts.antt` defines it. Where a
+/// fault of the grammar is told, the text says nothing, and its line is the first that is wrong: no
+/// text that can be read has it behind the lines before it. A statement that goes on over several
+/// lines is told with the number of the first of them.
 pub fn parse(alloc: Global, bytes: &[u8]) -> Result<Text, TextFault>
     ensures text { IfOk result (λ text. IsText text bytes.now) }
     ensures fault { IfErr result (λ fault. HasFault bytes.now fault) }

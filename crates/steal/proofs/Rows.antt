@@ -50,7 +50,8 @@ fresh_rows count [] (row ∷ rows) all = absurd all
 fresh_rows count (o ∷ owners) (row ∷ rows) all = (all.0.0, fresh_rows count owners rows all.1)
 
 module _ (owners : List OwnerSeat) (owner : OwnerSeat) where
-  -- the last seat of each row is a thief of the last owner, and the others are thieves of the others
+  -- the last seat of each row is a thief of the last owner, and the others are thieves of the
+  -- others
   pub thieves_cut : {rows left : List (List ThiefSeat)} {seats : List ThiefSeat} → AreLast rows left seats → AllByRecursion (AllZip IsThiefOf (owners ++ owner ∷ [])) rows
       → AllByRecursion (AllZip IsThiefOf owners) left × AllByRecursion (IsThiefOf owner) seats × (length left ≡ length rows) × (length seats ≡ length rows)
   thieves_cut no_row all = (tt, tt, refl, refl)

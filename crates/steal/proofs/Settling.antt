@@ -13,7 +13,8 @@ use Rattle.steal.proofs.Moves.{count_by-append}
 use Rattle.steal.proofs.Places.{AllByRecursion-front, flat_map-snoc}
 use Rattle.steal.proofs.Rows.{count_cut, none_stolen, thieves_cut}
 
--- of all cubes pushed and taken, those of the owners and rows that aren't settled, and what is left of the others
+-- of all cubes pushed and taken, those of the owners and rows that aren't settled, and what is left
+-- of the others
 abbrev pub IsEven : (ℕ → Bool) → List ℕ → List ℕ → List OwnerSeat → List (List ThiefSeat) → List ℕ → Type 0
 IsEven p given taken owners rows left =
     count_by p given + (count_by p (flat_map popped owners) + count_by p (flat_map stolen_by rows)) ≡ (count_by p taken + count_by p left) + count_by p (flat_map pushed owners)

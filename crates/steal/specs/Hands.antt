@@ -1,4 +1,5 @@
--- What each seat of a deque has pushed and taken, and how that ties the seats to the cubes in the deque.
+-- What each seat of a deque has pushed and taken, and how that ties the seats to the cubes in the
+-- deque.
 use Rattle.std.specs.Prelude.{◌≡◌, ℕ, ◌+◌, ◌==◌, Bool, List, [], ◌∷◌, count_by}
 use mathlib.Core.Option.{some}
 use lib.ListN.{get_elem?}

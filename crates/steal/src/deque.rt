@@ -12,8 +12,8 @@ use std::alloc::{AllocError, Global};
 // The slots that a deque begins with. It grows by itself.
 const FIRST_SLOTS: usize = 16;
 
-/// A deque of cubes, each a number that its user gives a meaning. It is first in, first out, for the owner
-/// and for thieves, and grows as it is pushed to. It is known by its seats alone.
+/// A deque of cubes, each a number that its user gives a meaning. It is first in, first out, for
+/// the owner and for thieves, and grows as it is pushed to. It is known by its seats alone.
 pub struct CubeDeque;
 
 /// What a steal answers.
@@ -28,8 +28,8 @@ pub enum Stolen {
 }
 
 impl CubeDeque {
-    /// An empty deque: its owner's seat, and a seat for each of at most 64 thieves, which may be none.
-    /// The only refusal is want of memory.
+    /// An empty deque: its owner's seat, and a seat for each of at most 64 thieves, which may be
+    /// none. The only refusal is want of memory.
     pub fn make(alloc: Global, thieves: usize) -> Result<(OwnerSeat, Vec<ThiefSeat>), AllocError>
         requires { thieves ≤ 64 }
         ensures owner { IfOk result (λ r. (pushed r.0 ≡ []) × (popped r.0 ≡ []) × (thief_count r.0 ≡ thieves)) }
@@ -55,9 +55,10 @@ impl CubeDeque {
 }
 
 impl OwnerSeat {
-    /// Pushes a cube at the back, or gives it back where the deque can't grow: for want of memory, or at a bound
-    /// of the ported deque's own, which are 30 rings of slots, of 16 and each time twice as many, and 2 ^ 62
-    /// pushes. A ring is added where the next slot isn't free, also for a thief that has yet to leave it.
+    /// Pushes a cube at the back, or gives it back where the deque can't grow: for want of memory,
+    /// or at a bound of the ported deque's own, which are 30 rings of slots, of 16 and each time
+    /// twice as many, and 2 ^ 62 pushes. A ring is added where the next slot isn't free, also for a
+    /// thief that has yet to leave it.
     pub fn push(&mut self, cube: u32) -> Result<(), u32>
         ensures same { IsSameOwner self.old self.new × (popped self.new ≡ popped self.old) }
         ensures cube { MatchResult result (λ _. pushed self.new ≡ pushed self.old ++ cube ∷ []) (λ back. (back ≡ cube) × (pushed self.new ≡ pushed self.old)) }

@@ -5,7 +5,8 @@ use crossbeam_deque::{Pass, Stealer, Worker};
 use std::alloc::Global;
 use std::collections::LinkedList;
 
-/// What a seat has pushed and taken, and its parts of the right to know the whole. No value of it is made.
+/// What a seat has pushed and taken, and its parts of the right to know the whole. No value of it
+/// is made.
 pub struct Hand {
     pub parts: u64,
     pub pushed: LinkedList<u32>,
@@ -46,8 +47,8 @@ impl Outcome<u32, Hand> for Taken {
     ghost then = { λ v cubes w. w ≡ hand v.parts v.pushed (v.taken ++ cubes) };
 }
 
-/// A pop in the end, by who knows the whole: no more cubes are taken than were pushed, and where none is
-/// left, those taken are those pushed.
+/// A pop in the end, by who knows the whole: no more cubes are taken than were pushed, and where
+/// none is left, those taken are those pushed.
 pub struct Drained;
 
 impl Outcome<u32, Hand> for Drained {

@@ -7,8 +7,8 @@ ghost use Rattle.steal.specs.Hands.{all_parts};
 use crate::rule::{Owner, Thief, Token};
 use std::alloc::Global;
 
-/// The seat that pushes and pops. Contracts see the list of the cubes that it has pushed and of those that
-/// it has popped.
+/// The seat that pushes and pops. Contracts see the list of the cubes that it has pushed and of
+/// those that it has popped.
 #[derive(Drop)]
 pub struct OwnerSeat {
     pub(crate) owner: Owner,

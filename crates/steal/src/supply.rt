@@ -15,9 +15,9 @@ use std::alloc::{AllocError, Global};
 // How often a steal is tried at one deque before the next one.
 const TRIES: u32 = 4;
 
-/// What one worker has of all deques: the owner's seat of its own, and a thief's seat at each, its own too,
-/// in order of the workers. Contracts see the lists of the cubes that it has given, by putting them into its
-/// deque, and taken.
+/// What one worker has of all deques: the owner's seat of its own, and a thief's seat at each, its
+/// own too, in order of the workers. Contracts see the lists of the cubes that it has given, by
+/// putting them into its deque, and taken.
 #[derive(Drop)]
 pub struct Supply {
     own: OwnerSeat,
@@ -35,9 +35,10 @@ impl Supply {
         self.own.push(cube)
     }
 
-    /// Takes the first cube of its own deque or, where that is empty, the first that it can steal, from the
-    /// next worker's deque on, round. `None` where each deque was empty at some moment of the call, or other
-    /// thieves were quicker there several times. No contract says that a cube is found.
+    /// Takes the first cube of its own deque or, where that is empty, the first that it can steal,
+    /// from the next worker's deque on, round. `None` where each deque was empty at some moment of
+    /// the call, or other thieves were quicker there several times. No contract says that a cube is
+    /// found.
     pub fn take(&mut self) -> Option<u32>
         ensures same { IsSameSupply self.old self.new × (given self.new ≡ given self.old) }
         ensures cube { MatchOption result (taken self.new ≡ taken self.old) (λ cube. HasOneMore (taken self.old) cube (taken self.new)) }
@@ -79,8 +80,8 @@ fn stolen_round(thieves: &mut [ThiefSeat], worker: u32) -> Option<u32>
     None
 }
 
-/// A supply for each of at most 64 workers, which may be none: a new deque for each, and everyone's seats at
-/// it. The only refusal is want of memory.
+/// A supply for each of at most 64 workers, which may be none: a new deque for each, and everyone's
+/// seats at it. The only refusal is want of memory.
 pub fn deal(alloc: Global, workers: u32) -> Result<Vec<Supply>, AllocError>
     requires { workers ≤ 64 }
     ensures count { IfOk result (λ supplies. vec_len supplies ≡ workers) }
@@ -155,9 +156,9 @@ fn last_of_each(
     Ok((left, seats))
 }
 
-/// Takes all supplies that were dealt together and answers the cubes that are left in their deques. Each cube
-/// was given as often as it was taken or is left. The only refusal is want of memory, by which the supplies
-/// are dropped.
+/// Takes all supplies that were dealt together and answers the cubes that are left in their deques.
+/// Each cube was given as often as it was taken or is left. The only refusal is want of memory, by
+/// which the supplies are dropped.
 pub fn settle_all(alloc: Global, supplies: Vec<Supply>) -> Result<Vec<u32>, AllocError>
     requires { AreSupplies supplies.items }
     ensures { IfOk result (λ left. (cube : ℕ) → occurrences cube (given_by supplies.items) ≡ occurrences cube (taken_by supplies.items ++ left.items)) }
@@ -218,8 +219,8 @@ fn left_of(owner: OwnerSeat, thieves: Vec<ThiefSeat>) -> Result<Vec<u32>, AllocE
     }
 }
 
-/// Supplies that were dealt together are so still when each has the seats that it had, whatever it has put
-/// and taken.
+/// Supplies that were dealt together are so still when each has the seats that it had, whatever it
+/// has put and taken.
 pub fn supplies_stay()
     ensures { SuppliesStay }
 {}

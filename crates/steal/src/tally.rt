@@ -12,8 +12,8 @@ use crate::seats::{OwnerSeat, ThiefSeat};
 /// What is left of a deque.
 #[derive(Drop)]
 pub struct Tally {
-    /// The cubes that nobody has taken. They come in the order in which they were pushed, of which no
-    /// contract speaks.
+    /// The cubes that nobody has taken. They come in the order in which they were pushed, of which
+    /// no contract speaks.
     pub left: Vec<u32>,
 }
 
@@ -64,10 +64,10 @@ fn drained(mut owner: Owner, mut left: Vec<u32>) -> Vec<u32>
     left
 }
 
-/// Takes all seats of one deque and answers what is left in it. Each cube was pushed as often as it was
-/// popped, stolen or is left. A refusal hands the seats back as they were: `Missing` where there are fewer or
-/// more thieves than the deque was made with, which comes first, and `Memory`. Room is asked for each cube
-/// that was pushed and that the owner hasn't popped.
+/// Takes all seats of one deque and answers what is left in it. Each cube was pushed as often as it
+/// was popped, stolen or is left. A refusal hands the seats back as they were: `Missing` where
+/// there are fewer or more thieves than the deque was made with, which comes first, and `Memory`.
+/// Room is asked for each cube that was pushed and that the owner hasn't popped.
 pub fn settle(owner: OwnerSeat, thieves: Vec<ThiefSeat>) -> Result<Tally, Unsettled>
     requires { All (λ thief. IsThiefOf owner thief) thieves.items }
     ensures balanced { IfOk result (λ tally. (cube : ℕ) → occurrences cube (pushed owner) ≡ occurrences cube ((popped owner ++ stolen_by thieves.items) ++ tally.left.items)) }

@@ -2,7 +2,8 @@
 use Rattle.std.specs.Prelude.{ℕ, List, Option, None, Some, if◌then◌else◌, codes}
 use Rattle.std.specs.Prelude.{bytes_eq}
 
--- the bytes of the file at a path: of the program, of the evidence, or of what was written and closed
+-- the bytes of the file at a path: of the program, of the evidence, or of what was written and
+-- closed
 abbrev pub shelf_file : List ℕ → List ℕ → Option (List ℕ) → List ℕ → Option (List ℕ)
 shelf_file program evidence out path =
     if bytes_eq path (codes "program") then Some program

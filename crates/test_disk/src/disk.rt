@@ -23,10 +23,10 @@ pub enum Trouble {
     NoByte,
 }
 
-/// Two files that can be read, `program` and `evidence`, and one that can be written, `out`. The path
-/// `memory` can't be opened for want of memory. A path in the folder `folder` is that of a part of
-/// `evidence`, or of `out` where it is written: behind `== ` and the file's name on a line of its own,
-/// up to the next such line. Every other path isn't there.
+/// Two files that can be read, `program` and `evidence`, and one that can be written, `out`. The
+/// path `memory` can't be opened for want of memory. A path in the folder `folder` is that of a
+/// part of `evidence`, or of `out` where it is written: behind `== ` and the file's name on a line
+/// of its own, up to the next such line. Every other path isn't there.
 #[derive(Drop)]
 pub struct Disk<'a> {
     /// What the file `program` holds.
@@ -46,7 +46,8 @@ pub struct Disk<'a> {
 }
 
 impl Disk<'_> {
-    /// Counts an open, a read, a write or a close, and gives the trouble where it is the one that meets it.
+    /// Counts an open, a read, a write or a close, and gives the trouble where it is the one that
+    /// meets it.
     fn step(&self) -> Option<Trouble> {
         let count = self.steps.get().saturating_add(1);
         self.steps.set(count);

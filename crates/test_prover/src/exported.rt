@@ -44,7 +44,8 @@ fn proof_of(
     }
 }
 
-/// How many lines and hints an exported proof has that the plain checker takes, and refuses without any one of its hints.
+/// How many lines and hints an exported proof has that the plain checker takes, and refuses without
+/// any one of its hints.
 fn taken(
     rt: &(impl Threads + Sync),
     alloc: Global,

@@ -34,7 +34,8 @@ fn told(alloc: Global, text: &[u8]) -> Result<String, Fail> {
     }
 }
 
-/// Whether each byte that stands in no text is told as a fault of this line, from 1, where it stands at this place, from 0.
+/// Whether each byte that stands in no text is told as a fault of this line, from 1, where it
+/// stands at this place, from 0.
 fn are_told(alloc: Global, place: usize, line: u32) -> Result<bool, Fail> {
     let wanted = format!(in alloc; "evidence line {line} syntax")?;
     let mut all = true;

@@ -19,7 +19,8 @@ use std::thread::Threads;
 const RELAY: &str =
     "ranks 3/policy none/rank 0/send 1 1/send 2 1/rank 1/send 2 1/recv 0 1/rank 2/recv * 1/recv 0 1/";
 
-/// Seven ranks that each send to one rank. It has no deadlock, but that takes more conflicts than one search counts.
+/// Seven ranks that each send to one rank. It has no deadlock, but that takes more conflicts than
+/// one search counts.
 const SENDERS: &str =
     "ranks 8/policy none/rank 0/recv * 1/recv * 1/recv * 1/recv * 1/recv * 1/recv * 1/recv * 1/rank 1/send 0 1/rank 2/send 0 1/rank 3/send 0 1/rank 4/send 0 1/rank 5/send 0 1/rank 6/send 0 1/rank 7/send 0 1/";
 

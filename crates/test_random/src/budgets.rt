@@ -7,15 +7,17 @@ use std::alloc::{AllocError, Global};
 use std::sync::Wait;
 use std::thread::Threads;
 
-/// The budgets are the squares of so many numbers from 0 on: close together where they are small, and beyond what one worker needs.
+/// The budgets are the squares of so many numbers from 0 on: close together where they are small,
+/// and beyond what one worker needs.
 const ROOTS: u32 = 25;
 
 /// More conflicts than any of these programs needs.
 const ENOUGH: u32 = 1_000_000;
 
-/// Programs whose search takes conflicts, and what becomes of them: five ranks send to one, which takes their messages as they come; it
-/// sees each before that; four ranks send to two. In the second of each kind one message is received by its sender's number, which another
-/// receive may have taken. In these texts `/` stands for the end of a line.
+/// Programs whose search takes conflicts, and what becomes of them: five ranks send to one, which
+/// takes their messages as they come; it sees each before that; four ranks send to two. In the
+/// second of each kind one message is received by its sender's number, which another receive may
+/// have taken. In these texts `/` stands for the end of a line.
 const PROGRAMS: &str =
     "ranks 6/policy any/rank 0/recv * 1/recv * 1/recv * 1/recv * 1/recv * 1/rank 1/send 0 1/rank 2/send 0 1/rank 3/send 0 1/rank 4/send 0 1/rank 5/send 0 1/ | ends
 ranks 6/policy any/rank 0/recv * 1/recv 3 1/recv * 1/recv * 1/recv * 1/rank 1/send 0 1/rank 2/send 0 1/rank 3/send 0 1/rank 4/send 0 1/rank 5/send 0 1/ | hangs
@@ -41,8 +43,8 @@ impl Judged {
     }
 }
 
-/// Whether a search of a program with this fate is answered rightly: what becomes of it, with evidence, or, where the budget may be used
-/// up, that it is.
+/// Whether a search of a program with this fate is answered rightly: what becomes of it, with
+/// evidence, or, where the budget may be used up, that it is.
 fn is_right(
     rt: &(impl Threads + Wait + Sync),
     alloc: Global,

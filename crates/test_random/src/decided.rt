@@ -61,7 +61,8 @@ impl Counts {
     }
 }
 
-/// Whether the checker takes the steps, as a schedule's text, for a deadlock of the program of this text.
+/// Whether the checker takes the steps, as a schedule's text, for a deadlock of the program of this
+/// text.
 fn is_shown(
     rt: &(impl Threads + Wait + Sync),
     alloc: Global,
@@ -72,7 +73,8 @@ fn is_shown(
     Ok(verdict(rt, alloc, text, &schedule) == Verdict::Deadlock)
 }
 
-/// What one run tells of the program of this text, where the checker takes the schedule of a deadlock.
+/// What one run tells of the program of this text, where the checker takes the schedule of a
+/// deadlock.
 fn told_of(
     rt: &(impl Threads + Wait + Sync),
     alloc: Global,
@@ -106,8 +108,8 @@ fn agrees(rt: &(impl Threads + Wait + Sync), alloc: Global, text: &[u8], told: T
     }
 }
 
-/// Compares what one run tells of the program of this text with all of its runs, and with what the prover tells. Answers whether
-/// nothing is wrong.
+/// Compares what one run tells of the program of this text with all of its runs, and with what the
+/// prover tells. Answers whether nothing is wrong.
 pub fn compare_decided(
     rt: &(impl Threads + Wait + Sync),
     alloc: Global,

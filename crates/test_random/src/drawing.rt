@@ -1,5 +1,5 @@
-//! Programs that are drawn: messages in a global order, each of which appends its two ends to the lines of its ranks. So without
-//! wildcards, swapped lines and dropped receives no run gets stuck.
+//! Programs that are drawn: messages in a global order, each of which appends its two ends to the
+//! lines of its ranks. So without wildcards, swapped lines and dropped receives no run gets stuck.
 
 use crate::chance::Chance;
 use crate::line::Line;
@@ -16,7 +16,8 @@ pub enum Family {
     Plain,
     /// With probes.
     Probing,
-    /// With probes, and all ranks send to rank 0, which takes their messages from any source and answers some.
+    /// With probes, and all ranks send to rank 0, which takes their messages from any source and
+    /// answers some.
     Hub,
 }
 
@@ -42,8 +43,9 @@ struct Drawing {
     names: u32,
 }
 
-/// The text of the program of this family that is drawn by this seed, with 2 to 4 ranks and 3 to 5 messages; with a hub 3 or 4 ranks, and
-/// each sends one message or two. Where lines are swapped or receives dropped, it stays a program.
+/// The text of the program of this family that is drawn by this seed, with 2 to 4 ranks and 3 to 5
+/// messages; with a hub 3 or 4 ranks, and each sends one message or two. Where lines are swapped or
+/// receives dropped, it stays a program.
 pub fn draw(alloc: Global, seed: u64, family: Family) -> Result<String, AllocError> {
     let mut drawing = Drawing {
         chance: Chance::of_seed(seed),
@@ -278,7 +280,8 @@ impl Drawing {
         self.end_some(rank)
     }
 
-    /// Adds a receive, or a matched probe. Where there are probes, one may stand before it, and one behind it.
+    /// Adds a receive, or a matched probe. Where there are probes, one may stand before it, and one
+    /// behind it.
     fn add_taker(&mut self, rank: u32, pattern: Pattern) -> Result<(), AllocError> {
         self.add_probe(rank, pattern, 3)?;
         let times = if self.family == Family::Hub { 2 } else { 4 };
@@ -356,7 +359,8 @@ impl Drawing {
         Ok(())
     }
 
-    /// Ends all that a rank has begun: each thing needs one line, and the request of a receive on a handle another.
+    /// Ends all that a rank has begun: each thing needs one line, and the request of a receive on a
+    /// handle another.
     fn end_rank(&mut self, rank: u32) -> Result<(), AllocError> {
         for _ in 0..100 {
             let Some(pending) = self.draw_pending(rank) else {
@@ -370,7 +374,8 @@ impl Drawing {
 
 /// What is changed at the end.
 impl Drawing {
-    /// Swaps neighbouring lines at up to two places, but those of which one ends what the other begins.
+    /// Swaps neighbouring lines at up to two places, but those of which one ends what the other
+    /// begins.
     fn swap_lines(&mut self) {
         for _ in 0..self.chance.below(3) {
             self.swap_line();
@@ -404,7 +409,8 @@ impl Drawing {
     }
 }
 
-/// Swaps the line at a place with the one before it, if there is one, and they name nothing in common.
+/// Swaps the line at a place with the one before it, if there is one, and they name nothing in
+/// common.
 fn swap_at(lines: &mut Vec<Line>, place: usize) {
     if place == 0 || place >= lines.len() {
         return;

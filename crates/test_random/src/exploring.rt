@@ -13,7 +13,8 @@ pub enum Fate {
     NeverStuck,
 }
 
-/// The positions that were reached, and those of them from which no step was taken yet, the last one first.
+/// The positions that were reached, and those of them from which no step was taken yet, the last
+/// one first.
 #[derive(Drop)]
 struct Reached {
     known: HashSet<Position>,
@@ -36,8 +37,8 @@ impl Reached {
     }
 }
 
-/// Whether some run of the program gets stuck, by a search through all positions that its runs reach, or none if the program is too
-/// large or has more positions than so many.
+/// Whether some run of the program gets stuck, by a search through all positions that its runs
+/// reach, or none if the program is too large or has more positions than so many.
 pub fn explore(alloc: Global, program: &Program, most: usize) -> Result<Option<Fate>, AllocError> {
     let rules = Rules::of(alloc, program)?;
     let Some(rules) = rules else {

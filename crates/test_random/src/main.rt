@@ -1,7 +1,9 @@
-//! Draws programs by a fixed generator, and compares the answers for each: the prover's by each of its searches, whose evidence the
-//! checker has to accept, and that of a plain exploration of all runs. Prints each program on which they differ, and at the end how many agree: first of programs
-//! without probes, then of programs with probes, then of programs in which all ranks send to one. At last searches of some programs are
-//! cut off by budgets: how many answers are right, those that the budget is used up among them.
+//! Draws programs by a fixed generator, and compares the answers for each: the prover's by each of
+//! its searches, whose evidence the checker has to accept, and that of a plain exploration of all
+//! runs. Prints each program on which they differ, and at the end how many agree: first of programs
+//! without probes, then of programs with probes, then of programs in which all ranks send to one.
+//! At last searches of some programs are cut off by budgets: how many answers are right, those that
+//! the budget is used up among them.
 #![tactic(auto)]
 
 mod budgets;
@@ -77,8 +79,8 @@ fn compare_all(rt: &HostRuntime, threads: &(impl Threads + Wait + Sync)) -> io::
     Ok(plain_agree && probing_agree && hub_agree && budgets_agree && decided_agree)
 }
 
-/// Compares what one run decides with all runs, for programs of each family, and prints what was counted. Answers whether nothing is
-/// wrong.
+/// Compares what one run decides with all runs, for programs of each family, and prints what was
+/// counted. Answers whether nothing is wrong.
 fn compare_runs(rt: &HostRuntime, threads: &(impl Threads + Wait + Sync)) -> io::Result<bool> {
     println!(rt; "decided by one run:")?;
     let plain_right = decide_drawn(rt, threads, DECIDED_PROGRAMS, Family::Plain)?;
@@ -87,8 +89,8 @@ fn compare_runs(rt: &HostRuntime, threads: &(impl Threads + Wait + Sync)) -> io:
     Ok(plain_right && probing_right && hub_right)
 }
 
-/// Compares what one run decides with all runs, for so many programs of a family, and prints each program of which something wrong is
-/// told, and what was counted. Answers whether there is none.
+/// Compares what one run decides with all runs, for so many programs of a family, and prints each
+/// program of which something wrong is told, and what was counted. Answers whether there is none.
 fn decide_drawn(
     rt: &HostRuntime,
     threads: &(impl Threads + Wait + Sync),
@@ -118,7 +120,8 @@ fn print_decided(rt: &HostRuntime, counts: &Counts) -> io::Result<()> {
     println!(rt; "{wrong} are wrongly decided, {too_large} too large and not counted")
 }
 
-/// Judges answers of searches that budgets cut off, and prints what was counted. Answers whether all are right.
+/// Judges answers of searches that budgets cut off, and prints what was counted. Answers whether
+/// all are right.
 fn compare_budgets(rt: &HostRuntime, threads: &(impl Threads + Wait + Sync)) -> io::Result<bool> {
     let judged = judge_all(threads, rt.alloc())?;
     let (right, wrong) = (judged.right, judged.wrong);
@@ -127,7 +130,8 @@ fn compare_budgets(rt: &HostRuntime, threads: &(impl Threads + Wait + Sync)) -> 
     Ok(wrong == 0)
 }
 
-/// Compares the answers for each of so many programs, and prints what was counted. Answers whether none differ.
+/// Compares the answers for each of so many programs, and prints what was counted. Answers whether
+/// none differ.
 fn compare_drawn(
     rt: &HostRuntime,
     threads: &(impl Threads + Wait + Sync),
@@ -190,7 +194,8 @@ fn all_prove(rt: &(impl Threads + Wait + Sync), alloc: Global, text: &[u8], fate
     true
 }
 
-/// What the prover says of a program's text by these searches, or none where it has no answer or the checker has another one.
+/// What the prover says of a program's text by these searches, or none where it has no answer or
+/// the checker has another one.
 fn proved(
     rt: &(impl Threads + Wait + Sync),
     alloc: Global,
@@ -202,7 +207,8 @@ fn proved(
     shown_by(rt, alloc, text, &answer)
 }
 
-/// What an answer says of a program's text, or none where it says nothing or the checker says something else.
+/// What an answer says of a program's text, or none where it says nothing or the checker says
+/// something else.
 fn shown_by(
     rt: &(impl Threads + Wait + Sync),
     alloc: Global,

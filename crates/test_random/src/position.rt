@@ -6,7 +6,8 @@ pub const MOST_RANKS: usize = 4;
 /// The most calls that a position has room for.
 pub const MOST_CALLS: usize = 24;
 
-/// How far a run has come. Calls are named by their place in the program's list, ranks by their number, both from 0.
+/// How far a run has come. Calls are named by their place in the program's list, ranks by their
+/// number, both from 0.
 #[derive(Clone, Copy, PartialEq, Eq, Hash)]
 pub struct Position {
     /// How many calls of each rank are issued.

@@ -1,4 +1,5 @@
-//! The steps of a program's runs, by rules of their own: nothing of the machine of `semantics` is used.
+//! The steps of a program's runs, by rules of their own: nothing of the machine of `semantics` is
+//! used.
 
 use crate::position::{MOST_CALLS, MOST_RANKS, Position};
 use callorder::{Call, Kind, Mode, Policy, Program};
@@ -107,8 +108,9 @@ impl Rules {
         matches!(self.kind(place), Some(Kind::Probe { .. }))
     }
 
-    /// Whether the first call is a send whose message the second may take, or see: it is sent to the second's rank, in the same
-    /// communicator, and source and tag are those that are wanted, or any are.
+    /// Whether the first call is a send whose message the second may take, or see: it is sent to
+    /// the second's rank, in the same communicator, and source and tag are those that are wanted,
+    /// or any are.
     fn is_meant_for(&self, send: usize, finder: usize) -> bool {
         let (Some(send), Some(finder)) = (self.seat(send), self.seat(finder)) else {
             return false;
@@ -138,7 +140,8 @@ impl Rules {
         self.is_issued(position, place) && position.partner(place).is_none()
     }
 
-    /// Whether the message of a send is being received: by a receive, or by the receive on the handle of a matched probe.
+    /// Whether the message of a send is being received: by a receive, or by the receive on the
+    /// handle of a matched probe.
     fn is_fetched(&self, position: &Position, send: usize) -> bool {
         let Some(taker) = position.partner(send) else {
             return false;
@@ -230,8 +233,8 @@ impl Rules {
         false
     }
 
-    /// Whether such a probe can see the message of this send: it is there, and neither an earlier message nor an earlier taker of
-    /// the probe's rank comes first.
+    /// Whether such a probe can see the message of this send: it is there, and neither an earlier
+    /// message nor an earlier taker of the probe's rank comes first.
     fn can_see(&self, position: &Position, send: usize, probe: usize) -> bool {
         self.is_open(position, send)
             && self.is_meant_for(send, probe)
@@ -239,7 +242,8 @@ impl Rules {
             && !self.passes_taker(position, send, probe)
     }
 
-    /// Whether the taker or probe could have an earlier message of the same rank that is still there.
+    /// Whether the taker or probe could have an earlier message of the same rank that is still
+    /// there.
     fn passes_send(&self, position: &Position, send: usize, finder: usize) -> bool {
         for earlier in 0..send {
             if self.are_of_one_rank(earlier, send)
@@ -252,8 +256,8 @@ impl Rules {
         false
     }
 
-    /// Whether an earlier taker of the same rank could have the message and still has none. A probe takes none, so it is never in
-    /// the way.
+    /// Whether an earlier taker of the same rank could have the message and still has none. A probe
+    /// takes none, so it is never in the way.
     fn passes_taker(&self, position: &Position, send: usize, finder: usize) -> bool {
         for earlier in 0..finder {
             if self.are_of_one_rank(earlier, finder)
@@ -291,7 +295,8 @@ impl Rules {
         Ok(())
     }
 
-    /// Pushes where the issue of this call leads, with each choice of buffering that the policy leaves.
+    /// Pushes where the issue of this call leads, with each choice of buffering that the policy
+    /// leaves.
     fn push_issue(
         &self,
         position: &Position,

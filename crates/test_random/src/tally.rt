@@ -44,7 +44,8 @@ impl Tally {
         Ok(())
     }
 
-    /// Counts the policy and the call lines of a program's text, and its calls with wildcards or in another communicator than 0.
+    /// Counts the policy and the call lines of a program's text, and its calls with wildcards or in
+    /// another communicator than 0.
     pub fn count_text(
         &mut self,
         alloc: Global,

@@ -1,5 +1,6 @@
-//! Judges worked examples: each row of the files that the words name is a run of the program over files in memory. Prints each
-//! row that doesn't hold, and at the end how many hold, or don't. Where all hold, two runs over the files of the system follow.
+//! Judges worked examples: each row of the files that the words name is a run of the program over
+//! files in memory. Prints each row that doesn't hold, and at the end how many hold, or don't.
+//! Where all hold, two runs over the files of the system follow.
 #![tactic(auto)]
 
 mod row;
@@ -34,8 +35,9 @@ fn main(rt: HostRuntime) -> ExitCode {
     }
 }
 
-/// Judges each file that the words name, and prints how many rows hold, or don't. Where all hold, which is the answer, it makes the
-/// runs over the files of the system, which print their own answers.
+/// Judges each file that the words name, and prints how many rows hold, or don't. Where all hold,
+/// which is the answer, it makes the runs over the files of the system, which print their own
+/// answers.
 fn judge(rt: &HostRuntime, threads: &(impl Threads + Wait + Clock + Sync)) -> io::Result<bool> {
     let paths: Vec<String> = env::args(rt)?.collect(rt.alloc())?;
     let mut tally = Tally { held: 0, missed: 0 };
@@ -52,8 +54,8 @@ fn judge(rt: &HostRuntime, threads: &(impl Threads + Wait + Clock + Sync)) -> io
     Ok(true)
 }
 
-/// Judges the rows of a file's text. Empty lines and those that begin with `#` are none, and a row goes on after a line that ends
-/// with a backslash.
+/// Judges the rows of a file's text. Empty lines and those that begin with `#` are none, and a row
+/// goes on after a line that ends with a backslash.
 fn judge_file(
     rt: &HostRuntime,
     threads: &(impl Threads + Wait + Clock + Sync),

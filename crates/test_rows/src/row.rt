@@ -5,12 +5,13 @@ use std::thread::Threads;
 use std::time::Clock;
 use test_runs::{Ended, Scene, run};
 
-/// The columns of a row. In each text `/` stands for the end of a line, `~` for a `|` and `%` for a `/`, and in the files `{N PART}` stands for
-/// N times PART, in which others may stand.
+/// The columns of a row. In each text `/` stands for the end of a line, `~` for a `|` and `%` for a
+/// `/`, and in the files `{N PART}` stands for N times PART, in which others may stand.
 #[derive(Clone, Copy)]
 pub struct Row<'a> {
-    /// The words of each run, with ` ; ` between those of two. `FIRST then SECOND` are two runs, and the second gets what the first
-    /// writes as its evidence. Where `terminal: ` stands before the words, standard error is a terminal.
+    /// The words of each run, with ` ; ` between those of two. `FIRST then SECOND` are two runs,
+    /// and the second gets what the first writes as its evidence. Where `terminal: ` stands before
+    /// the words, standard error is a terminal.
     commands: &'a str,
     /// The file `program`. Where it is `@` and a path, it is the content of the file there.
     program: &'a str,
@@ -27,8 +28,8 @@ pub struct Row<'a> {
 }
 
 impl<'a> Row<'a> {
-    /// The row with these columns, or none where the fourth one is no status. Blanks round a column don't count, and
-    /// the last columns may be missing.
+    /// The row with these columns, or none where the fourth one is no status. Blanks round a column
+    /// don't count, and the last columns may be missing.
     pub fn read(text: &'a str) -> Option<Row<'a>> {
         let (commands, rest) = column(text);
         let (program, rest) = column(rest);
@@ -60,7 +61,8 @@ impl<'a> Row<'a> {
         lines(alloc, &unfolded(alloc, self.program)?)
     }
 
-    /// What the first run over this program left that leaves something else than the row says, with its words, or none.
+    /// What the first run over this program left that leaves something else than the row says, with
+    /// its words, or none.
     pub fn first_miss(
         &self,
         rt: &(impl Threads + Wait + Clock + Sync),
@@ -156,7 +158,8 @@ fn lines(alloc: Global, text: &str) -> Result<String, AllocError> {
         .replace(alloc, '%', "/")
 }
 
-/// A text with the first `{N PART}` in it that holds no other one written out; none where there is none.
+/// A text with the first `{N PART}` in it that holds no other one written out; none where there is
+/// none.
 fn innermost_unfolded(alloc: Global, text: &str) -> Result<Option<String>, AllocError> {
     let Some((front, rest)) = text.split_once("}") else {
         return Ok(None);

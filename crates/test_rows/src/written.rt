@@ -26,7 +26,8 @@ const FOREIGN: &str = "relay.evidence.0.part";
 /// The second such name.
 const BESIDE: &str = "relay.evidence.1.part";
 
-/// Runs the program with these words over the system's files and standard streams, and prints how it ended.
+/// Runs the program with these words over the system's files and standard streams, and prints how
+/// it ended.
 fn run_on_files(
     rt: &HostRuntime,
     threads: &(impl Threads + Wait + Clock + Sync),
@@ -57,8 +58,8 @@ fn run_all(
     Ok(())
 }
 
-/// Makes all runs in the current folder, which then holds what it held, and prints what they left of
-/// a link, a mode and the file of another.
+/// Makes all runs in the current folder, which then holds what it held, and prints what they left
+/// of a link, a mode and the file of another.
 pub fn write_and_read(
     rt: &HostRuntime,
     threads: &(impl Threads + Wait + Clock + Sync),

@@ -57,8 +57,9 @@ impl<'a> Scene<'a> {
 /// The bytes that standard error has room for, so that it takes each text.
 const ROOM: usize = 4096;
 
-/// Runs the program with these words, which blanks part, after its own name. Fails where there is no memory for the words or
-/// for standard error; want of memory of the run itself is told by what it left.
+/// Runs the program with these words, which blanks part, after its own name. Fails where there is
+/// no memory for the words or for standard error; want of memory of the run itself is told by what
+/// it left.
 pub fn run(
     rt: &(impl Threads + Wait + Clock + Sync),
     alloc: Global,

@@ -12,7 +12,8 @@ use std::alloc::{AllocError, Global};
 use std::mem;
 use std::ops::Range;
 
-/// A search, how many lines it has seen, and closed states, and where the lines stand that it wrote last.
+/// A search, how many lines it has seen, and closed states, and where the lines stand that it wrote
+/// last.
 #[derive(Drop)]
 struct Searcher<'e> {
     search: StateSearch<'e>,
@@ -29,8 +30,9 @@ struct Shared<'e> {
     closed: Vec<ClosedState>,
 }
 
-/// Has so many searches take turns with this budget, each of a turn of its own, until one closes the program: `COUNT BUDGET MOST`. Tells whether there
-/// are no more lines than so many then. The first one may take one turn alone and leave.
+/// Has so many searches take turns with this budget, each of a turn of its own, until one closes
+/// the program: `COUNT BUDGET MOST`. Tells whether there are no more lines than so many then. The
+/// first one may take one turn alone and leave.
 pub fn beside(encoded: &Encoded, words: &str, leaves: bool, given: &mut Given) {
     let (count, words) = cut_number(words, given);
     let claims = InProgress::new(given.alloc);
@@ -97,9 +99,9 @@ fn search_all(
     mem::drop(shared);
 }
 
-/// Has one search close the program, and then another one, which is told of each state and lemma the
-/// line of the next one: `BUDGET MOST`. Tells whether that closes the program, too, with no more lines
-/// than so many.
+/// Has one search close the program, and then another one, which is told of each state and lemma
+/// the line of the next one: `BUDGET MOST`. Tells whether that closes the program, too, with no
+/// more lines than so many.
 pub fn misled(encoded: &Encoded, words: &str, given: &mut Given) {
     let (budget, words) = cut_number(words, given);
     let (most, _) = cut_number(words, given);
@@ -118,8 +120,8 @@ pub fn misled(encoded: &Encoded, words: &str, given: &mut Given) {
     mem::drop(shared);
 }
 
-/// Has one more search go on until it closes the program, which is told of all that was closed so far,
-/// but imports no line of others. Answers whether it does.
+/// Has one more search go on until it closes the program, which is told of all that was closed so
+/// far, but imports no line of others. Answers whether it does.
 fn search_alone(shared: &mut Shared<'_>, budget: u64, given: &mut Given) -> bool {
     let claims = InProgress::new(given.alloc);
     let mut searchers = Vec::new(given.alloc);
@@ -189,7 +191,8 @@ fn go_round(
     false
 }
 
-/// Has one of them search once, with all that the others wrote and closed, and answers whether it closed the program.
+/// Has one of them search once, with all that the others wrote and closed, and answers whether it
+/// closed the program.
 fn take_turn(
     searcher: &mut Searcher<'_>,
     shared: &mut Shared<'_>,
@@ -237,7 +240,8 @@ fn take(
     }
 }
 
-/// Hands a search, as a worker does, of the lines that it hasn't seen its own and those of two literals at most, and which states were closed meanwhile.
+/// Hands a search, as a worker does, of the lines that it hasn't seen its own and those of two
+/// literals at most, and which states were closed meanwhile.
 fn learn(
     searcher: &mut Searcher<'_>,
     shared: &Shared<'_>,

@@ -141,7 +141,8 @@ fn event(line: &str, given: &mut Given) -> Event {
     }
 }
 
-/// The places of the events that the lines tell. The line `others` tells all events that no line before it tells.
+/// The places of the events that the lines tell. The line `others` tells all events that no line
+/// before it tells.
 fn order(variables: &Variables<'_>, lines: &str, given: &mut Given) -> Vec<usize> {
     let mut places = Vec::new(given.alloc);
     for line in lines.split_terminator('/') {
@@ -218,8 +219,9 @@ fn assignment(
     Assignment::make(values)
 }
 
-/// The assignment under which these facts are so and these events come in this order, such as `issued 1/unfinished 0 | issue 1/issue 2/match 2`;
-/// and `none` is the one under which all is false.
+/// The assignment under which these facts are so and these events come in this order, such as
+/// `issued 1/unfinished 0 | issue 1/issue 2/match 2`; and `none` is the one under which all is
+/// false.
 fn told(encoded: &Encoded, words: &str, given: &mut Given) -> Assignment {
     match words.split_once("|") {
         Some((lines, events)) => told_by(encoded, lines, events.trim(), given),

@@ -43,7 +43,8 @@ fn answer<R: Threads + Sync>(rt: &R, name: &str, words: &str, given: &mut Given)
     }
 }
 
-/// Answers a call about a text: `read_in`, such as `4 evidence 1/..`, reads it in so many parts, and writes it so.
+/// Answers a call about a text: `read_in`, such as `4 evidence 1/..`, reads it in so many parts,
+/// and writes it so.
 fn read<R: Threads + Sync>(rt: &R, name: &str, text: &str, given: &mut Given) {
     match name {
         "read" => read_whole(text, given),

@@ -6,7 +6,8 @@ use semantics::Step;
 use std::alloc::Global;
 use std::fmt;
 
-/// The reply that a call is given. What is written never fails: where something can't be told, the reply says so in its place.
+/// The reply that a call is given. What is written never fails: where something can't be told, the
+/// reply says so in its place.
 #[derive(Drop)]
 pub struct Given {
     pub alloc: Global,
@@ -20,7 +21,8 @@ pub trait Show {
     fn put(&self, given: &mut Given);
 }
 
-/// For how many bytes of a reply memory is taken at once, so that a call that was made isn't told to lack it.
+/// For how many bytes of a reply memory is taken at once, so that a call that was made isn't told
+/// to lack it.
 const USUAL: usize = 4_096;
 
 /// What stands in the place of a reply where memory was wanting.

@@ -166,7 +166,8 @@ fn put_place<L: LineList>(lines: &L, word: &str, given: &mut Given) {
     }
 }
 
-/// Such as `300 lines from 11`: how many lines there are, and the number of the first one, where each is numbered on.
+/// Such as `300 lines from 11`: how many lines there are, and the number of the first one, where
+/// each is numbered on.
 fn put_told<L: LineList>(lines: &L, given: &mut Given) {
     let count = lines.len();
     let Some(first) = hint_of(lines, 0) else {

@@ -1,5 +1,6 @@
-//! Judges scripts of calls: each line of a file is a call with its reply beside it. Each row that doesn't hold is printed, and
-//! at the end how many hold. A call that lacks memory is made once more: `tests/refusals library` refuses it.
+//! Judges scripts of calls: each line of a file is a call with its reply beside it. Each row that
+//! doesn't hold is printed, and at the end how many hold. A call that lacks memory is made once
+//! more: `tests/refusals library` refuses it.
 #![tactic(auto)]
 
 mod beside;
@@ -36,7 +37,8 @@ fn main(rt: HostRuntime) -> ExitCode {
     }
 }
 
-/// Judges each file that the words name, and prints how many rows hold, and how many don't. Answers whether all rows hold.
+/// Judges each file that the words name, and prints how many rows hold, and how many don't. Answers
+/// whether all rows hold.
 fn judge(rt: &HostRuntime, threads: &(impl Threads + Wait + Sync)) -> io::Result<bool> {
     let words: Vec<String> = env::args(rt)?.collect(rt.alloc())?;
     let mut report = Report::new(rt.alloc());

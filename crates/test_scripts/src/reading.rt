@@ -213,7 +213,8 @@ pub fn why_of(word: &str) -> Option<Why> {
     }
 }
 
-/// The call of this name that a worker makes, such as `publish` with `0 : 1 3 2`. A batch such as `-2 : 1 2; : +0 3` has a `;` between its lines.
+/// The call of this name that a worker makes, such as `publish` with `0 : 1 3 2`. A batch such as
+/// `-2 : 1 2; : +0 3` has a `;` between its lines.
 pub fn event(name: &str, words: &str, given: &mut Given) -> Option<Event> {
     let (worker, words) = cut_number(words, given);
     match name {

@@ -2,7 +2,8 @@
 use crate::given::Given;
 use std::alloc::Global;
 
-/// How many bytes are printed at most of a call, of what was wanted and of what was given: they may have millions.
+/// How many bytes are printed at most of a call, of what was wanted and of what was given: they may
+/// have millions.
 const MOST_SHOWN: usize = 700;
 
 /// Where a line stands.
@@ -51,7 +52,8 @@ impl Report {
         self.line = 0;
     }
 
-    /// Notes the reply that a call was given. A row holds once its last call is met and none of it was missed.
+    /// Notes the reply that a call was given. A row holds once its last call is met and none of it
+    /// was missed.
     pub fn note(&mut self, call: &Call<'_>, given: &str) {
         if self.line == call.place.line {
             return;

@@ -48,7 +48,8 @@ pub fn judge_file(
     Ok(())
 }
 
-/// The section of this part of a file, from 0; the first part is one only where the file begins with it.
+/// The section of this part of a file, from 0; the first part is one only where the file begins
+/// with it.
 fn section_of(part: usize, text: &str) -> Option<&str> {
     if part > 0 {
         return Some(text);
@@ -232,7 +233,8 @@ fn counted(row: &str) -> (u32, u32, &str) {
     (first.parse::<u32>().unwrap_or(0), times, call)
 }
 
-/// Judges these calls of a subject. One that lacks memory is made once more, and the others are left out where the subject doesn't go on.
+/// Judges these calls of a subject. One that lacks memory is made once more, and the others are
+/// left out where the subject doesn't go on.
 pub fn judge_calls<S: Subject>(
     subject: &mut S,
     calls: &[Call<'_>],

@@ -1,4 +1,5 @@
-//! Searches. Each line that a search learns is checked, and none is taken in where one isn't derived.
+//! Searches. Each line that a search learns is checked, and none is taken in where one isn't
+//! derived.
 use crate::beside::{beside, misled};
 use crate::encodings::encoded;
 use crate::given::{Given, MEMORY, add, put_all, tell};
@@ -215,7 +216,8 @@ fn called(
     }
 }
 
-/// Searches with so many conflicts each time, and hands the lines back, until one tells the end, or so often.
+/// Searches with so many conflicts each time, and hands the lines back, until one tells the end, or
+/// so often.
 fn search_on(
     formula: &Formula,
     searcher: &mut Searcher<'_>,

@@ -1,4 +1,5 @@
-//! A pool's calls: by the pool itself, by one `run`, and under a lock by two workers with their seats.
+//! A pool's calls: by the pool itself, by one `run`, and under a lock by two workers with their
+//! seats.
 ghost use Rattle.std.specs.Prelude.{◌≡◌, IfSome, [], length};
 ghost use Rattle.crossbeam_utils.specs.Seq.{cell_view};
 ghost use Rattle.pool.specs.Moves.{AreOfBatch};
@@ -254,7 +255,8 @@ impl Show for Status {
     }
 }
 
-/// Judges the calls before `then` by one run of them all, and the others on the pool that it leaves.
+/// Judges the calls before `then` by one run of them all, and the others on the pool that it
+/// leaves.
 pub fn judge_run<R: Threads + Sync>(
     rt: &R,
     section: Section<'_>,
@@ -330,7 +332,8 @@ fn note(call: &Call<'_>, given: &mut Given, report: &mut Report) {
     given.clear();
 }
 
-/// Judges the calls before `then` with the seats of two workers, and the others on the pool that is handed out.
+/// Judges the calls before `then` with the seats of two workers, and the others on the pool that is
+/// handed out.
 pub fn judge_seats<R: Threads + Wait + Sync>(
     rt: &R,
     section: Section<'_>,

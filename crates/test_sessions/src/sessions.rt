@@ -24,8 +24,8 @@ fn column(row: &str) -> Result<(&str, &str), Fail> {
     Ok(row.split_once(" | ").ok_or("a row lacks a column")?)
 }
 
-/// Asserts that the words end with this status and print this line, that standard error stays empty,
-/// and that no file is written.
+/// Asserts that the words end with this status and print this line, that standard error stays
+/// empty, and that no file is written.
 fn assert_answer(
     rt: &(impl Abort + Threads + Wait + Clock + Sync),
     alloc: Global,

@@ -7,7 +7,8 @@ use semantics::Step;
 use std::alloc::Global;
 use std::test::Fail;
 
-/// Rank 0 takes two messages of any source and sends one in between, after which rank 2 sends the second one.
+/// Rank 0 takes two messages of any source and sends one in between, after which rank 2 sends the
+/// second one.
 const TEXT: &[u8] =
     b"ranks 3\npolicy none\nrank 0\nrecv * 0\nsend 2 0\nrecv * 0\nrank 1\nsend 0 0\nrank 2\nrecv 0 0\nsend 0 0\n";
 

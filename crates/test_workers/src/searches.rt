@@ -43,7 +43,8 @@ const WORKER: u32 = 5;
 const RELAY: &str =
     "ranks 3/policy none/rank 0/send 1 1/send 2 1/rank 1/send 2 1/recv 0 1/rank 2/recv * 1/recv 0 1/";
 
-/// Seven ranks that each send to one rank. It has no deadlock, but that takes more conflicts than one search counts.
+/// Seven ranks that each send to one rank. It has no deadlock, but that takes more conflicts than
+/// one search counts.
 const SENDERS: &str =
     "ranks 8/policy none/rank 0/recv * 1/recv * 1/recv * 1/recv * 1/recv * 1/recv * 1/recv * 1/rank 1/send 0 1/rank 2/send 0 1/rank 3/send 0 1/rank 4/send 0 1/rank 5/send 0 1/rank 6/send 0 1/rank 7/send 0 1/";
 
@@ -244,7 +245,8 @@ fn searched<R: Threads + Wait + Sync>(
     searched_in(rt, alloc, text, &share, budget)
 }
 
-/// Why the worker leaves this share of [`RELAY`], and how many calls it makes after the first that is refused.
+/// Why the worker leaves this share of [`RELAY`], and how many calls it makes after the first that
+/// is refused.
 fn left_in<R: Threads + Wait + Sync>(
     rt: &R,
     alloc: Global,
@@ -267,7 +269,8 @@ fn left_for<R: Threads + Wait + Sync>(
     left_in(rt, alloc, &share, exploring)
 }
 
-/// Why the opening of this search ends over a share whose tree is a leaf, and how many calls it makes after the first that is refused.
+/// Why the opening of this search ends over a share whose tree is a leaf, and how many calls it
+/// makes after the first that is refused.
 fn ended_in<R: Threads + Wait + Sync>(
     rt: &R,
     alloc: Global,

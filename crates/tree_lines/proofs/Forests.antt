@@ -130,8 +130,8 @@ fit_split f lines old new v (one ∷ other ∷ trees) first second entry entries
 
 -- ---- the walk from the last node to the first
 
--- What holds before the node at a place is seen: the lines derive, and the entries are those of the trees behind, the
--- first of which has the last entry.
+-- What holds before the node at a place is seen: the lines derive, and the entries are those of the
+-- trees behind, the first of which has the last entry.
 pub record IsWalked (f : Conjunction) (lines added : List ProofLine) (nodes : List Node) (place : ℕ) (entries : List Entry) : Type 0 where
   pub derived : AreDerived f (lines ++ added)
   pub fit : Fit f lines (lines ++ added) (forest (drop place nodes)) (reverse entries)

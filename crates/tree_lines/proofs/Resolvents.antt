@@ -97,7 +97,8 @@ no_split_variable x first second left needed resolved m there same =
           ]
     ]
 
--- the two hints derive it: the first clause makes its literal of the split true, then the second is the conflict
+-- the two hints derive it: the first clause makes its literal of the split true, then the second is
+-- the conflict
 pub resolvent_derives : (f : Conjunction) (earlier : List ProofLine) (x : Literal) (one other : ℕ) (first second left : List Literal) → clause_numbered (clauses_before f earlier) one ≡ Some first → clause_numbered (clauses_before f earlier) other ≡ Some second → are_sorted first ≡ true → is_within f.variables first ≡ true → AreNeeded x first second → AreResolved x first second left → is_within f.variables left ≡ true → rises left ≡ true → Derives f earlier (record { literals = left; hints = one ∷ other ∷ [] })
 resolvent_derives f earlier x one other first second left named named_other sorted within needed resolved within_left rising =
     let line : ProofLine = record { literals = left; hints = one ∷ other ∷ [] } in

@@ -13,7 +13,8 @@ abbrev pub IsNumbered : List (List Literal) → List Literal → Option ℕ → 
 IsNumbered clauses literals None = IsTautology literals
 IsNumbered clauses literals (Some number) = (clause_numbered clauses number ≡ Some literals) × IsTrue (is_number number)
 
--- a set of literals over the formula's variables, with its number among the formula's clauses and the lines
+-- a set of literals over the formula's variables, with its number among the formula's clauses and
+-- the lines
 pub record IsEntry (f : Conjunction) (lines : List ProofLine) (entry : Entry) : Type 0 where
   pub sorted : IsTrue (are_sorted entry.literals.items)
   pub within : IsTrue (is_within f.variables entry.literals.items)
@@ -31,8 +32,8 @@ pub record IsAddedEntry (f : Conjunction) (lines old new : List ProofLine) (lite
   pub is_entry : IsEntry f (lines ++ new) entry
   pub same : entry.literals.items ≡ literals
 
--- The entry of a split by a literal: on each path on which the first set is false with the literal taken, and the
--- second with its negation, it is false itself.
+-- The entry of a split by a literal: on each path on which the first set is false with the literal
+-- taken, and the second with its negation, it is false itself.
 pub record IsSplitEntry (f : Conjunction) (lines old new : List ProofLine) (literal : Literal) (first second entry : Entry) : Type 0 where
   pub added : GoesOn f lines old new
   pub is_entry : IsEntry f (lines ++ new) entry

@@ -8,8 +8,8 @@ use Rattle.refutations.specs.Refutations.{AreDerived}
 abbrev pub HasEmptyLine : List ProofLine → Type 0
 HasEmptyLine lines = (place : ℕ) × (line : ProofLine) × (slice_get lines place ≡ Some line) × (line.literals ≡ [])
 
--- Each of the lines, and then of those that are added, derives from the formula and the lines before it, and one of them all has no
--- literals. So they refute the formula without a tree.
+-- Each of the lines, and then of those that are added, derives from the formula and the lines
+-- before it, and one of them all has no literals. So they refute the formula without a tree.
 pub record Joins (f : Conjunction) (lines added : List ProofLine) : Type 0 where
   pub derived : AreDerived f (lines ++ added)
   pub empty : HasEmptyLine (lines ++ added)

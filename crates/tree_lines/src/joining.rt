@@ -15,8 +15,9 @@ use clauses::{Formula, Lit};
 use refutations::{LARGEST_NUMBER, Line, Node, ProofTree};
 use std::alloc::{AllocError, Global};
 
-/// A set of literals that are all false on the path of a tree, and the number of the clause of these
-/// literals; there is none where a variable stands with both signs, so that no clause has them.
+/// A set of literals that are all false on the path of a tree, and the number of the clause of
+/// these literals; there is none where a variable stands with both signs, so that no clause has
+/// them.
 #[derive(Drop)]
 struct Entry {
     literals: Vec<Lit>,
@@ -107,8 +108,8 @@ fn add_line(
     })
 }
 
-/// Whether a split's one entry is enough without the other: it lacks its literal of the split, or the
-/// other one has that literal too, and then the path above the split has its negation.
+/// Whether a split's one entry is enough without the other: it lacks its literal of the split, or
+/// the other one has that literal too, and then the path above the split has its negation.
 fn is_enough(one: &Entry, other: &Entry, literal: &Lit) -> bool
     ensures { result ≡ is_enough one.now.literals.items other.now.literals.items literal.now }
 {
@@ -191,10 +192,11 @@ fn close(
     Ok(())
 }
 
-/// The lines that join the clauses of the leaves of an accepted refutation to the empty clause. They are numbered on
-/// from the formula's clauses and the lines. Each is made as a resolvent of the two clauses that its hints name; where the
-/// formula itself has an empty clause, one line without literals may come last, with its number as the one hint. What is
-/// promised is that each derives from what stands before it, and that one has no literals. The only error is want of
+/// The lines that join the clauses of the leaves of an accepted refutation to the empty clause.
+/// They are numbered on from the formula's clauses and the lines. Each is made as a resolvent of
+/// the two clauses that its hints name; where the formula itself has an empty clause, one line
+/// without literals may come last, with its number as the one hint. What is promised is that each
+/// derives from what stands before it, and that one has no literals. The only error is want of
 /// memory, which is also told where there would be more than [`LARGEST_NUMBER`] clauses.
 pub fn joining_lines(
     alloc: Global,

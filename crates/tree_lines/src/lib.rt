@@ -1,6 +1,7 @@
 //! The tree of a refutation as further proof lines, so that lines alone derive the empty clause.
 //!
-//! Other checkers of proofs know lines with hints, and no trees. `specs/Joining.antt` says what is added.
+//! Other checkers of proofs know lines with hints, and no trees. `specs/Joining.antt` says what is
+//! added.
 #![tactic(auto)]
 
 mod joining;

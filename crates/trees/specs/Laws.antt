@@ -29,7 +29,8 @@ ClosedLeavesRefute =
     (variables : ℕ) (nodes : List TreeNode) (clauses : List (List Literal)) (numbers : List ℕ) (tree : Tree)
     → Grows variables nodes → AreLeavesRefuted nodes clauses numbers → IsBelow nodes numbers tree 0 → Refutes variables clauses [] tree
 
--- a split's variable is one of so many, and the nodes below it come after it and have its path with one literal more
+-- a split's variable is one of so many, and the nodes below it come after it and have its path with
+-- one literal more
 pub record IsSplitSound (variables : ℕ) (nodes : List TreeNode) (node v if_true if_false : ℕ) : Type 0 where
   pub from_one : 1 ≤ v
   pub within : v ≤ variables

@@ -33,8 +33,8 @@ kind_at nodes node = option_map (λ n. n.kind) (slice_get nodes node)
 abbrev pub IsLeaf : List TreeNode → ℕ → Type 0
 IsLeaf nodes node = kind_at nodes node ≡ Some Leaf
 
--- The leaf becomes a split on the variable and keeps its path; two leaves come to the end, the first of which has the
--- variable true, and the second false.
+-- The leaf becomes a split on the variable and keeps its path; two leaves come to the end, the
+-- first of which has the variable true, and the second false.
 abbrev pub split_at : List TreeNode → ℕ → ℕ → List TreeNode
 split_at nodes place v =
     let path = path_at nodes place in
@@ -42,7 +42,8 @@ split_at nodes place v =
     slice_set nodes place (record { path = path; kind = Split v count (count + 1) })
     ++ leaf_with (branch v true path) ∷ leaf_with (branch v false path) ∷ []
 
--- nodes that come from the one leaf without literals by splits of leaves on some of so many variables
+-- nodes that come from the one leaf without literals by splits of leaves on some of so many
+-- variables
 pub data Grows (variables : ℕ) : List TreeNode → Type 0 where
   one_leaf : Grows variables (leaf_with [] ∷ [])
   one_more : (nodes : List TreeNode) (place v : ℕ) → Grows variables nodes → IsLeaf nodes place → 1 ≤ v → v ≤ variables → Grows variables (split_at nodes place v)

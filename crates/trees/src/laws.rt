@@ -18,8 +18,8 @@ pub fn splits_are_sound()
     ensures { SplitsAreSound }
 {}
 
-/// After the split of a leaf all other nodes are as before, the leaf keeps its path, and the two new
-/// nodes are leaves with one literal more.
+/// After the split of a leaf all other nodes are as before, the leaf keeps its path, and the two
+/// new nodes are leaves with one literal more.
 pub fn splits_change_one_leaf()
     ensures { SplitsChangeOneLeaf }
 {}

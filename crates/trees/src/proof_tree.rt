@@ -51,7 +51,8 @@ fn preorder(alloc: Global, tree: &Tree, numbers: &[u32]) -> Result<Vec<Node>, Al
 
 impl Tree {
     /// The tree of a refutation with the same splits, in which each leaf has the number that stands
-    /// at its place; other places may hold any number. In time and memory proportional to the nodes.
+    /// at its place; other places may hold any number. In time and memory proportional to the
+    /// nodes.
     pub fn proof_tree(&self, alloc: Global, numbers: &[u32]) -> Result<ProofTree, AllocError>
         requires many { length numbers.now ≡ length self.now.nodes }
         requires numbered { AreLeavesNumbered self.now.nodes numbers.now }

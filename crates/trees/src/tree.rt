@@ -45,9 +45,9 @@ impl Model for Node {
     ghost view = { λ n. record { path = n.path.items; kind = n.kind } };
 }
 
-/// A tree whose splits cut the assignments into cubes, one for each leaf: the assignments under which
-/// the literals from the leaf up to the root are true. Nodes are numbered from 0, the root. It has at
-/// most [`MOST_NODES`] nodes, and each path has at most [`GREATEST_DEPTH`] literals.
+/// A tree whose splits cut the assignments into cubes, one for each leaf: the assignments under
+/// which the literals from the leaf up to the root are true. Nodes are numbered from 0, the root.
+/// It has at most [`MOST_NODES`] nodes, and each path has at most [`GREATEST_DEPTH`] literals.
 #[derive(Drop)]
 pub struct Tree {
     variables: u32,
@@ -201,7 +201,8 @@ impl Tree {
         node.kind
     }
 
-    /// The literals from the node of this number, of which there has to be one, up to the root, in constant time.
+    /// The literals from the node of this number, of which there has to be one, up to the root, in
+    /// constant time.
     pub fn path(&self, node: u32) -> &[Lit]
         requires { node < length self.now.nodes }
         ensures { result.now ≡ path_at self.now.nodes node }
@@ -221,8 +222,8 @@ impl Tree {
 
     /// Splits a leaf on a variable. The two new leaves come to the end, first the one for true and
     /// then the one for false: answers their numbers. The only refusal beside want of memory is
-    /// [`SplitFault::TooMany`], exactly where there would be more than [`MOST_NODES`] nodes or a path of
-    /// more than [`GREATEST_DEPTH`] literals. At a refusal the tree is as it was.
+    /// [`SplitFault::TooMany`], exactly where there would be more than [`MOST_NODES`] nodes or a
+    /// path of more than [`GREATEST_DEPTH`] literals. At a refusal the tree is as it was.
     pub fn split_leaf(
         &mut self,
         alloc: Global,

@@ -135,7 +135,8 @@ renumber_line clauses flags n j e =
     let place : n - clauses - 1 ≡ j = omega (arith, e) in
     ap (λ (b : Bool). if b then clauses + count_first (n - clauses - 1) flags + 1 else n) on ∙ ap (λ (z : ℕ). clauses + count_first z flags + 1) place
 
--- among the first so many lines, and those of them that are kept, a clause or a kept line has its old and its new number
+-- among the first so many lines, and those of them that are kept, a clause or a kept line has its
+-- old and its new number
 same_clause : (f : Conjunction) (lines : List ProofLine) (flags : List Bool) (k h : ℕ) (c : List Literal) → ((j : ℕ) → h ≡ length f.clauses + j + 1 → j < k → slice_get flags j ≡ Some true) → clause_numbered (clauses_before f (take k lines)) h ≡ Some c → clause_numbered (clauses_before f (map (renumbered_line (renumber (length f.clauses) flags)) (kept (take k flags) (take k lines)))) (renumber (length f.clauses) flags h) ≡ Some c
 same_clause f lines flags k h c flagged e =
     let new = renumber (length f.clauses) flags in

@@ -5,7 +5,8 @@ use Rattle.refutations.specs.declared.tree.Node.TheVariants.{Split, Leaf}
 use Rattle.refutations.specs.Proofs.{ProofLine}
 use Rattle.trimming.specs.Needed.{names_leaf, is_hinted, needed}
 
--- The line of this number is marked, where it stands before a place. Lines are numbered after so many clauses.
+-- The line of this number is marked, where it stands before a place. Lines are numbered after so
+-- many clauses.
 abbrev pub mark : ℕ → ℕ → List Bool → ℕ → List Bool
 mark clauses below marks number =
     if nat_lt clauses number && nat_lt (number - clauses - 1) below then slice_set marks (number - clauses - 1) true else marks
@@ -21,8 +22,8 @@ mark_leaves clauses below marks [] = marks
 mark_leaves clauses below marks (Split v ∷ nodes) = mark_leaves clauses below marks nodes
 mark_leaves clauses below marks (Leaf k ∷ nodes) = mark_leaves clauses below (mark clauses below marks k) nodes
 
--- From a place on the marks tell which lines are needed. Before it they tell which lines a leaf names, or a hint of a needed line from
--- that place on.
+-- From a place on the marks tell which lines are needed. Before it they tell which lines a leaf
+-- names, or a hint of a needed line from that place on.
 pub record AreMarked (clauses : ℕ) (lines : List ProofLine) (nodes : List Node) (marks : List Bool) (place : ℕ) : Type 0 where
   pub size : length marks ≡ length lines
   pub before : (earlier : ℕ) → earlier < place

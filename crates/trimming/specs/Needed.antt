@@ -19,7 +19,8 @@ is_hinted number [] flags = false
 is_hinted number (line ∷ lines) [] = false
 is_hinted number (line ∷ lines) (flag ∷ flags) = (flag && list_any (λ h. h == number) line.hints) || is_hinted number lines flags
 
--- Which of the lines are needed, where the first has this number: a leaf names it, or a hint of a later line that is needed.
+-- Which of the lines are needed, where the first has this number: a leaf names it, or a hint of a
+-- later line that is needed.
 abbrev pub needed : List Node → ℕ → List ProofLine → List Bool
 needed nodes number [] = []
 needed nodes number (line ∷ lines) =
@@ -68,7 +69,8 @@ trimmed_nodes clauses lines nodes = map (renumbered_node (new_number clauses lin
 
 -- ---- the first line that is not needed
 
--- The line of this number is not needed, and each line before it is. Lines are numbered after so many clauses.
+-- The line of this number is not needed, and each line before it is. Lines are numbered after so
+-- many clauses.
 pub record IsFirstUnneeded (clauses : ℕ) (lines : List ProofLine) (nodes : List Node) (number : ℕ) : Type 0 where
   pub place : ℕ
   pub numbered : number ≡ clauses + place + 1

@@ -38,8 +38,8 @@ fn mark_leaves(marks: &mut Vec<bool>, below: usize, clauses: u32, nodes: &[Node]
     }
 }
 
-/// Which of the lines are needed, in their order. It goes over the nodes, and over the lines from the last to the first, and takes
-/// one byte a line.
+/// Which of the lines are needed, in their order. It goes over the nodes, and over the lines from
+/// the last to the first, and takes one byte a line.
 pub fn needed_lines(
     alloc: Global,
     clauses: u32,

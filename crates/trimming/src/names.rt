@@ -47,8 +47,8 @@ fn name_earlier(clauses: u32, lines: &[Line]) -> bool
     true
 }
 
-/// Whether each hint names a clause or an earlier line, and each leaf a clause or a line, where so many clauses stand before the
-/// lines.
+/// Whether each hint names a clause or an earlier line, and each leaf a clause or a line, where so
+/// many clauses stand before the lines.
 pub fn are_named(clauses: u32, lines: &[Line], nodes: &[Node]) -> bool
     ensures { result ≡ are_named clauses lines.now nodes.now }
 {

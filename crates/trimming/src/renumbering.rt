@@ -9,7 +9,8 @@ use std::alloc::{AllocError, Global};
 use std::marker::Model;
 use std::mem;
 
-/// Which lines stay, whose numbers come after those of the clauses, and how many of them stay before each.
+/// Which lines stay, whose numbers come after those of the clauses, and how many of them stay
+/// before each.
 #[derive(Drop)]
 pub struct Renumbering {
     clauses: u32,
@@ -104,7 +105,8 @@ impl Renumbering {
         }
     }
 
-    /// Leaves out the lines that don't stay, and renumbers the hints of the others. Where memory runs out, all stay as they are.
+    /// Leaves out the lines that don't stay, and renumbers the hints of the others. Where memory
+    /// runs out, all stay as they are.
     pub fn keep(&self, alloc: Global, lines: &mut Vec<Line>) -> Result<(), AllocError>
         requires { length self.now.flags ≡ length lines.old.items }
         ensures kept { OnOk result (lines.new.items ≡ map (renumbered_line (renumber self.now.clauses self.now.flags)) (kept self.now.flags lines.old.items)) }

@@ -18,7 +18,8 @@ pub enum TrimFault {
     /// Memory ran out.
     #[error("memory")]
     Memory,
-    /// A hint names neither a clause nor an earlier line, or a leaf names neither a clause nor a line.
+    /// A hint names neither a clause nor an earlier line, or a leaf names neither a clause nor a
+    /// line.
     #[error("number")]
     Number,
 }
@@ -34,10 +35,12 @@ impl From<AllocError> for TrimFault {
     }
 }
 
-/// Leaves out the lines that aren't needed, where so many clauses stand before the lines. The others stay in their order, the numbers of
-/// lines are closed up, and each hint and leaf has its clause's new number. What accepted the lines and the tree accepts these. Where it is
-/// refused, both stay as they are. It takes time linear in the lines, hints and nodes, and beside what there is nine bytes a line and room for the
-/// lines and nodes themselves once more; no literal and no hint is copied.
+/// Leaves out the lines that aren't needed, where so many clauses stand before the lines. The
+/// others stay in their order, the numbers of lines are closed up, and each hint and leaf has its
+/// clause's new number. What accepted the lines and the tree accepts these. Where it is refused,
+/// both stay as they are. It takes time linear in the lines, hints and nodes, and beside what there
+/// is nine bytes a line and room for the lines and nodes themselves once more; no literal and no
+/// hint is copied.
 pub fn trim(
     alloc: Global,
     clauses: u32,

@@ -7,8 +7,9 @@ use crate::marks::needed_lines;
 use refutations::{Line, ProofTree};
 use std::alloc::{AllocError, Global};
 
-/// The number of the first line that isn't needed, if there is one, where so many clauses stand before the lines. It takes time
-/// linear in the hints and nodes, and one byte a line. The only error is want of memory.
+/// The number of the first line that isn't needed, if there is one, where so many clauses stand
+/// before the lines. It takes time linear in the hints and nodes, and one byte a line. The only
+/// error is want of memory.
 pub fn first_unneeded(
     alloc: Global,
     clauses: u32,

@@ -1,4 +1,5 @@
--- Cycles of ranks that wait for one another. A graph is a list of the ranks that each rank waits for, by rank.
+-- Cycles of ranks that wait for one another. A graph is a list of the ranks that each rank waits
+-- for, by rank.
 use Rattle.std.specs.Prelude.{ℕ, List, [], ◌∷◌, Option, Some, None, slice_get, Contains}
 use Rattle.std.specs.List.{slice_index_or}
 use Rattle.std.specs.Global.{Vec}

@@ -1,4 +1,5 @@
--- Laws of stuck configurations: each rank that is not finished waits, and what it needs is gone or has not begun.
+-- Laws of stuck configurations: each rank that is not finished waits, and what it needs is gone or
+-- has not begun.
 use Rattle.std.specs.Prelude.{◌≡◌, ◌≢◌, ℕ, ◌<◌, false, IsTrue, List, Some, None}
 use Rattle.calltext.specs.declared.limits.Limits.{Limits}
 use Rattle.callorder.specs.Programs.{MpiProgram, IsProgramWithin, are_fit}
@@ -26,22 +27,22 @@ abbrev pub NoRankIsReadyWhereStuck : Type 0
 NoRankIsReadyWhereStuck =
     (p : MpiProgram) (m : Configuration) (rank : ℕ) → IsConfigurationOf p m → IsStuck p m → rank < p.ranks → IsReady p m rank → ⊥
 
--- In a stuck configuration no send and no receive, matched probe or probe that it fits are both issued, the send unmatched and
--- the other without a message.
+-- In a stuck configuration no send and no receive, matched probe or probe that it fits are both
+-- issued, the send unmatched and the other without a message.
 abbrev pub FitCallsAreNotBothOpen : Type 0
 FitCallsAreNotBothOpen =
     (p : MpiProgram) (m : Configuration) (send finder : ℕ) → IsStuck p m → IsTrue (are_fit p send finder) → IsTrue (is_open p m send)
     → IsTrue (is_open p m finder) → ⊥
 
--- Where a rank of a stuck configuration waits for an operation that has no partner, each call that fits with it is
--- taken or not issued.
+-- Where a rank of a stuck configuration waits for an operation that has no partner, each call that
+-- fits with it is taken or not issued.
 abbrev pub NeededCallsAreNotOpen : Type 0
 NeededCallsAreNotOpen =
     (l : Limits) (p : MpiProgram) (m : Configuration) (rank call needed : ℕ) → IsProgramWithin l p → IsStuck p m → WaitsIn p m rank call
     → partner_of m (operation_of_call p call) ≡ None → IsTrue (fits_with p (operation_of_call p call) needed) → fate_in p m needed ≢ Open
 
--- what an operation needs, which has not come: a match or a message to see, or the receive on a matched probe's handle, which
--- is not issued
+-- what an operation needs, which has not come: a match or a message to see, or the receive on a
+-- matched probe's handle, which is not issued
 abbrev pub IsOutstanding : MpiProgram → Configuration → Need → Type 0
 IsOutstanding p m Match = Unit {0}
 IsOutstanding p m (Fetch receive) = is_issued p m receive ≡ false

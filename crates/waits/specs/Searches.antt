@@ -1,5 +1,5 @@
--- A search for a cycle: a path of ranks, each of which waits for the next one, what is known of each rank, and how many of the ranks
--- that it waits for were looked at.
+-- A search for a cycle: a path of ranks, each of which waits for the next one, what is known of
+-- each rank, and how many of the ranks that it waits for were looked at.
 use Rattle.std.specs.Prelude.{◌≡◌, ◌≢◌, ℕ, suc, ◌<◌, ◌≤◌, List, length, slice_index, slice_index_or, Contains}
 use Rattle.std.specs.List.{AllPairs, sum_by}
 use Rattle.std.specs.Global.{Vec}
@@ -35,8 +35,8 @@ pub record LeadsOn (edges : List (Vec ℕ)) (marks : List Mark) (rank low place 
 abbrev pub LastLeadsTo : List (Vec ℕ) → List ℕ → ℕ → Type 0
 LastLeadsTo edges path next = (k : ℕ) → suc k ≡ length path → HasEdge edges (slice_index path k) next
 
--- What a search keeps: no rank is twice on the path, the ranks on it are marked so and no others, and those that are marked as on no
--- cycle are on none.
+-- What a search keeps: no rank is twice on the path, the ranks on it are marked so and no others,
+-- and those that are marked as on no cycle are on none.
 pub record IsSearch (edges : List (Vec ℕ)) (path : List ℕ) (marks : List Mark) (looked : List ℕ) : Type 0 where
   pub marked : length marks ≡ length edges
   pub counted : length looked ≡ length edges

@@ -1,5 +1,5 @@
--- Where each rank stands in a configuration, and what it waits for. Calls are named by their place, from 0, in the
--- program's list.
+-- Where each rank stands in a configuration, and what it waits for. Calls are named by their place,
+-- from 0, in the program's list.
 use Rattle.std.specs.Prelude.{◌≡◌, ℕ, suc, Bool, true, false, not, ◌&&◌, ◌||◌, IsTrue, Option, Some, None, is_some, slice_index, unwrap_or, option_map, option_and_then}
 use Rattle.callorder.specs.declared.calls.Call.{Call}
 use Rattle.callorder.specs.Calls.{operation_of, receive_of}
@@ -53,15 +53,17 @@ abbrev pub need_where : Bool → Option Need → Option Need
 need_where false need = None
 need_where true need = need
 
--- What an operation waits for: nothing where it is done; a match, or of a probe a message to see, where it has no partner;
--- else it is a send that a matched probe found, and waits for the receive on the probe's handle.
+-- What an operation waits for: nothing where it is done; a match, or of a probe a message to see,
+-- where it has no partner; else it is a send that a matched probe found, and waits for the receive
+-- on the probe's handle.
 abbrev pub need_of_operation : MpiProgram → Configuration → ℕ → Option Need
 need_of_operation p m o = need_where (is_some (call_at p o) && not (is_done p m o)) (need_with p (partner_of m o))
 
 -- ---- which calls could bring the match, and what became of them
 
--- The second call is one that the first one looks for: a taker that it fits, where the first is a send, or a send that fits
--- it. So a send looks for no probe, which takes nothing out, but a probe for sends.
+-- The second call is one that the first one looks for: a taker that it fits, where the first is a
+-- send, or a send that fits it. So a send looks for no probe, which takes nothing out, but a probe
+-- for sends.
 abbrev pub fits_with : MpiProgram → ℕ → ℕ → Bool
 fits_with p c e = takes p c e || are_fit p e c
 
@@ -70,8 +72,8 @@ fate_from (Some other) issued = Taken other
 fate_from None false = NotIssued
 fate_from None true = Open
 
--- What became of a call: it is matched with this one (or is a probe that saw this one), or is not issued, or is issued and
--- has found nothing.
+-- What became of a call: it is matched with this one (or is a probe that saw this one), or is not
+-- issued, or is issued and has found nothing.
 abbrev pub fate_in : MpiProgram → Configuration → ℕ → Fate
 fate_in p m e = fate_from (partner_of m e) (is_issued p m e)
 

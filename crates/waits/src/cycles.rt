@@ -26,7 +26,8 @@ fn mark_of(marks: &[Mark], rank: u32) -> Mark
     marks.get(rank as usize).copied().unwrap_or(Mark::Off)
 }
 
-/// The first rank, from a place on, that a rank waits for and that may be on a cycle, and its place, if there is one.
+/// The first rank, from a place on, that a rank waits for and that may be on a cycle, and its
+/// place, if there is one.
 fn onward(edges: &[Vec<u32>], marks: &[Mark], rank: u32, from: usize) -> Option<(usize, u32)>
     ensures some { IfSome result (λ found. LeadsOn edges.now marks.now rank from found.0 found.1) }
     ensures none { IfNone result ((high : ℕ) → AreOff edges.now marks.now rank from high) }
@@ -68,8 +69,8 @@ fn part_from(alloc: Global, path: &[u32], rank: u32) -> Result<Vec<u32>, AllocEr
     Vec::from_slice(alloc, &path[place..])
 }
 
-/// A search for a cycle: a path of ranks, each of which waits for the next one, what is known of each rank, and how many of
-/// the ranks that it waits for are known to be on no cycle.
+/// A search for a cycle: a path of ranks, each of which waits for the next one, what is known of
+/// each rank, and how many of the ranks that it waits for are known to be on no cycle.
 #[derive(Drop)]
 struct Search {
     path: Vec<u32>,
@@ -116,8 +117,8 @@ impl Search {
         self.marks[rank as usize] = Mark::Off;
     }
 
-    /// Goes on from the last rank of the path: to the lowest rank that it waits for and that may be on a cycle, or back where
-    /// there is none. Where that rank is on the path, it gives the cycle.
+    /// Goes on from the last rank of the path: to the lowest rank that it waits for and that may be
+    /// on a cycle, or back where there is none. Where that rank is on the path, it gives the cycle.
     fn step(
         &mut self,
         alloc: Global,
@@ -176,12 +177,13 @@ impl Search {
     }
 }
 
-/// Ranks that wait for one another in a cycle, each for the next one and the last for the first, and no rank twice; none
-/// where there is no cycle. `edges` has the ranks that each rank waits for, by rank from 0. In time and memory proportional
-/// to the ranks and the edges. The only error is want of memory.
+/// Ranks that wait for one another in a cycle, each for the next one and the last for the first,
+/// and no rank twice; none where there is no cycle. `edges` has the ranks that each rank waits for,
+/// by rank from 0. In time and memory proportional to the ranks and the edges. The only error is
+/// want of memory.
 ///
-/// From the lowest rank that leads to a cycle on, the path goes to the lowest such rank that is waited for, until it comes
-/// back.
+/// From the lowest rank that leads to a cycle on, the path goes to the lowest such rank that is
+/// waited for, until it comes back.
 pub fn cycle(alloc: Global, edges: &[Vec<u32>]) -> Result<Option<Vec<u32>>, AllocError>
     ensures cycle { IfOk result (λ found. MatchOption found ((ranks : List ℕ) → IsCycle edges.now ranks → ⊥) (λ ranks. IsCycle edges.now ranks.items)) }
     ensures once { IfOk result (λ found. IfSome found (λ ranks. AllPairs (λ one other. one ≢ other) ranks.items)) }

@@ -19,8 +19,8 @@ pub enum Fate {
     Open,
 }
 
-/// What became of the call at a place. A place where the program has no call is told as not issued, unless the state
-/// has a partner for it.
+/// What became of the call at a place. A place where the program has no call is told as not issued,
+/// unless the state has a partner for it.
 pub fn fate_of(program: &LongProgram, state: &State, call: usize) -> Fate
     ensures { result ≡ fate_in program.now state.now call }
 {
@@ -36,15 +36,17 @@ pub fn fate_of(program: &LongProgram, state: &State, call: usize) -> Fate
     }
 }
 
-/// Whether there are calls at both places, and the second is one that the first looks for: a receive or matched probe that it
-/// fits, where the first is a send; else a send that fits the receive, matched probe or probe. A send looks for no probe.
+/// Whether there are calls at both places, and the second is one that the first looks for: a
+/// receive or matched probe that it fits, where the first is a send; else a send that fits the
+/// receive, matched probe or probe. A send looks for no probe.
 pub fn fits_with(program: &LongProgram, call: usize, other: usize) -> bool
     ensures { result ≡ fits_with program.now call other }
 {
     program.takes(call, other) || program.are_fit(other, call)
 }
 
-/// The places of the calls that the one at this place looks for, in rising order. The only error is want of memory.
+/// The places of the calls that the one at this place looks for, in rising order. The only error is
+/// want of memory.
 pub fn fitting(alloc: Global, program: &LongProgram, call: usize) -> Result<Vec<usize>, AllocError>
     ensures { IfOk result (λ places. places.items ≡ filter (fits_with program.now call) (range_with_len 0 (length program.now.calls))) }
 {

@@ -12,8 +12,8 @@ pub fn no_rank_is_ready_where_stuck()
     ensures { NoRankIsReadyWhereStuck }
 {}
 
-/// In a stuck state no send and no receive, matched probe or probe that it fits are both issued, the send unmatched and the other
-/// without a message.
+/// In a stuck state no send and no receive, matched probe or probe that it fits are both issued,
+/// the send unmatched and the other without a message.
 pub fn fit_calls_are_not_both_open()
     ensures { FitCallsAreNotBothOpen }
 {}
@@ -23,8 +23,8 @@ pub fn needed_calls_are_not_open()
     ensures { NeededCallsAreNotOpen }
 {}
 
-/// After each run a rank that waits needs something that has not come: a match, a message to see, or the receive on the handle
-/// of a matched probe.
+/// After each run a rank that waits needs something that has not come: a match, a message to see,
+/// or the receive on the handle of a matched probe.
 pub fn waiting_ranks_need()
     ensures { WaitingRanksNeed }
 {}

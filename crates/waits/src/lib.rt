@@ -1,5 +1,5 @@
-//! What is known of a program's state, rank by rank: where each rank stands, what it waits for, and which ranks wait
-//! for one another in a cycle.
+//! What is known of a program's state, rank by rank: where each rank stands, what it waits for, and
+//! which ranks wait for one another in a cycle.
 //!
 //! A call is named by its place, from 0, in the program's list of calls.
 #![tactic(auto)]

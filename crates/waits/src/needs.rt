@@ -9,14 +9,17 @@ use semantics::State;
 /// What an operation that is not done waits for.
 #[derive(Clone, Copy, PartialEq, Eq)]
 pub enum Need {
-    /// A send that is not matched waits for a receive or matched probe that it fits; a receive or matched probe that is not
-    /// matched, and a probe that has seen nothing, wait for a send that fits.
+    /// A send that is not matched waits for a receive or matched probe that it fits; a receive or
+    /// matched probe that is not matched, and a probe that has seen nothing, wait for a send that
+    /// fits.
     Match,
-    /// A send that a matched probe found waits for the receive, at this place, on the probe's handle.
+    /// A send that a matched probe found waits for the receive, at this place, on the probe's
+    /// handle.
     Fetch { receive: usize },
 }
 
-/// The place of the operation whose end the call at a place waits for: that of a wait, else the call itself.
+/// The place of the operation whose end the call at a place waits for: that of a wait, else the
+/// call itself.
 pub fn operation_of(program: &LongProgram, call: usize) -> usize
     ensures { result ≡ operation_of_call program.now call }
 {
@@ -42,7 +45,8 @@ fn handled_receive(program: &LongProgram, call: usize) -> Option<usize>
     }
 }
 
-/// What the operation of the call at a place waits for; none where it is done, or where there is no such call.
+/// What the operation of the call at a place waits for; none where it is done, or where there is no
+/// such call.
 pub fn need_of(program: &LongProgram, state: &State, operation: usize) -> Option<Need>
     ensures { result ≡ need_of_operation program.now state.now operation }
 {

@@ -13,8 +13,9 @@ use callorder::LongProgram;
 use semantics::State;
 use std::alloc::{AllocError, Global};
 
-/// Whether a rank has a call that fits with the operation and is not issued. Only its calls that aren't issued are looked at,
-/// up to the first that fits: they stand together, from its next call on.
+/// Whether a rank has a call that fits with the operation and is not issued. Only its calls that
+/// aren't issued are looked at, up to the first that fits: they stand together, from its next call
+/// on.
 fn is_missing(program: &LongProgram, state: &State, operation: usize, rank: u32) -> bool
     ensures { IsTrue result ↔ IsMissing program.now state.now operation rank }
 {
@@ -31,8 +32,8 @@ fn is_missing(program: &LongProgram, state: &State, operation: usize, rank: u32)
     false
 }
 
-/// The rank that the call at a place names as its peer: a send's destination, and the source of what looks for sends of one
-/// rank.
+/// The rank that the call at a place names as its peer: a send's destination, and the source of
+/// what looks for sends of one rank.
 fn peer_of(program: &LongProgram, call: usize) -> Option<u32>
     ensures { IfSome result (IsOnlyPeer program.now call) }
 {
@@ -59,7 +60,8 @@ fn alone(alloc: Global, rank: u32, wanted: bool) -> Result<Vec<u32>, AllocError>
     Vec::from_slice(alloc, &[rank])
 }
 
-/// The ranks that have a call that fits with the operation and is not issued, each of them looked at.
+/// The ranks that have a call that fits with the operation and is not issued, each of them looked
+/// at.
 fn all_missing(
     alloc: Global,
     program: &LongProgram,
@@ -78,8 +80,8 @@ fn all_missing(
     Ok(ranks)
 }
 
-/// The ranks that have a call that fits with the operation and is not issued. Where the operation names its peer, only that rank is
-/// looked at.
+/// The ranks that have a call that fits with the operation and is not issued. Where the operation
+/// names its peer, only that rank is looked at.
 fn missing(
     alloc: Global,
     program: &LongProgram,
@@ -123,10 +125,11 @@ fn needed_by(
     }
 }
 
-/// The ranks, in rising order, that a rank, from 0, waits for: it waits in a call whose operation needs a match or a message to see,
-/// and they have a call that it looks for and that is not issued; or it needs a receive of theirs on the handle of a matched probe.
-/// Where the operation names its peer, only that rank's calls are looked at; where it takes any source, of each rank those that
-/// aren't issued, up to the first that fits. The only error is want of memory.
+/// The ranks, in rising order, that a rank, from 0, waits for: it waits in a call whose operation
+/// needs a match or a message to see, and they have a call that it looks for and that is not
+/// issued; or it needs a receive of theirs on the handle of a matched probe. Where the operation
+/// names its peer, only that rank's calls are looked at; where it takes any source, of each rank
+/// those that aren't issued, up to the first that fits. The only error is want of memory.
 pub fn awaited(
     alloc: Global,
     program: &LongProgram,
@@ -144,7 +147,8 @@ pub fn awaited(
     }
 }
 
-/// For each rank, from 0, the ranks that it waits for, in rising order. The only error is want of memory.
+/// For each rank, from 0, the ranks that it waits for, in rising order. The only error is want of
+/// memory.
 pub fn edges(
     alloc: Global,
     program: &LongProgram,

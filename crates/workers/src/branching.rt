@@ -36,8 +36,8 @@ fn first_below(path: &[Lit], count: u32) -> Option<u32>
     None
 }
 
-/// Of these variables the one that took part in most conflicts, and the first of several such, of those that the path lacks and that
-/// have no value below it.
+/// Of these variables the one that took part in most conflicts, and the first of several such, of
+/// those that the path lacks and that have no value below it.
 pub(crate) fn most_active(solver: &Solver<'_>, path: &[Lit], variables: &[u32]) -> Option<u32>
     ensures { IfSome result (IsOneOf path.now variables.now) }
 {
@@ -57,7 +57,8 @@ pub(crate) fn most_active(solver: &Solver<'_>, path: &[Lit], variables: &[u32]) 
     best
 }
 
-/// The first variable that the path lacks: of the given ones, and then of those from 1 on, of which there are so many.
+/// The first variable that the path lacks: of the given ones, and then of those from 1 on, of which
+/// there are so many.
 pub(crate) fn branching_variable(path: &[Lit], variables: &[u32], count: u32) -> Option<u32>
     ensures { result ≡ find (is_free path.now) (variables.now ++ range_with_len 1 count) }
 {

@@ -11,8 +11,8 @@ struct Entry {
     closing: ClosedState,
 }
 
-/// The states that any worker's search over sets of matched calls has closed, and the lemmas that it has made, in the order in which that was told, and the
-/// states that each is closing.
+/// The states that any worker's search over sets of matched calls has closed, and the lemmas that
+/// it has made, in the order in which that was told, and the states that each is closing.
 #[derive(Drop)]
 pub struct ClosedStates {
     entries: Mutex<Vec<Entry>>,

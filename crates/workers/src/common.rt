@@ -11,8 +11,9 @@ use pool::Why;
 pub enum Exploring {
     /// Never.
     Never,
-    /// All of them in turn with cubes, where a conflict counts as 16 lines. The first turn is over sets and takes 4,000 lines of worker 0, and of
-    /// each of the next three workers twice as many as of the one before. Each turn takes twice as many as the last one of its kind.
+    /// All of them in turn with cubes, where a conflict counts as 16 lines. The first turn is over
+    /// sets and takes 4,000 lines of worker 0, and of each of the next three workers twice as many
+    /// as of the one before. Each turn takes twice as many as the last one of its kind.
     InTurn,
     /// All of them as long as that search goes on.
     Always,

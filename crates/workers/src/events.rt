@@ -5,8 +5,9 @@ use std::sync::atomic::{AtomicU64, Ordering};
 
 /// Counts what may give a resting worker something to do, and wakes those that rest.
 ///
-/// Who waits reads the count first, then looks for what it wants, and rests only until the count differs from what it read; who
-/// changes something advances the count after the change. So no change is missed.
+/// Who waits reads the count first, then looks for what it wants, and rests only until the count
+/// differs from what it read; who changes something advances the count after the change. So no
+/// change is missed.
 #[derive(Drop)]
 pub struct EventCount {
     word: AtomicU64,

@@ -17,27 +17,31 @@ use std::mem;
 use std::ops::Range;
 use std::sync::Wait;
 
-/// How many lines one search writes at least, and at most, where the budget lets it. What several workers do at the same time is lost, so they tell
-/// each other soon what they closed.
+/// How many lines one search writes at least, and at most, where the budget lets it. What several
+/// workers do at the same time is lost, so they tell each other soon what they closed.
 const FEWEST_LINES: u64 = 32;
 
 const MOST_LINES_AT_A_TIME: u64 = 1_000;
 
-/// One search beside others writes a line for so many lines of the log, since what it takes to hand these out grows with them.
+/// One search beside others writes a line for so many lines of the log, since what it takes to hand
+/// these out grows with them.
 const LINES_FOR_A_LINE: usize = 4_096;
 
-/// One search writes a line for so many states and lemmas that are told by then, as long as there are none of others.
+/// One search writes a line for so many states and lemmas that are told by then, as long as there
+/// are none of others.
 const STATES_FOR_A_LINE: usize = 16;
 
-/// How many lines of the log others leave free beside those that are kept for the search over sets of matched calls, since all that search below cubes
-/// may publish once more before they see that the log has room for no more.
+/// How many lines of the log others leave free beside those that are kept for the search over sets
+/// of matched calls, since all that search below cubes may publish once more before they see that
+/// the log has room for no more.
 const MARGIN: u64 = 150_000;
 
 /// How many lines the first turn of worker 0 takes.
 const FIRST_TURN: u64 = 4_000;
 
-/// So many workers begin each with a turn that is twice as long as that of the one before, so that they don't all begin with cubes at the same time, each
-/// with a solver that has learnt nothing yet.
+/// So many workers begin each with a turn that is twice as long as that of the one before, so that
+/// they don't all begin with cubes at the same time, each with a solver that has learnt nothing
+/// yet.
 const MOST_DOUBLINGS: u32 = 3;
 
 /// A conflict below a cube counts as so many lines.
@@ -112,8 +116,9 @@ impl<'e> Exploration<'e> {
         }))
     }
 
-    /// Takes in the line at this place of the log, from 0, where it is one of its own or has at most two literals: what longer ones let follow
-    /// tells states apart that differ in nothing else.
+    /// Takes in the line at this place of the log, from 0, where it is one of its own or has at
+    /// most two literals: what longer ones let follow tells states apart that differ in nothing
+    /// else.
     pub(crate) fn import(
         &mut self,
         alloc: Global,
@@ -149,7 +154,8 @@ impl<'e> Exploration<'e> {
         (lines as u64).clamp(FEWEST_LINES, MOST_LINES_AT_A_TIME)
     }
 
-    /// Searches on, until so many lines and conflicts were counted at most. The log has so many lines.
+    /// Searches on, until so many lines and conflicts were counted at most. The log has so many
+    /// lines.
     fn search(&mut self, alloc: Global, most: u64, logged: usize) -> Result<Found, Stop> {
         let budget = most.min(self.lines_at_a_time(logged));
         let found = self.search.search(alloc, budget)?;
@@ -157,7 +163,8 @@ impl<'e> Exploration<'e> {
         Ok(found)
     }
 
-    /// Takes in these lines of the log, which stand from this place on, from 0, and which states other workers closed.
+    /// Takes in these lines of the log, which stand from this place on, from 0, and which states
+    /// other workers closed.
     fn take_in<S, G, R: Wait>(
         &mut self,
         rt: &R,
@@ -176,7 +183,8 @@ impl<'e> Exploration<'e> {
 }
 
 impl Worker<'_> {
-    /// Whether this worker goes on over sets of matched calls next: where it is its turn, or where the log has room for nothing else.
+    /// Whether this worker goes on over sets of matched calls next: where it is its turn, or where
+    /// the log has room for nothing else.
     pub(crate) fn explores(&self, kept: &KeptLines) -> bool {
         if self.refuted.is_some() {
             return false;
@@ -187,7 +195,8 @@ impl Worker<'_> {
         }
     }
 
-    /// Whether this worker can go on over sets of matched calls though it is the turn of cubes, of which it has none.
+    /// Whether this worker can go on over sets of matched calls though it is the turn of cubes, of
+    /// which it has none.
     pub(crate) fn can_explore(&self) -> bool {
         self.exploration.is_some() && self.refuted.is_none()
     }
@@ -205,7 +214,8 @@ impl Worker<'_> {
         Ok(Some((found, counted)))
     }
 
-    /// Publishes these lines, which the exploration wrote, and tells others which states they close. Answers the number of the first.
+    /// Publishes these lines, which the exploration wrote, and tells others which states they
+    /// close. Answers the number of the first.
     fn publish_states<S: Share, G, R: Wait>(
         &mut self,
         rt: &R,
@@ -250,7 +260,8 @@ impl Worker<'_> {
         }
     }
 
-    /// Whether the log has room for no more lines than are kept for searches over sets of matched calls.
+    /// Whether the log has room for no more lines than are kept for searches over sets of matched
+    /// calls.
     fn is_kept(&self, kept: &KeptLines) -> bool {
         let left = kept.count();
         let taken = (self.seen() as u64).saturating_add(left);
@@ -264,7 +275,8 @@ impl Worker<'_> {
         }
     }
 
-    /// Hands on what a search over sets of matched calls found after so many lines, and calls the gate.
+    /// Hands on what a search over sets of matched calls found after so many lines, and calls the
+    /// gate.
     fn tell_states<S: Share, G: Gate, R: Wait>(
         &mut self,
         rt: &R,
@@ -300,7 +312,8 @@ impl Worker<'_> {
         }
     }
 
-    /// One search over sets of matched calls, with all lines that the log has by now, after which the gate is called.
+    /// One search over sets of matched calls, with all lines that the log has by now, after which
+    /// the gate is called.
     pub(crate) fn explore<S: Share, G: Gate, R: Wait>(
         &mut self,
         rt: &R,

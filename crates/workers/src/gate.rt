@@ -22,8 +22,8 @@ pub struct Searched {
 }
 
 impl Searched {
-    /// What a search did below a path of so many literals that found this and counted so many conflicts, where so many cubes are open
-    /// now and so much of the budget is used.
+    /// What a search did below a path of so many literals that found this and counted so many
+    /// conflicts, where so many cubes are open now and so much of the budget is used.
     pub(crate) fn of(
         found: &Found,
         depth: usize,
@@ -49,17 +49,18 @@ impl Searched {
     }
 }
 
-/// Is called before each cube of the search, so that a test can hold workers back, and once the formula is made and after each
-/// search, so that it can be told how far they are.
+/// Is called before each cube of the search, so that a test can hold workers back, and once the
+/// formula is made and after each search, so that it can be told how far they are.
 pub trait Gate {
-    /// Called once the formula is made, with how many clauses it has, before the workers begin. A gate that leaves it out only
-    /// holds back.
+    /// Called once the formula is made, with how many clauses it has, before the workers begin. A
+    /// gate that leaves it out only holds back.
     fn formed(&self, _clauses: usize) {}
 
-    /// Called by a worker, from 0, before it searches below a cube, by the number of its leaf, from 0.
+    /// Called by a worker, from 0, before it searches below a cube, by the number of its leaf, from
+    /// 0.
     fn before(&self, worker: u32, cube: u32);
 
-    /// Called by a worker, from 0, after each search, once what it found was handed to the pool. A gate that leaves it out only
-    /// holds back.
+    /// Called by a worker, from 0, after each search, once what it found was handed to the pool. A
+    /// gate that leaves it out only holds back.
     fn after(&self, _worker: u32, _searched: Searched) {}
 }

@@ -2,11 +2,13 @@
 
 use std::sync::atomic::{AtomicU64, Ordering};
 
-/// How many lines they write at most: the log has room for more, but not for twice as many, as one send more to a wildcard would take.
+/// How many lines they write at most: the log has room for more, but not for twice as many, as one
+/// send more to a wildcard would take.
 const MOST_IN_ALL: u64 = 600_000;
 
-/// How many lines of the log are kept for searches over sets of matched calls, 600,000 unless another number is given. Where the log has room for no more
-/// than these, workers no longer search below cubes until they are used up; from then on they search below cubes alone.
+/// How many lines of the log are kept for searches over sets of matched calls, 600,000 unless
+/// another number is given. Where the log has room for no more than these, workers no longer search
+/// below cubes until they are used up; from then on they search below cubes alone.
 #[derive(Drop)]
 pub struct KeptLines {
     most: u64,

@@ -1,7 +1,9 @@
-//! What one worker of a search does: it takes cubes, searches below each, and tells a share of the pool what it found.
+//! What one worker of a search does: it takes cubes, searches below each, and tells a share of the
+//! pool what it found.
 //!
-//! Workers, cubes and places of lines count from 0, variables and clauses from 1; a cube has the number of its leaf.
-//! A worker takes whatever its share replies: it promises nothing but that it is safe.
+//! Workers, cubes and places of lines count from 0, variables and clauses from 1; a cube has the
+//! number of its leaf. A worker takes whatever its share replies: it promises nothing but that it
+//! is safe.
 #![tactic(auto)]
 
 mod branching;

@@ -6,8 +6,8 @@ ghost use Rattle.workers.specs.Numbers.{capped_place, place_of};
 
 use batches::Hint;
 
-/// The number of what a hint names, where the batch's first line has this one. A number that doesn't fit counts as the
-/// largest that does, which no clause has.
+/// The number of what a hint names, where the batch's first line has this one. A number that
+/// doesn't fit counts as the largest that does, which no clause has.
 pub(crate) fn number_of(base: u32, hint: Hint) -> u32
     ensures { result ≡ capped_hint base hint }
 {
@@ -17,8 +17,8 @@ pub(crate) fn number_of(base: u32, hint: Hint) -> u32
     }
 }
 
-/// The number of the line at this place of the log, from 0, after so many clauses. A number that doesn't fit counts as the
-/// largest that does, which no clause has.
+/// The number of the line at this place of the log, from 0, after so many clauses. A number that
+/// doesn't fit counts as the largest that does, which no clause has.
 pub(crate) fn line_number(clauses: usize, place: usize) -> u32
     ensures { result ≡ capped_place clauses place }
 {
@@ -26,7 +26,8 @@ pub(crate) fn line_number(clauses: usize, place: usize) -> u32
     u32::try_from(number).unwrap_or(u32::MAX)
 }
 
-/// The place in the log, from 0, of the line that has this number, after so many clauses; 0 for one of the clauses.
+/// The place in the log, from 0, of the line that has this number, after so many clauses; 0 for one
+/// of the clauses.
 pub(crate) fn line_place(clauses: usize, number: u32) -> usize
     ensures { result ≡ place_of clauses number }
 {

@@ -17,7 +17,8 @@ const MOST_CONFLICTS: u64 = 4_000;
 /// How many of them before other workers begin, where there are some.
 const FIRST_CONFLICTS: u64 = 500;
 
-/// One more comes before them for so many clauses, since each of these workers makes tables of all clauses.
+/// One more comes before them for so many clauses, since each of these workers makes tables of all
+/// clauses.
 const CLAUSES_FOR_A_CONFLICT: usize = 1_000;
 
 /// Closes these cubes by the clause of this number, which has no literals.
@@ -35,7 +36,8 @@ fn close_all<S: Share, R: Wait>(
 }
 
 impl Worker<'_> {
-    /// Hands on what a search with no cube found, and closes these cubes where it refuted the formula.
+    /// Hands on what a search with no cube found, and closes these cubes where it refuted the
+    /// formula.
     fn hand_on_whole<S: Share, R: Wait>(
         &mut self,
         rt: &R,
@@ -59,8 +61,8 @@ impl Worker<'_> {
         }
     }
 
-    /// Searches with no cube for at most so many conflicts, closes these cubes where that refutes the formula, and calls the gate. Answers how many
-    /// conflicts there were.
+    /// Searches with no cube for at most so many conflicts, closes these cubes where that refutes
+    /// the formula, and calls the gate. Answers how many conflicts there were.
     fn search_whole<S: Share, G: Gate, R: Wait>(
         &mut self,
         rt: &R,
@@ -127,10 +129,12 @@ fn first_conflicts(clauses: usize, workers: u32) -> u64 {
     }
 }
 
-/// Searches the whole formula, with no cube, before so many workers begin: match variables are probed, and at most 4,000 conflicts are counted,
-/// and at most those of the budget; where there are several workers, at most 500 now and one for each 1,000 clauses, and the others by worker
-/// 0 when all have begun. Where that refutes the formula, these cubes are closed. What was learnt is published, so that workers need not probe
-/// again. The gate is called after the search, as if it were one of worker 0.
+/// Searches the whole formula, with no cube, before so many workers begin: match variables are
+/// probed, and at most 4,000 conflicts are counted, and at most those of the budget; where there
+/// are several workers, at most 500 now and one for each 1,000 clauses, and the others by worker 0
+/// when all have begun. Where that refutes the formula, these cubes are closed. What was learnt is
+/// published, so that workers need not probe again. The gate is called after the search, as if it
+/// were one of worker 0.
 pub fn open<S: Share, G: Gate, R: Wait>(
     rt: &R,
     alloc: Global,

@@ -12,8 +12,9 @@ fn choices(encoded: &Encoded, number: usize) -> usize {
     }
 }
 
-/// The match variables, which follow on each other in the order of their pairs: those first whose takers have fewest pairs, and of two
-/// with as many the smaller one. Those of named takers are the likeliest to fail, and mostly fail since earlier ones did.
+/// The match variables, which follow on each other in the order of their pairs: those first whose
+/// takers have fewest pairs, and of two with as many the smaller one. Those of named takers are the
+/// likeliest to fail, and mostly fail since earlier ones did.
 pub(crate) fn probing_order(
     alloc: Global,
     encoded: &Encoded,

@@ -17,8 +17,8 @@ use extract::ExtractFault;
 use pool::{CloseFault, FetchFault, FoundFault, PathFault, PublishFault, SplitFault, Why};
 use std::alloc::AllocError;
 
-/// Why a worker stops before its cubes are done: for want of memory, since the log is full, or since something was
-/// refused that an honest share takes.
+/// Why a worker stops before its cubes are done: for want of memory, since the log is full, or
+/// since something was refused that an honest share takes.
 #[derive(Clone, Copy, PartialEq, Eq)]
 pub(crate) struct Stop {
     pub(crate) why: Why,

@@ -27,7 +27,8 @@ use std::mem;
 use std::ops::Range;
 use std::sync::Wait;
 
-/// How many conflicts one search counts at most, since what others find meanwhile is seen after that alone.
+/// How many conflicts one search counts at most, since what others find meanwhile is seen after
+/// that alone.
 pub(crate) const CONFLICTS_AT_A_TIME: u64 = 250;
 
 /// After so many conflicts a cube is split.
@@ -73,7 +74,8 @@ fn is_over(status: &Status) -> bool {
     status.is_found || status.open_leaves == 0
 }
 
-/// The cube that isn't done, or else the next one, before which the gate is called; none where there is none now.
+/// The cube that isn't done, or else the next one, before which the gate is called; none where
+/// there is none now.
 fn cube_after<C: Cubes, G: Gate>(
     current: Option<u32>,
     cubes: &mut C,
@@ -100,7 +102,8 @@ fn put<C: Cubes>(cubes: &mut C, cube: u32) -> Result<(), Stop>
     }
 }
 
-/// A solver of this program's formula, which probes the match variables unless that was done before.
+/// A solver of this program's formula, which probes the match variables unless that was done
+/// before.
 fn solver_of<'e>(
     alloc: Global,
     encoded: &'e Encoded,
@@ -182,7 +185,8 @@ impl<'e> Worker<'e> {
         Ok(self.solver.insert(solver))
     }
 
-    /// Has the solver, where there is one, take in the line at this place of the log, from 0, where that is one of its own or has at most so many literals.
+    /// Has the solver, where there is one, take in the line at this place of the log, from 0, where
+    /// that is one of its own or has at most so many literals.
     fn teach(&mut self, place: usize, clause: &Clause, longest: usize) -> Result<(), Stop> {
         let number = line_number(self.clauses(), place);
         if let Some(solver) = &mut self.solver
@@ -193,7 +197,8 @@ impl<'e> Worker<'e> {
         Ok(())
     }
 
-    /// Has the solver take in of these lines, which are the first ones of the log, the short ones of those that this worker has seen.
+    /// Has the solver take in of these lines, which are the first ones of the log, the short ones
+    /// of those that this worker has seen.
     fn teach_all(&mut self, lines: &Lines) -> Result<(), Stop> {
         for place in 0..lines.len().min(self.seen) {
             let Some(line) = lines.get(place) else {
@@ -204,7 +209,8 @@ impl<'e> Worker<'e> {
         Ok(())
     }
 
-    /// Makes the solver where it wasn't needed before and still is, and has it take in the short lines that this worker has seen.
+    /// Makes the solver where it wasn't needed before and still is, and has it take in the short
+    /// lines that this worker has seen.
     fn begin_learning<S: Share, R: Wait>(
         &mut self,
         rt: &R,
@@ -219,7 +225,8 @@ impl<'e> Worker<'e> {
         self.teach_all(&lines)
     }
 
-    /// Takes in the line at this place of the log, from 0, where it is one of the solver's own or has at most so many literals.
+    /// Takes in the line at this place of the log, from 0, where it is one of the solver's own or
+    /// has at most so many literals.
     fn import_line(&mut self, place: usize, clause: &Clause, longest: usize) -> Result<(), Stop> {
         if clause.literals().is_empty() {
             self.refuted = Some(line_number(self.clauses(), place));
@@ -232,8 +239,8 @@ impl<'e> Worker<'e> {
         Ok(())
     }
 
-    /// Takes in these lines, which weren't seen, and the first of which stands at this place of the log: the solver's own, and of others those with
-    /// so many literals at most.
+    /// Takes in these lines, which weren't seen, and the first of which stands at this place of the
+    /// log: the solver's own, and of others those with so many literals at most.
     pub(crate) fn import(
         &mut self,
         lines: &Lines,
@@ -250,7 +257,8 @@ impl<'e> Worker<'e> {
         Ok(())
     }
 
-    /// Searches below the path for at most so many conflicts, and at most those that are left. Answers how many were counted, too.
+    /// Searches below the path for at most so many conflicts, and at most those that are left.
+    /// Answers how many were counted, too.
     pub(crate) fn learn(&mut self, path: &[Lit], most: u64) -> Result<(Found, u64), Stop> {
         let budget = self.left.min(most);
         let alloc = self.alloc;
@@ -323,8 +331,8 @@ impl<'e> Worker<'e> {
         branching_variable(path, &self.variables, self.encoded.formula().variables())
     }
 
-    /// Splits a cube with this path, and puts both halves in; searches it on where there is no variable to split on, or no
-    /// room in the tree.
+    /// Splits a cube with this path, and puts both halves in; searches it on where there is no
+    /// variable to split on, or no room in the tree.
     fn split<S: Share, C: Cubes, R: Wait>(
         &self,
         rt: &R,
@@ -353,8 +361,9 @@ impl<'e> Worker<'e> {
         }
     }
 
-    /// Imports the solver's own and the shortest of the lines that the log has by now and this worker hasn't seen. The solver is made before where it has seen
-    /// none, so that what the opening learnt is taken in.
+    /// Imports the solver's own and the shortest of the lines that the log has by now and this
+    /// worker hasn't seen. The solver is made before where it has seen none, so that what the
+    /// opening learnt is taken in.
     pub(crate) fn catch_up<S: Share, R: Wait>(
         &mut self,
         rt: &R,
@@ -405,7 +414,8 @@ impl<'e> Worker<'e> {
         }
     }
 
-    /// Hands on what a search below a cube with this path found after so many conflicts, and calls the gate.
+    /// Hands on what a search below a cube with this path found after so many conflicts, and calls
+    /// the gate.
     fn tell_found<S: Share, C: Cubes, G: Gate, R: Wait>(
         &mut self,
         rt: &R,
@@ -447,7 +457,8 @@ impl<'e> Worker<'e> {
         )
     }
 
-    /// One search below a cube, with all lines that the log has by now, after which the gate is called; none where the formula is refuted.
+    /// One search below a cube, with all lines that the log has by now, after which the gate is
+    /// called; none where the formula is refuted.
     fn step<S: Share, C: Cubes, G: Gate, R: Wait>(
         &mut self,
         rt: &R,
@@ -469,7 +480,8 @@ impl<'e> Worker<'e> {
         self.search_below(rt, common, seat, cubes, worker, cube, &path)
     }
 
-    /// One search that is below no cube, where there is one to do now: with none, or over sets of matched calls. Answers whether there was.
+    /// One search that is below no cube, where there is one to do now: with none, or over sets of
+    /// matched calls. Answers whether there was.
     fn searches_all<S: Share, G: Gate, R: Wait>(
         &mut self,
         rt: &R,
@@ -507,8 +519,8 @@ impl<'e> Worker<'e> {
         Ok(())
     }
 
-    /// Searches below one cube after another, until the search is over. Without a cube it goes on over sets of matched calls, or pauses, and ends too where
-    /// another worker left for a reason.
+    /// Searches below one cube after another, until the search is over. Without a cube it goes on
+    /// over sets of matched calls, or pauses, and ends too where another worker left for a reason.
     fn run<S: Share, C: Cubes, G: Gate, R: Wait>(
         &mut self,
         rt: &R,
@@ -595,31 +607,40 @@ fn reason<S: Share, C: Cubes, G: Gate, R: Wait>(
     reason_of(end)
 }
 
-/// Searches below one cube after another, and tells the share what it found: lines, a clause for each cube that is refuted,
-/// the two halves of a cube that took too long, and the schedule of an assignment that satisfies the formula. The gate is called before
-/// each cube, and after each search, with this number of the worker.
+/// Searches below one cube after another, and tells the share what it found: lines, a clause for
+/// each cube that is refuted, the two halves of a cube that took too long, and the schedule of an
+/// assignment that satisfies the formula. The gate is called before each cube, and after each
+/// search, with this number of the worker.
 ///
-/// A search counts at most 250 conflicts, and all of them at most as many as the budget. Once 2,000 were counted below a cube that isn't
-/// closed, it is split or, where the tree has no room, searched on. A cube is split on the match variable that took part in most conflicts of
-/// those that have no value below its path; where there is none, on the first variable that isn't on it, match variables first, in the
-/// branching order.
+/// A search counts at most 250 conflicts, and all of them at most as many as the budget. Once 2,000
+/// were counted below a cube that isn't closed, it is split or, where the tree has no room,
+/// searched on. A cube is split on the match variable that took part in most conflicts of those
+/// that have no value below its path; where there is none, on the first variable that isn't on it,
+/// match variables first, in the branching order.
 ///
-/// Worker 0 begins with what the opening left to it: searches with no cube, of 250 conflicts at most each.
+/// Worker 0 begins with what the opening left to it: searches with no cube, of 250 conflicts at
+/// most each.
 ///
-/// Where that is wanted it also searches over sets of matched calls, at first 32 lines at a time and later up to 1,000, each of which counts as a
-/// conflict of its budget: in turn with cubes, where a conflict counts as 16 lines, or as long as that search goes on. It tells the other workers
-/// which states it closed and which lemmas it made, and takes theirs over, so that all of them together search over the sets once. They write 600,000 lines
-/// at most; where the log has room for no more than what is left of these, it searches below no cube. Where the log has an empty clause, each cube is
-/// closed by it. Of the lines of others a worker takes in the shortest, up to 1,000 after each search, and all with at most two literals; these alone
-/// as long as it searches below no cube.
+/// Where that is wanted it also searches over sets of matched calls, at first 32 lines at a time
+/// and later up to 1,000, each of which counts as a conflict of its budget: in turn with cubes,
+/// where a conflict counts as 16 lines, or as long as that search goes on. It tells the other
+/// workers which states it closed and which lemmas it made, and takes theirs over, so that all of
+/// them together search over the sets once. They write 600,000 lines at most; where the log has
+/// room for no more than what is left of these, it searches below no cube. Where the log has an
+/// empty clause, each cube is closed by it. Of the lines of others a worker takes in the shortest,
+/// up to 1,000 after each search, and all with at most two literals; these alone as long as it
+/// searches below no cube.
 ///
-/// The worker leaves with no reason once a schedule was found or no leaf is open, or, where it wants a cube and there is none, once another worker left
-/// for a reason; as long as it is its turn to search over sets of matched calls, it goes on though others left. Where it wants a cube and there is none,
-/// it goes on over these sets, if it searches over them, until there is one; else it pauses, and rests until the events are advanced. It advances them after
-/// each search and when it leaves. It leaves with [`Why::Budget`] once the budget is used up and the cube is open, with [`Why::Full`] where the log is full, with
-/// [`Why::Memory`] where memory ran out or a cube had no room, and with [`Why::Left`] where something was refused that an
-/// honest share takes. Worker 0 leaves at once with the reason for which the opening ended, where there is one. The answer is that of its last
-/// call, by which it leaves. It goes on as long as the share and the cubes let it.
+/// The worker leaves with no reason once a schedule was found or no leaf is open, or, where it
+/// wants a cube and there is none, once another worker left for a reason; as long as it is its turn
+/// to search over sets of matched calls, it goes on though others left. Where it wants a cube and
+/// there is none, it goes on over these sets, if it searches over them, until there is one; else it
+/// pauses, and rests until the events are advanced. It advances them after each search and when it
+/// leaves. It leaves with [`Why::Budget`] once the budget is used up and the cube is open, with
+/// [`Why::Full`] where the log is full, with [`Why::Memory`] where memory ran out or a cube had no
+/// room, and with [`Why::Left`] where something was refused that an honest share takes. Worker 0
+/// leaves at once with the reason for which the opening ended, where there is one. The answer is
+/// that of its last call, by which it leaves. It goes on as long as the share and the cubes let it.
 pub fn work<S: Share, C: Cubes, G: Gate, R: Wait>(
     rt: &R,
     alloc: Global,

@@ -7,7 +7,8 @@ ghost use Rattle.plaintext.specs.Plain.{numeral};
 use itoa::Buffer;
 use std::alloc::AllocError;
 
-/// Writes the number's numeral. A `u128` holds the number of a call, which is 1 more than a `usize`.
+/// Writes the number's numeral. A `u128` holds the number of a call, which is 1 more than a
+/// `usize`.
 pub fn put_number(out: &mut Vec<u8>, number: u128) -> Result<(), AllocError>
     ensures { OnOk result (out.new.items ≡ out.old.items ++ numeral number) }
 {

@@ -1,6 +1,7 @@
 //! Numbers, words and lines written behind a text.
 //!
-//! The only error is want of memory, after which a beginning of what was to be written may stand there.
+//! The only error is want of memory, after which a beginning of what was to be written may stand
+//! there.
 #![tactic(auto)]
 
 mod bytes;

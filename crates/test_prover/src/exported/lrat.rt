@@ -1,4 +1,5 @@
-//! A plain checker of LRAT proofs: it reads a formula in the DIMACS format and a proof, and follows each line's hints.
+//! A plain checker of LRAT proofs: it reads a formula in the DIMACS format and a proof, and follows
+//! each line's hints.
 
 use std::alloc::Global;
 use std::test::Fail;
@@ -19,7 +20,8 @@ impl Literal {
     }
 }
 
-/// A line of a proof: the number of its clause, the clause, and the numbers of the clauses to go by.
+/// A line of a proof: the number of its clause, the clause, and the numbers of the clauses to go
+/// by.
 #[derive(Debug, Drop)]
 pub struct ProofLine {
     number: usize,
@@ -153,7 +155,8 @@ fn hint_gives(clause: &[Literal], known: &[Literal]) -> Hinted {
     }
 }
 
-/// Whether the hints, of which the one at a place may be left out, lead from the negation of the line's clause to a conflict at the last.
+/// Whether the hints, of which the one at a place may be left out, lead from the negation of the
+/// line's clause to a conflict at the last.
 fn derives(
     alloc: Global,
     clauses: &[Vec<Literal>],
@@ -192,7 +195,8 @@ fn copies_of(alloc: Global, clauses: &[Vec<Literal>]) -> Result<Vec<Vec<Literal>
     Ok(copies)
 }
 
-/// Whether the proof refutes the formula, where the hint at a place of the line at another may be left out.
+/// Whether the proof refutes the formula, where the hint at a place of the line at another may be
+/// left out.
 pub fn refutes(
     alloc: Global,
     cnf: &Cnf,

@@ -34,8 +34,8 @@ impl PieceGate for SecondFirst {
     }
 }
 
-/// What the checker says, with so many pieces, of a refutation whose second line of four isn't derived and whose fourth has an
-/// idle hint; and how many pieces asked.
+/// What the checker says, with so many pieces, of a refutation whose second line of four isn't
+/// derived and whose fourth has an idle hint; and how many pieces asked.
 fn judged<R: Threads + Sync>(rt: &R, alloc: Global, pieces: usize) -> Result<(String, u64), Fail>
     requires some { 0 < pieces }
     requires few { pieces ≤ 64 }

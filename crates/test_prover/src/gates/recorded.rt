@@ -15,7 +15,8 @@ use workers::Searched;
 const GATHER: &str =
     "ranks 4/policy none/rank 0/recv * 1/recv * 1/recv * 1/rank 1/send 0 1/rank 2/send 0 1/rank 3/send 0 1/";
 
-/// Ten ranks that each send to one rank. It has no deadlock, which clauses learnt from some thousand conflicts don't show.
+/// Ten ranks that each send to one rank. It has no deadlock, which clauses learnt from some
+/// thousand conflicts don't show.
 pub const MANY: &str =
     "ranks 11/policy none/rank 0/recv * 1/recv * 1/recv * 1/recv * 1/recv * 1/recv * 1/recv * 1/recv * 1/recv * 1/recv * 1/rank 1/send 0 1/rank 2/send 0 1/rank 3/send 0 1/rank 4/send 0 1/rank 5/send 0 1/rank 6/send 0 1/rank 7/send 0 1/rank 8/send 0 1/rank 9/send 0 1/rank 10/send 0 1/";
 
@@ -30,8 +31,8 @@ struct Record {
     conflicts: AtomicU64,
 }
 
-/// Records what each worker is asked for, and holds each worker's first cube back until so many workers have one, and then
-/// until worker 1 has so many.
+/// Records what each worker is asked for, and holds each worker's first cube back until so many
+/// workers have one, and then until worker 1 has so many.
 #[derive(Drop)]
 struct Recorder {
     records: Vec<Record>,
@@ -143,7 +144,8 @@ struct Seen {
     ran_out: bool,
 }
 
-/// Runs a search, each of whose workers waits with its first cube until `wanted` workers have one and worker 1 has `of_worker_one`.
+/// Runs a search, each of whose workers waits with its first cube until `wanted` workers have one
+/// and worker 1 has `of_worker_one`.
 fn observed<R: Threads + Wait + Sync>(
     rt: &R,
     alloc: Global,
@@ -165,7 +167,8 @@ fn observed<R: Threads + Wait + Sync>(
     })
 }
 
-/// Asserts that one worker is asked for just the leaves of the full tree, whose nodes are numbered level by level from 0.
+/// Asserts that one worker is asked for just the leaves of the full tree, whose nodes are numbered
+/// level by level from 0.
 fn assert_leaves<R: Abort + Threads + Wait + Sync>(
     rt: &R,
     alloc: Global,
@@ -238,7 +241,8 @@ fn each_worker_has_its_own_budget(rt: HostRuntime) -> Result<(), Fail> {
     assert_budgets(&rt, rt.alloc(), 3_000)
 }
 
-/// Worker 0 waits with its first cube of two until worker 1 has searched below its own two and taken another one.
+/// Worker 0 waits with its first cube of two until worker 1 has searched below its own two and
+/// taken another one.
 #[test]
 fn a_worker_steals(rt: HostRuntime) -> Result<(), Fail> {
     let seen = observed(&rt, rt.alloc(), RELAY, for_cubes(2, 2, 1_000_000)?, 2, 3)?;
@@ -256,8 +260,8 @@ fn the_whole_formula_first(rt: HostRuntime) -> Result<(), Fail> {
     Ok(())
 }
 
-/// Asserts that no worker counts more than its budget, the first search counted for worker 0, and lines over sets of matched calls for the one that
-/// writes them.
+/// Asserts that no worker counts more than its budget, the first search counted for worker 0, and
+/// lines over sets of matched calls for the one that writes them.
 fn assert_all_counted<R: Abort + Threads + Wait + Sync>(
     rt: &R,
     alloc: Global,
@@ -287,8 +291,9 @@ fn come_to<R: Abort + Threads + Wait + Sync>(
     Ok(observed(rt, alloc, MANY, options, 0, 0)?.answer)
 }
 
-/// Within 6,000 lines one worker refutes the formula over sets of matched calls, but not below cubes. Four workers do so within half of that for each,
-/// since none of them searches over sets that another one has closed.
+/// Within 6,000 lines one worker refutes the formula over sets of matched calls, but not below
+/// cubes. Four workers do so within half of that for each, since none of them searches over sets
+/// that another one has closed.
 #[test]
 fn sets_are_fewer_than_orders(rt: HostRuntime) -> Result<(), Fail> {
     let alloc = rt.alloc();

@@ -19,7 +19,8 @@ const FEW: &str =
 /// The bytes that standard error has room for.
 const ROOM: usize = 4096;
 
-/// A clock that is nearly a second further at each of its first readings, stands still at the next one, and ends the search at the fifth.
+/// A clock that is nearly a second further at each of its first readings, stands still at the next
+/// one, and ends the search at the fifth.
 #[derive(Drop)]
 struct Ticking<'a> {
     counts: &'a Counts,
@@ -56,8 +57,8 @@ impl Clock for Broken {
     }
 }
 
-/// Counts with four searches told, of which two closed cubes, of a quarter and of an eighth of the tree. A worker has used 2,099 of 10,000
-/// conflicts, and the log has 50,030 lines of a million.
+/// Counts with four searches told, of which two closed cubes, of a quarter and of an eighth of the
+/// tree. A worker has used 2,099 of 10,000 conflicts, and the log has 50,030 lines of a million.
 fn four_searches() -> Counts {
     let counts = Counts::new(10_000);
     let searched = Searched {
@@ -135,7 +136,8 @@ fn lines_with(text: &[u8], word: &str) -> Result<u64, Fail> {
     Ok(lines.filter(|line| line.starts_with(word)).count() as u64)
 }
 
-/// The evidence that there is no deadlock, for a text with `/` in place of each end of a line, of a search that is followed by these counts.
+/// The evidence that there is no deadlock, for a text with `/` in place of each end of a line, of a
+/// search that is followed by these counts.
 fn followed<R: Threads + Wait + Sync>(
     rt: &R,
     alloc: Global,
@@ -172,7 +174,8 @@ fn closed_cubes_are_told(rt: HostRuntime) -> Result<(), Fail> {
     Ok(())
 }
 
-/// Counts of a search over sets of matched calls that refuted the formula, while so many cubes are open.
+/// Counts of a search over sets of matched calls that refuted the formula, while so many cubes are
+/// open.
 fn refuted(open: u32) -> Counts {
     let counts = Counts::new(0);
     counts.after(

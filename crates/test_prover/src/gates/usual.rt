@@ -18,8 +18,8 @@ fn came(flag: &AtomicBool) -> bool {
     false
 }
 
-/// Holds worker 1 back after its first search until worker 0 ends one too, and worker 0 after its first search over sets of matched calls until
-/// worker 1 has ended one.
+/// Holds worker 1 back after its first search until worker 0 ends one too, and worker 0 after its
+/// first search over sets of matched calls until worker 1 has ended one.
 #[derive(Drop)]
 struct Meeting {
     met: AtomicBool,
@@ -55,7 +55,8 @@ impl Gate for Meeting {
     }
 }
 
-/// Two workers search at the same time: neither goes on past its first searches before the other one has ended some.
+/// Two workers search at the same time: neither goes on past its first searches before the other
+/// one has ended some.
 #[test]
 fn two_workers_hold_each_other(rt: HostRuntime) -> Result<(), Fail> {
     let gate = Meeting {

@@ -8,8 +8,9 @@ use std::thread::Threads;
 use std::time::Clock;
 use test_runs::Scene;
 
-/// Asserts what `check` says of each text that the evidence begins with: it lacks a line, or its last line lacks its end; but where it ends
-/// with one of its lines from this one on, counted from 1, the schedule isn't stuck yet.
+/// Asserts what `check` says of each text that the evidence begins with: it lacks a line, or its
+/// last line lacks its end; but where it ends with one of its lines from this one on, counted from
+/// 1, the schedule isn't stuck yet.
 fn assert_cuts(
     rt: &(impl Abort + Threads + Wait + Clock + Sync),
     alloc: Global,

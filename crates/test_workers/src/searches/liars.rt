@@ -1,4 +1,5 @@
-//! Workers that are honest beside some that lie in each call, over one pool. Each has a seat, and a thread of its own.
+//! Workers that are honest beside some that lie in each call, over one pool. Each has a seat, and a
+//! thread of its own.
 
 ghost use Rattle.std.specs.Prelude.{◌≡◌, ◌≤◌, IfOk, []};
 ghost use Rattle.crossbeam_utils.specs.Seq.{cell_view};
@@ -96,7 +97,8 @@ fn line(alloc: Global, literals: &[Lit], hint: Hint) -> Result<BatchLine, Fail> 
     Ok(BatchLine { clause, hints })
 }
 
-/// Two lines: the formula's first clause once more, which derives, and the empty clause, which doesn't.
+/// Two lines: the formula's first clause once more, which derives, and the empty clause, which
+/// doesn't.
 fn lie(alloc: Global, encoded: &Encoded) -> Result<Batch, Fail> {
     let first = encoded.formula().clauses().first().ok_or("no clause")?;
     let mut lines = Vec::new(alloc);
@@ -115,8 +117,8 @@ fn await_honest<S: Share, R: Wait>(rt: &R, shared: &S) {
     }
 }
 
-/// Lies in each call: publishes the batch, closes a leaf by the formula's first clause, and tells a schedule without steps. Half of the lies come
-/// once a leaf is closed.
+/// Lies in each call: publishes the batch, closes a leaf by the formula's first clause, and tells a
+/// schedule without steps. Half of the lies come once a leaf is closed.
 fn tell_lies<S: Share, R: Wait>(
     rt: &R,
     alloc: Global,
@@ -193,7 +195,8 @@ fn all_act<B: PoolName + Send + Sync, R: Threads + Wait + Sync>(
     );
 }
 
-/// A station for each seat. All cubes lie in the first deque, whose owner is a liar, so that each is stolen.
+/// A station for each seat. All cubes lie in the first deque, whose owner is a liar, so that each
+/// is stolen.
 fn stations<B: PoolName>(
     alloc: Global,
     seats: Vec<Seat<B>>,

@@ -5,7 +5,8 @@ use std::sync::atomic::{AtomicBool, AtomicU64, Ordering};
 /// More than any number of a worker or a cube.
 const NONE: u64 = u64::MAX;
 
-/// Notes of what a worker did. Its calls of `status` and `leave` aren't noted: it makes both after a refusal too.
+/// Notes of what a worker did. Its calls of `status` and `leave` aren't noted: it makes both after
+/// a refusal too.
 #[derive(Drop)]
 pub struct Trail {
     /// The worker with which the gate was called last before a search.
@@ -14,7 +15,8 @@ pub struct Trail {
     cube: AtomicU64,
     /// How often it was called before a search.
     cubes: AtomicU64,
-    /// How many searches began below another cube than that, or were told to have ended by another worker.
+    /// How many searches began below another cube than that, or were told to have ended by another
+    /// worker.
     strayed: AtomicU64,
     /// How many lines were learnt, as the gate is told after each search.
     lines: AtomicU64,
@@ -29,11 +31,13 @@ pub struct Trail {
 /// What was noted.
 #[derive(Clone, Copy, Debug, PartialEq, Eq)]
 pub struct Noted {
-    /// The worker with which the gate was called last before a search; [`u64::MAX`] where it wasn't called.
+    /// The worker with which the gate was called last before a search; [`u64::MAX`] where it wasn't
+    /// called.
     pub worker: u64,
     /// How many cubes it was called before.
     pub cubes: u64,
-    /// How many searches began below another cube than it was called with, or were told to have ended by another worker.
+    /// How many searches began below another cube than it was called with, or were told to have
+    /// ended by another worker.
     pub strayed: u64,
     /// How many lines were learnt.
     pub lines: u64,

@@ -12,7 +12,8 @@ use workers::{
     ClosedStates, Cubes, EventCount, Exploring, KeptLines, Opening, SearchContext, work,
 };
 
-/// Ten ranks that each send to one rank. It has no deadlock, which clauses learnt from some thousand conflicts don't show.
+/// Ten ranks that each send to one rank. It has no deadlock, which clauses learnt from some
+/// thousand conflicts don't show.
 const MANY: &str =
     "ranks 11/policy none/rank 0/recv * 1/recv * 1/recv * 1/recv * 1/recv * 1/recv * 1/recv * 1/recv * 1/recv * 1/recv * 1/rank 1/send 0 1/rank 2/send 0 1/rank 3/send 0 1/rank 4/send 0 1/rank 5/send 0 1/rank 6/send 0 1/rank 7/send 0 1/rank 8/send 0 1/rank 9/send 0 1/rank 10/send 0 1/";
 
@@ -65,7 +66,8 @@ impl Cubes for Late<'_> {
     }
 }
 
-/// Has one worker of this number search this formula over the share, where so many lines are kept for searches over sets of matched calls.
+/// Has one worker of this number search this formula over the share, where so many lines are kept
+/// for searches over sets of matched calls.
 fn worked_on<R: Threads + Wait + Sync, C: Cubes>(
     rt: &R,
     alloc: Global,
@@ -132,7 +134,8 @@ fn a_worker_without_a_cube_goes_on_over_sets(rt: HostRuntime) -> Result<(), Fail
     Ok(())
 }
 
-/// Whether one worker refutes the formula of this share, where it may write so few lines over sets of matched calls.
+/// Whether one worker refutes the formula of this share, where it may write so few lines over sets
+/// of matched calls.
 fn refutes_with<R: Threads + Wait + Sync>(
     rt: &R,
     alloc: Global,

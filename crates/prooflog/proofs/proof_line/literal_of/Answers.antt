@@ -10,7 +10,8 @@ use Rattle.prooflog.proofs.proof_line.literal_of.Goals as goal
 abbrev literal : ℕ → Bool → Literal
 literal n sign = record { variable = n; positive = sign }
 
--- what is made of a number that was read up to a limit is the literal of that number, where there is one
+-- what is made of a number that was read up to a limit is the literal of that number, where there
+-- is one
 read_literal : (found : Option Literal) (read n : ℕ) (sign : Bool) → IfSome found (λ l. l ≡ literal read sign) → IsSome found ↔ ((1 ≤ read) × (read ≤ 2147483647)) → read ≡ min n 2147483648 → IsReadLiteral found (literal n sign)
 read_literal None read n sign made when e = λ is. let t = when.1 (omega (arith, e, is), omega (arith, e, is)) in cc
 read_literal (Some l) read n sign made when e =

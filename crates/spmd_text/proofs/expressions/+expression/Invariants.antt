@@ -26,8 +26,8 @@ decreases-choice_at l = l.depth * 18 + 2
 abbrev pub decreases-joins-loop-joint : goal.decreases-joins-loop-joint
 decreases-joins-loop-joint l = length l.parser.rest.now
 
--- what was read so far still becomes the tree, unless memory ran out; and it is what the pieces say,
--- where nothing is wrong
+-- what was read so far still becomes the tree, unless memory ran out; and it is what the pieces
+-- say, where nothing is wrong
 abbrev pub invariant-joins-loop-joint : goal.invariant-joins-loop-joint
 invariant-joins-loop-joint l =
     record {
