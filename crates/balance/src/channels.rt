@@ -86,7 +86,8 @@ fn numbers_of(
 
 /// What calls at an address leave open, after one more call there.
 fn loosened(loose: Loose, call: &Call) -> Loose
-    ensures { (calls : List Call) (address : Address) → address_of call.now ≡ Some address → IsLoose calls address loose → IsLoose (calls ++ call.now ∷ []) address result }
+    ensures { (calls : List Call) (address : Address) → address_of call.now ≡ Some address →
+        IsLoose calls address loose → IsLoose (calls ++ call.now ∷ []) address result }
 {
     match taken_by(call) {
         None => loose,
@@ -133,7 +134,8 @@ fn channel_to(address: Address, loose: Loose, source: Option<u32>, tag: Option<u
 
 /// The channel of a send or a taker, at an address where takers leave this open.
 fn channel_in(call: &Call, loose: Loose) -> Option<Channel>
-    ensures { (p : MpiProgram) (address : Address) → address_of call.now ≡ Some address → IsLoose p.calls address loose → result ≡ channel_of p call.now }
+    ensures { (p : MpiProgram) (address : Address) → address_of call.now ≡ Some address →
+        IsLoose p.calls address loose → result ≡ channel_of p call.now }
 {
     let address = address_of(call)?;
     match call.kind.message() {
@@ -149,7 +151,8 @@ fn channel_in(call: &Call, loose: Loose) -> Option<Channel>
 /// memory.
 pub fn channels_of(alloc: Global, program: &LongProgram) -> Result<Vec<Option<Channel>>, AllocError>
     ensures size { IfOk result (λ channels. length channels.items ≡ length program.now.calls) }
-    ensures each { IfOk result (λ channels. (c : ℕ) (channel : Option Channel) → slice_get channels.items c ≡ Some channel → channel ≡ channel_at program.now c) }
+    ensures each { IfOk result (λ channels. (c : ℕ) (channel : Option Channel) →
+        slice_get channels.items c ≡ Some channel → channel ≡ channel_at program.now c) }
 {
     let calls = program.calls();
     let addresses = addresses_of(alloc, calls)?;

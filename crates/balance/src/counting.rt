@@ -30,7 +30,9 @@ impl Imbalance {
 
     /// Adds the last numbered place to the sides of its number.
     fn add(&mut self, program: &LongProgram, place: usize) -> Result<(), AllocError>
-        ensures { (numbers : List (Option ℕ)) (number : ℕ) → length numbers ≡ place → AreNumberedSides program.now numbers number self.old → OnOk result (AreNumberedSides program.now (numbers ++ Some number ∷ []) number self.new) }
+        ensures { (numbers : List (Option ℕ)) (number : ℕ) → length numbers ≡ place →
+            AreNumberedSides program.now numbers number self.old →
+            OnOk result (AreNumberedSides program.now (numbers ++ Some number ∷ []) number self.new) }
     {
         if is_send(program, place) {
             self.sends.push(place)?;
@@ -54,7 +56,8 @@ fn is_send(program: &LongProgram, place: usize) -> bool
 /// No sends and no takers, so many times.
 fn empty_sides(alloc: Global, count: usize) -> Result<Vec<Imbalance>, AllocError>
     ensures size { IfOk result (λ table. length table.items ≡ count) }
-    ensures each { IfOk result (λ table. (number : ℕ) (sides : Imbalance) → slice_get table.items number ≡ Some sides → (sides.sends.items ≡ []) × (sides.takers.items ≡ [])) }
+    ensures each { IfOk result (λ table. (number : ℕ) (sides : Imbalance) →
+        slice_get table.items number ≡ Some sides → (sides.sends.items ≡ []) × (sides.takers.items ≡ [])) }
 {
     let mut table = Vec::new(alloc);
     for _ in 0..count {

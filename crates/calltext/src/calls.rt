@@ -15,8 +15,10 @@ use std::alloc::{AllocError, Global};
 
 /// The name that stands first, and the words after it.
 fn first_name<'a, 'b>(words: &'a [&'b [u8]]) -> Option<(Name, &'a [&'b [u8]])>
-    ensures none { IfNone result ((name : List ℕ) (others : List (List ℕ)) → IsTrue (is_name name) → name ∷ others ≢ map (λ w. w.now) words.now) }
-    ensures some { IfSome result (λ split. IsTrue (is_name split.0) × (split.0 ∷ map (λ w. w.now) split.1.now ≡ map (λ w. w.now) words.now)) }
+    ensures none { IfNone result ((name : List ℕ) (others : List (List ℕ)) → IsTrue (is_name name) →
+        name ∷ others ≢ map (λ w. w.now) words.now) }
+    ensures some { IfSome result (λ split. IsTrue (is_name split.0) ×
+        (split.0 ∷ map (λ w. w.now) split.1.now ≡ map (λ w. w.now) words.now)) }
 {
     let [first, others @ ..] = words else {
         return None;
@@ -30,8 +32,10 @@ fn request_of<'a, 'b>(
     started: bool,
     words: &'a [&'b [u8]],
 ) -> Option<(Option<Name>, &'a [&'b [u8]])>
-    ensures none { IfNone result ((request : Option (List ℕ)) (others : List (List ℕ)) → IsRequest request → is_started request ≡ started → request_words request ++ others ≢ map (λ w. w.now) words.now) }
-    ensures some { IfSome result (λ split. IsRequest split.0 × (is_started split.0 ≡ started) × (request_words split.0 ++ map (λ w. w.now) split.1.now ≡ map (λ w. w.now) words.now)) }
+    ensures none { IfNone result ((request : Option (List ℕ)) (others : List (List ℕ)) → IsRequest request →
+        is_started request ≡ started → request_words request ++ others ≢ map (λ w. w.now) words.now) }
+    ensures some { IfSome result (λ split. IsRequest split.0 × (is_started split.0 ≡ started) ×
+        (request_words split.0 ++ map (λ w. w.now) split.1.now ≡ map (λ w. w.now) words.now)) }
 {
     if !started {
         return Some((None, words));
@@ -202,7 +206,8 @@ fn with_operands(alloc: Global, verb: Verb, words: &[&[u8]]) -> Result<Option<Ca
 /// The call line, where the words are one's. The only error is want of memory.
 pub fn call_of(alloc: Global, words: &[&[u8]]) -> Result<Option<CallLine>, AllocError>
     ensures none { IfOk result (λ found. IfNone found ((c : CallLine) → HasNames c → call_words c ≢ map (λ w. w.now) words.now)) }
-    ensures some { IfOk result (λ found. IfSome found (λ call. (c : CallLine) × HasNames c × (call_words c ≡ map (λ w. w.now) words.now) × (call ≡ capped_call c))) }
+    ensures some { IfOk result (λ found. IfSome found (λ call. (c : CallLine) × HasNames c ×
+        (call_words c ≡ map (λ w. w.now) words.now) × (call ≡ capped_call c))) }
 {
     let [first, operands @ ..] = words else {
         return Ok(None);

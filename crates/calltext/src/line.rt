@@ -129,8 +129,10 @@ fn rank_follows(words: &[&[u8]], next: u32, total: u32) -> bool
 
 /// The refused word that stands first.
 fn refused_in(words: &[&[u8]]) -> Option<RefusedWord>
-    ensures none { IfNone result ((place : ℕ) (others : List (List ℕ)) → place < length refused_words → refused_word place ∷ others ≢ map (λ x. x.now) words.now) }
-    ensures some { IfSome result (λ place. (place < length refused_words) × (others : List (List ℕ)) × (refused_word place ∷ others ≡ map (λ x. x.now) words.now)) }
+    ensures none { IfNone result ((place : ℕ) (others : List (List ℕ)) → place < length refused_words →
+        refused_word place ∷ others ≢ map (λ x. x.now) words.now) }
+    ensures some { IfSome result (λ place. (place < length refused_words) × (others : List (List ℕ)) ×
+        (refused_word place ∷ others ≡ map (λ x. x.now) words.now)) }
 {
     let [first, ..] = words else {
         return None;

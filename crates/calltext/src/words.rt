@@ -69,7 +69,8 @@ fn number_or_star(word: &[u8]) -> Option<Option<u32>>
 
 fn communicator_of(words: &[&[u8]]) -> Option<Option<u32>>
     ensures none { IfNone result ((n : Option ℕ) → communicator_words n ≢ map (λ w. w.now) words.now) }
-    ensures some { IfSome result (λ found. (n : Option ℕ) × (communicator_words n ≡ map (λ w. w.now) words.now) × (found ≡ capped_option n)) }
+    ensures some { IfSome result (λ found. (n : Option ℕ) ×
+        (communicator_words n ≡ map (λ w. w.now) words.now) × (found ≡ capped_option n)) }
 {
     match words {
         [] => Some(None),
@@ -97,7 +98,9 @@ pub struct PatternNumbers {
 /// A destination, a tag and perhaps a communicator.
 pub fn message_of(words: &[&[u8]]) -> Option<MessageNumbers>
     ensures none { IfNone result ((d t : ℕ) (k : Option ℕ) → message_words d t k ≢ map (λ w. w.now) words.now) }
-    ensures some { IfSome result (λ found. (d : ℕ) × (t : ℕ) × (k : Option ℕ) × (message_words d t k ≡ map (λ w. w.now) words.now) × (found.destination ≡ min d 2147483648) × (found.tag ≡ min t 2147483648) × (found.communicator ≡ capped_option k)) }
+    ensures some { IfSome result (λ found. (d : ℕ) × (t : ℕ) × (k : Option ℕ) ×
+        (message_words d t k ≡ map (λ w. w.now) words.now) × (found.destination ≡ min d 2147483648) ×
+        (found.tag ≡ min t 2147483648) × (found.communicator ≡ capped_option k)) }
 {
     let [destination, tag, others @ ..] = words else {
         return None;
@@ -115,7 +118,9 @@ pub fn message_of(words: &[&[u8]]) -> Option<MessageNumbers>
 /// A source and a tag, or a star in the place of each, and perhaps a communicator.
 pub fn pattern_of(words: &[&[u8]]) -> Option<PatternNumbers>
     ensures none { IfNone result ((s t k : Option ℕ) → pattern_words s t k ≢ map (λ w. w.now) words.now) }
-    ensures some { IfSome result (λ found. (s : Option ℕ) × (t : Option ℕ) × (k : Option ℕ) × (pattern_words s t k ≡ map (λ w. w.now) words.now) × (found.source ≡ capped_option s) × (found.tag ≡ capped_option t) × (found.communicator ≡ capped_option k)) }
+    ensures some { IfSome result (λ found. (s : Option ℕ) × (t : Option ℕ) × (k : Option ℕ) ×
+        (pattern_words s t k ≡ map (λ w. w.now) words.now) × (found.source ≡ capped_option s) ×
+        (found.tag ≡ capped_option t) × (found.communicator ≡ capped_option k)) }
 {
     let [source, tag, others @ ..] = words else {
         return None;

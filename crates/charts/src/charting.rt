@@ -318,7 +318,9 @@ fn put_find(
     stroke: u8,
     finder: usize,
 ) -> Result<(), AllocError>
-    ensures { OnOk result (out.new.items ≡ out.old.items ++ find_row_of ranks (slice_get calls.now send) link.now stroke (slice_get calls.now finder)) }
+    ensures { OnOk result (out.new.items ≡
+        out.old.items ++ find_row_of ranks (slice_get calls.now send) link.now stroke (slice_get calls.now
+        finder)) }
 {
     let Some(send) = calls.get(send) else {
         return end_line(out);

@@ -556,7 +556,9 @@ fn put_find(
     send: usize,
     finder: usize,
 ) -> Result<(), AllocError>
-    ensures { OnOk result (out.new.items ≡ out.old.items ++ drawn_find_of ranks count sent column look.chosen (slice_get calls.now send) look.sees (slice_get calls.now finder)) }
+    ensures { OnOk result (out.new.items ≡
+        out.old.items ++ drawn_find_of ranks count sent column look.chosen (slice_get calls.now send)
+        look.sees (slice_get calls.now finder)) }
 {
     let Some(send) = calls.get(send) else {
         return Ok(());
@@ -579,7 +581,9 @@ fn put_drawn_arrow(
     marks: &[bool],
     step: Placed,
 ) -> Result<(), AllocError>
-    ensures { OnOk result (out.new.items ≡ out.old.items ++ drawn_arrow ranks calls.now placed.now.count (slice_index placed.now.issues.items) marks.now step.column step.act) }
+    ensures { OnOk result (out.new.items ≡
+        out.old.items ++ drawn_arrow ranks calls.now placed.now.count (slice_index placed.now.issues.items)
+        marks.now step.column step.act) }
 {
     let (send, sees, finder) = match step.act {
         Act::Issue { .. } => return Ok(()),
@@ -611,7 +615,9 @@ fn put_arrows(
     placed: &Columns,
     marks: &[bool],
 ) -> Result<(), AllocError>
-    ensures { OnOk result (out.new.items ≡ out.old.items ++ flat_map (arrow_of ranks calls.now placed.now.count (slice_index placed.now.issues.items) marks.now) placed.now.steps.items) }
+    ensures { OnOk result (out.new.items ≡
+        out.old.items ++ flat_map (arrow_of ranks calls.now placed.now.count (slice_index
+        placed.now.issues.items) marks.now) placed.now.steps.items) }
 {
     for step in &placed.steps {
         put_drawn_arrow(out, ranks, calls, placed, marks, *step)?;
@@ -762,7 +768,9 @@ fn put_rank_end(
     placed: &Columns,
     rank: u32,
 ) -> Result<(), AllocError>
-    ensures { OnOk result (out.new.items ≡ out.old.items ++ rank_end program.now end.now calls.now placed.now.count (slice_index placed.now.issues.items) rank) }
+    ensures { OnOk result (out.new.items ≡
+        out.old.items ++ rank_end program.now end.now calls.now placed.now.count (slice_index
+        placed.now.issues.items) rank) }
 {
     if end.is_rank_finished(program, rank) {
         return put_finished(out, placed.count, rank);
@@ -784,7 +792,9 @@ fn put_row(
     cycle: &[u32],
     rank: u32,
 ) -> Result<(), AllocError>
-    ensures { OnOk result (out.new.items ≡ out.old.items ++ row program.now end.now calls.now placed.now.count (slice_index placed.now.issues.items) cycle.now rank) }
+    ensures { OnOk result (out.new.items ≡
+        out.old.items ++ row program.now end.now calls.now placed.now.count (slice_index
+        placed.now.issues.items) cycle.now rank) }
 {
     put_parts(
         out,
@@ -809,7 +819,9 @@ fn put_rows(
     placed: &Columns,
     cycle: &[u32],
 ) -> Result<(), AllocError>
-    ensures { OnOk result (out.new.items ≡ out.old.items ++ columns (row program.now end.now calls.now placed.now.count (slice_index placed.now.issues.items) cycle.now) program.now.ranks) }
+    ensures { OnOk result (out.new.items ≡
+        out.old.items ++ columns (row program.now end.now calls.now placed.now.count (slice_index
+        placed.now.issues.items) cycle.now) program.now.ranks) }
 {
     for rank in 0..program.ranks() {
         put_row(out, alloc, program, end, calls, placed, cycle, rank)?;
@@ -1025,7 +1037,9 @@ fn put_picture(
     marks: &[bool],
     before: usize,
 ) -> Result<(), AllocError>
-    ensures { OnOk result (out.new.items ≡ out.old.items ++ picture_at well program.now end.now calls.now placed.now.count (slice_index placed.now.issues.items) placed.now.steps.items cycle.now marks.now before) }
+    ensures { OnOk result (out.new.items ≡
+        out.old.items ++ picture_at well program.now end.now calls.now placed.now.count (slice_index
+        placed.now.issues.items) placed.now.steps.items cycle.now marks.now before) }
 {
     let ranks = program.ranks();
     put_top(out, well, ranks, placed.count)?;
@@ -1050,7 +1064,10 @@ fn picture_of(
     marks: &[bool],
     before: usize,
 ) -> Result<Vec<u8>, AllocError>
-    ensures { IfOk result (λ picture. picture.items ≡ picture_at well program.now end.now calls.now placed.now.count (slice_index placed.now.issues.items) placed.now.steps.items cycle.now marks.now before) }
+    ensures { IfOk result (λ picture.
+        picture.items ≡
+        picture_at well program.now end.now calls.now placed.now.count (slice_index placed.now.issues.items)
+        placed.now.steps.items cycle.now marks.now before) }
 {
     let mut out = Vec::new(alloc);
     put_picture(

@@ -187,7 +187,10 @@ fn raise(
 impl Columns {
     /// Adds a step in a column.
     fn push(&mut self, act: Act, column: usize) -> Result<(), AllocError>
-        ensures { OnOk result ((self.new.steps.items ≡ self.old.steps.items ++ record { act = act; column = column } ∷ []) × (self.new.rows ≡ self.old.rows) × (self.new.issues ≡ self.old.issues) × (column < self.new.count) × (self.old.count ≤ self.new.count)) }
+        ensures { OnOk result ((self.new.steps.items ≡
+            self.old.steps.items ++ record { act = act; column = column } ∷ []) ×
+            (self.new.rows ≡ self.old.rows) × (self.new.issues ≡ self.old.issues) ×
+            (column < self.new.count) × (self.old.count ≤ self.new.count)) }
     {
         let next = next_column(column)?;
         self.steps.push(Placed { act, column })?;

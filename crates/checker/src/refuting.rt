@@ -39,7 +39,8 @@ fn has_counts(refutation: &Refutation, formula: &Formula) -> bool
 /// Whether each line is needed, where the refutation has version 2.
 fn check_needed(alloc: Global, refutation: &Refutation) -> Result<(), Reason>
     ensures needed { IfOk result (λ done. AreNeeded refutation.now) }
-    ensures reason { IfErr result (λ reason. (reason ≡ Reason.Memory) ⊎ ((number : ℕ) × (reason ≡ Reason.Unneeded number) × IsUnneeded number refutation.now)) }
+    ensures reason { IfErr result (λ reason. (reason ≡ Reason.Memory) ⊎ ((number : ℕ) ×
+        (reason ≡ Reason.Unneeded number) × IsUnneeded number refutation.now)) }
 {
     match refutation.version() {
         Version::One => Ok(()),

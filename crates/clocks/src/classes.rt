@@ -63,7 +63,8 @@ fn is_none_from(program: &LongProgram, end: usize, rank: u32) -> bool
 
 /// Whether two sends have the same destination, communicator and tag.
 fn have_one_message(program: &LongProgram, one: usize, other: usize) -> bool
-    ensures { IsTrue result → IsTrue (are_of_one_rank program.now one other) → (finder : ℕ) → IsTrue (are_fit program.now other finder) → IsTrue (are_fit program.now one finder) }
+    ensures { IsTrue result → IsTrue (are_of_one_rank program.now one other) → (finder : ℕ) →
+        IsTrue (are_fit program.now other finder) → IsTrue (are_fit program.now one finder) }
 {
     match program.call(one) {
         None => false,
@@ -83,7 +84,9 @@ fn have_same(one: Option<Message>, other: Option<Message>) -> bool
 
 /// Whether the one is an earlier send of the rank of the other, with the same envelope.
 fn is_earlier(program: &LongProgram, earlier: usize, other: usize) -> bool
-    ensures { IsTrue result → (earlier < other) × IsTrue (are_of_one_rank program.now earlier other) × ((finder : ℕ) → IsTrue (are_fit program.now other finder) → IsTrue (are_fit program.now earlier finder)) }
+    ensures { IsTrue result → (earlier < other) × IsTrue (are_of_one_rank program.now earlier other) ×
+        ((finder : ℕ) → IsTrue (are_fit program.now other finder) →
+        IsTrue (are_fit program.now earlier finder)) }
 {
     earlier < other
         && program.are_of_one_rank(earlier, other)
@@ -94,7 +97,8 @@ fn is_earlier(program: &LongProgram, earlier: usize, other: usize) -> bool
 /// send that is not taken it is the number of calls.
 pub fn end_open(program: &LongProgram, state: &State, names: &[usize], other: usize) -> usize
     requires { AreSpans program.now (block_of names.now) }
-    ensures { (finder : ℕ) → result ≤ finder → IsTrue (are_fit program.now other finder) → IsTaken (block_of names.now) state.now other finder }
+    ensures { (finder : ℕ) → result ≤ finder → IsTrue (are_fit program.now other finder) →
+        IsTaken (block_of names.now) state.now other finder }
 {
     match state.partner(other) {
         None => program.calls().len(),
@@ -180,7 +184,8 @@ impl Classes {
         other: usize,
     ) -> usize
         requires { AreSpans program.now (block_of names.now) }
-        ensures { (finder : ℕ) → finder < result → IsTrue (are_fit program.now other finder) → HasEarlier program.now (block_of names.now) state.now other finder }
+        ensures { (finder : ℕ) → finder < result → IsTrue (are_fit program.now other finder) →
+            HasEarlier program.now (block_of names.now) state.now other finder }
     {
         let Some(earlier) = self.previous.get(other).copied().unwrap_or(None) else {
             return 0;

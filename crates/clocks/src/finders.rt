@@ -69,7 +69,9 @@ fn list(
     call: usize,
 ) -> Result<(), AllocError>
     requires { AreSpans program.now (block_of names.now) }
-    ensures { OnOk result (AreListedUpTo program.now (block_of names.now) call listed.old.items before.old.items → AreListedUpTo program.now (block_of names.now) (call + 1) listed.new.items before.new.items) }
+    ensures { OnOk result (AreListedUpTo program.now (block_of names.now) call listed.old.items
+        before.old.items →
+        AreListedUpTo program.now (block_of names.now) (call + 1) listed.new.items before.new.items) }
 {
     before.push(listed.len())?;
     if !may_race(program, names, call) {
@@ -128,7 +130,8 @@ fn column_of(columns: &Columns, number: usize) -> usize {
 
 /// The reach, or an empty one behind it, where the column is another one.
 fn in_column(reach: Reach, column: usize) -> Reach
-    ensures { (numbering : Numbering) (listed : List ℕ) (last : ℕ) → IsReach numbering listed last reach → IsReach numbering listed last result }
+    ensures { (numbering : Numbering) (listed : List ℕ) (last : ℕ) → IsReach numbering listed last reach →
+        IsReach numbering listed last result }
 {
     if reach.column == column {
         return reach;
@@ -219,7 +222,9 @@ impl Finders {
     /// found.
     pub fn first_unknown(&self, columns: &Columns, count: &Count, place: usize) -> usize
         requires { AreReaches columns.now self.now.listed self.now.reaches }
-        ensures { (known : ℕ → Bool) → IsCount columns.now known count.now.column count.now.count → (i finder : ℕ) → place ≤ i → i < result → slice_get self.now.listed i ≡ Some finder → IsTrue (known finder) }
+        ensures { (known : ℕ → Bool) → IsCount columns.now known count.now.column count.now.count →
+            (i finder : ℕ) → place ≤ i → i < result → slice_get self.now.listed i ≡ Some finder →
+            IsTrue (known finder) }
     {
         if count.count == 0 {
             return place;

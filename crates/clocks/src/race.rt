@@ -114,8 +114,10 @@ fn is_no_race(
     other: usize,
 ) -> bool
     requires { AreSpans program.now (block_of names.now) }
-    ensures none { IsTrue result → (knows : Table) → AreTold columns.now knows told.now → IsNoRace program.now (block_of names.now) state.now knows finder own other }
-    ensures rival { result ≡ false → partner_of state.now finder ≡ Some own → IsRivalIfSingle program.now (block_of names.now) state.now other finder }
+    ensures none { IsTrue result → (knows : Table) → AreTold columns.now knows told.now →
+        IsNoRace program.now (block_of names.now) state.now knows finder own other }
+    ensures rival { result ≡ false → partner_of state.now finder ≡ Some own →
+        IsRivalIfSingle program.now (block_of names.now) state.now other finder }
 {
     if !program.are_fit(other, finder) {
         return true;
@@ -140,7 +142,9 @@ fn is_no_race_if_found(
     other: usize,
 ) -> bool
     requires { AreSpans program.now (block_of names.now) }
-    ensures none { IsTrue result → (knows : Table) → AreTold columns.now knows told.now → (own : ℕ) → partner_of state.now finder ≡ Some own → IsNoRace program.now (block_of names.now) state.now knows finder own other }
+    ensures none { IsTrue result → (knows : Table) → AreTold columns.now knows told.now → (own : ℕ) →
+        partner_of state.now finder ≡ Some own →
+        IsNoRace program.now (block_of names.now) state.now knows finder own other }
     ensures rival { result ≡ false → IsRivalIfSingle program.now (block_of names.now) state.now other finder }
 {
     match state.partner(finder) {
@@ -159,7 +163,8 @@ fn first_unknown(
     place: usize,
 ) -> usize
     requires { AreReaches columns.now finders.now.listed finders.now.reaches }
-    ensures { (knows : Table) → AreTold columns.now knows told.now → (i finder : ℕ) → place ≤ i → i < result → slice_get finders.now.listed i ≡ Some finder → IsTrue (knows send finder) }
+    ensures { (knows : Table) → AreTold columns.now knows told.now → (i finder : ℕ) → place ≤ i → i < result →
+        slice_get finders.now.listed i ≡ Some finder → IsTrue (knows send finder) }
 {
     match count_at(told, send) {
         None => place,
@@ -184,9 +189,12 @@ fn race_at(
     requires asked { IsAsked program.now exact.old }
     ensures partners { exact.new.partners ≡ exact.old.partners }
     ensures asked { IsAsked program.now exact.new }
-    ensures none { IfOk result (λ found. IfNone found (ShowsFrom program.now (with_partners exact.old.partners) columns.now told.now (IsLookedAt program.now (block_of names.now) state.now finders.now.listed place other))) }
+    ensures none { IfOk result (λ found.
+        IfNone found (ShowsFrom program.now (with_partners exact.old.partners) columns.now told.now
+        (IsLookedAt program.now (block_of names.now) state.now finders.now.listed place other))) }
     ensures rival { IfOk result (λ found. IfSome found (IsRivalIfSingle program.now (block_of names.now) state.now other)) }
-    ensures unordered { IfOk result (λ found. IfSome found (λ finder. IsUnorderedBy program.now (with_partners exact.old.partners) other finder)) }
+    ensures unordered { IfOk result (λ found. IfSome found (λ finder.
+        IsUnorderedBy program.now (with_partners exact.old.partners) other finder)) }
 {
     let Some(finder) = finders.at(place) else {
         return Ok(None);
@@ -221,9 +229,14 @@ fn race_between(
     requires asked { IsAsked program.now exact.old }
     ensures partners { exact.new.partners ≡ exact.old.partners }
     ensures asked { IsAsked program.now exact.new }
-    ensures none { IfOk result (λ found. IfNone found (ShowsFrom program.now (with_partners exact.old.partners) columns.now told.now (λ more. (finder own : ℕ) → first ≤ finder → finder < end → partner_of state.now finder ≡ Some own → IsTrue (are_fit program.now own finder) → IsNoRace program.now (block_of names.now) state.now more finder own other))) }
+    ensures none { IfOk result (λ found.
+        IfNone found (ShowsFrom program.now (with_partners exact.old.partners) columns.now told.now (λ more.
+        (finder own : ℕ) → first ≤ finder → finder < end → partner_of state.now finder ≡ Some own →
+        IsTrue (are_fit program.now own finder) →
+        IsNoRace program.now (block_of names.now) state.now more finder own other))) }
     ensures rival { IfOk result (λ found. IfSome found (IsRivalIfSingle program.now (block_of names.now) state.now other)) }
-    ensures unordered { IfOk result (λ found. IfSome found (λ finder. IsUnorderedBy program.now (with_partners exact.old.partners) other finder)) }
+    ensures unordered { IfOk result (λ found. IfSome found (λ finder.
+        IsUnorderedBy program.now (with_partners exact.old.partners) other finder)) }
 {
     let low = first_unknown(columns, told, finders, other, finders.before(first));
     let high = finders.before(end);
@@ -271,9 +284,12 @@ fn race_of_send(
     requires asked { IsAsked program.now exact.old }
     ensures partners { exact.new.partners ≡ exact.old.partners }
     ensures asked { IsAsked program.now exact.new }
-    ensures none { IfOk result (λ found. IfNone found (ShowsFrom program.now (with_partners exact.old.partners) columns.now told.now (λ more. IsChecked program.now (block_of names.now) state.now more other))) }
+    ensures none { IfOk result (λ found.
+        IfNone found (ShowsFrom program.now (with_partners exact.old.partners) columns.now told.now (λ more.
+        IsChecked program.now (block_of names.now) state.now more other))) }
     ensures rival { IfOk result (λ found. IfSome found (IsRivalIfSingle program.now (block_of names.now) state.now other)) }
-    ensures unordered { IfOk result (λ found. IfSome found (λ finder. IsUnorderedBy program.now (with_partners exact.old.partners) other finder)) }
+    ensures unordered { IfOk result (λ found. IfSome found (λ finder.
+        IsUnorderedBy program.now (with_partners exact.old.partners) other finder)) }
 {
     if !state.is_issued(program, other) {
         return Ok(None);
@@ -305,8 +321,11 @@ fn race_in(
     requires spans { AreSpans program.now (block_of names.now) }
     requires listing { IsListing program.now (block_of names.now) columns.now finders.now }
     requires asked { IsAsked program.now exact.old }
-    ensures none { IfOk result (λ found. IfNone found (ShowsFrom program.now (with_partners exact.old.partners) columns.now told.now (λ more. (other : ℕ) → IsChecked program.now (block_of names.now) state.now more other))) }
-    ensures rival { IfOk result (λ found. IfSome found (λ race. IsRivalIfSingle program.now (block_of names.now) state.now race.send race.finder)) }
+    ensures none { IfOk result (λ found.
+        IfNone found (ShowsFrom program.now (with_partners exact.old.partners) columns.now told.now (λ more.
+        (other : ℕ) → IsChecked program.now (block_of names.now) state.now more other))) }
+    ensures rival { IfOk result (λ found. IfSome found (λ race.
+        IsRivalIfSingle program.now (block_of names.now) state.now race.send race.finder)) }
     ensures unordered { IfOk result (λ found. IfSome found (IsUnordered program.now (with_partners exact.old.partners))) }
 {
     for send in 0..program.calls().len() {
@@ -361,8 +380,10 @@ fn partners_of(
     names: &[usize],
 ) -> Result<Vec<Option<usize>>, AllocError>
     requires { IsConfigurationOf program.now state.now }
-    ensures sure { IfOk result (λ partners. (c x : ℕ) → partner_of (with_partners partners.items) c ≡ Some x → IsSurePartner (block_of names.now) state.now c x) }
-    ensures all { IfOk result (λ partners. ((c : ℕ) → IsSingle (block_of names.now) c) → (c : ℕ) → partner_of (with_partners partners.items) c ≡ partner_of state.now c) }
+    ensures sure { IfOk result (λ partners. (c x : ℕ) → partner_of (with_partners partners.items) c ≡ Some x →
+        IsSurePartner (block_of names.now) state.now c x) }
+    ensures all { IfOk result (λ partners. ((c : ℕ) → IsSingle (block_of names.now) c) → (c : ℕ) →
+        partner_of (with_partners partners.items) c ≡ partner_of state.now c) }
 {
     let mut partners = Vec::new(alloc);
     for call in 0..program.calls().len() {
@@ -419,8 +440,10 @@ fn race_by(
     requires spans { AreSpans program.now (block_of names.now) }
     requires of { IsConfigurationOf program.now state.now }
     ensures none { IfOk result (λ found. IfNone found (HasNoRaceShown program.now state.now)) }
-    ensures rival { IfOk result (λ found. IfSome found (λ race. IsRivalIfSingle program.now (block_of names.now) state.now race.send race.finder)) }
-    ensures unordered { IfOk result (λ found. IfSome found (λ race. ((c : ℕ) → IsSingle (block_of names.now) c) → IsUnordered program.now state.now race)) }
+    ensures rival { IfOk result (λ found. IfSome found (λ race.
+        IsRivalIfSingle program.now (block_of names.now) state.now race.send race.finder)) }
+    ensures unordered { IfOk result (λ found. IfSome found (λ race. ((c : ℕ) →
+        IsSingle (block_of names.now) c) → IsUnordered program.now state.now race)) }
 {
     let _calls = program.calls();
     let partners = partners_of(alloc, program, state, names)?;

@@ -38,7 +38,9 @@ pub fn partner(partners: &[Option<usize>], call: usize) -> Option<usize>
 
 /// The operation that is done where this call has returned, if there is one that may have to wait.
 pub fn done_by_return(program: &LongProgram, call: usize) -> Option<usize>
-    ensures { IfSome result (λ operation. (e : Configuration) → Leads (λ knows f. tells_done program.now e knows operation f) (λ knows f. tells_return_call program.now e knows call (call_at program.now call) f)) }
+    ensures { IfSome result (λ operation. (e : Configuration) →
+        Leads (λ knows f. tells_done program.now e knows operation f) (λ knows f.
+        tells_return_call program.now e knows call (call_at program.now call) f)) }
 {
     match program.call(call)?.kind {
         Kind::Send { blocking: true, .. }
@@ -63,7 +65,9 @@ fn received_on(program: &LongProgram, taker: usize) -> Option<usize>
 /// Whether something is told where a send of this mode is done, which is so where it isn't
 /// buffered.
 fn is_told_by_send(program: &LongProgram, mode: Mode) -> bool
-    ensures { IsTrue result → (e : Configuration) (send : ℕ) → Leads (λ knows f. tells_fetch program.now e knows send f) (λ knows f. tells_sent program.now e knows send mode f) }
+    ensures { IsTrue result → (e : Configuration) (send : ℕ) →
+        Leads (λ knows f. tells_fetch program.now e knows send f) (λ knows f.
+        tells_sent program.now e knows send mode f) }
 {
     match mode {
         Mode::Standard => matches!(program.policy(), Policy::Never),
@@ -84,7 +88,8 @@ fn nothing() -> Found
 
 /// What has happened where the send's message is fetched.
 fn fetched(program: &LongProgram, partners: &[Option<usize>], send: usize) -> Found
-    ensures { Leads (λ knows f. tells_found (with_partners partners.now) knows result f) (λ knows f. tells_fetch program.now (with_partners partners.now) knows send f) }
+    ensures { Leads (λ knows f. tells_found (with_partners partners.now) knows result f) (λ knows f.
+        tells_fetch program.now (with_partners partners.now) knows send f) }
 {
     match partner(partners, send) {
         None => nothing(),
@@ -97,7 +102,8 @@ fn fetched(program: &LongProgram, partners: &[Option<usize>], send: usize) -> Fo
 
 /// What has happened where the operation is done.
 fn done(program: &LongProgram, partners: &[Option<usize>], operation: usize) -> Found
-    ensures { Leads (λ knows f. tells_found (with_partners partners.now) knows result f) (λ knows f. tells_done program.now (with_partners partners.now) knows operation f) }
+    ensures { Leads (λ knows f. tells_found (with_partners partners.now) knows result f) (λ knows f.
+        tells_done program.now (with_partners partners.now) knows operation f) }
 {
     let Some(call) = program.call(operation) else {
         return nothing();
@@ -120,7 +126,8 @@ fn done(program: &LongProgram, partners: &[Option<usize>], operation: usize) -> 
 
 /// What has happened where the call has returned.
 fn returned(program: &LongProgram, partners: &[Option<usize>], call: usize) -> Found
-    ensures { Leads (λ knows f. tells_found (with_partners partners.now) knows result f) (λ knows f. tells_return_call program.now (with_partners partners.now) knows call (call_at program.now call) f) }
+    ensures { Leads (λ knows f. tells_found (with_partners partners.now) knows result f) (λ knows f.
+        tells_return_call program.now (with_partners partners.now) knows call (call_at program.now call) f) }
 {
     match done_by_return(program, call) {
         None => nothing(),
@@ -131,7 +138,8 @@ fn returned(program: &LongProgram, partners: &[Option<usize>], call: usize) -> F
 /// What has happened where the call is issued: that the one before it in its rank is, and has
 /// returned.
 pub fn read_for(program: &LongProgram, partners: &[Option<usize>], call: usize) -> Read
-    ensures { Leads (λ knows f. tells_read (with_partners partners.now) knows result f) (λ knows f. tells_issue program.now (with_partners partners.now) knows call f) }
+    ensures { Leads (λ knows f. tells_read (with_partners partners.now) knows result f) (λ knows f.
+        tells_issue program.now (with_partners partners.now) knows call f) }
 {
     if call > 0 {
         let before = call - 1;

@@ -106,7 +106,8 @@ fn row_from(
     rows: &[Vec<usize>],
     read: &Read,
 ) -> Result<Vec<usize>, AllocError>
-    ensures { IfOk result (λ row. (knows : Table) → AreRows columns.now knows rows.now → IsRow columns.now (λ f. tells_read (with_partners partners.now) knows read.now f) row.items) }
+    ensures { IfOk result (λ row. (knows : Table) → AreRows columns.now knows rows.now →
+        IsRow columns.now (λ f. tells_read (with_partners partners.now) knows read.now f) row.items) }
 {
     let mut row = vec![in alloc; 0; columns.count()]?;
     add_read(columns, partners, rows, &mut row, read);
@@ -115,7 +116,8 @@ fn row_from(
 
 /// The count of the row that is asked later: that of the column of the rank that the call sends to.
 fn count_for(program: &LongProgram, columns: &Columns, row: &[usize], call: usize) -> Count
-    ensures { (numbering : Numbering) (known : ℕ → Bool) → IsRow numbering known row.now → IsCount numbering known result.column result.count }
+    ensures { (numbering : Numbering) (known : ℕ → Bool) → IsRow numbering known row.now →
+        IsCount numbering known result.column result.count }
 {
     let column = destination_column(program, columns, call).unwrap_or(0);
     Count {
@@ -132,7 +134,9 @@ fn destination_column(program: &LongProgram, columns: &Columns, call: usize) -> 
 
 /// Puts the count in the call's place.
 fn tell(told: &mut Vec<Count>, call: usize, count: Count)
-    ensures { (numbering : Numbering) (knows more : Table) → AreTold numbering knows told.old.items → ((c f : ℕ) → IsTrue (knows c f) → IsTrue (more c f)) → IsCount numbering (more call) count.column count.count → AreTold numbering more told.new.items }
+    ensures { (numbering : Numbering) (knows more : Table) → AreTold numbering knows told.old.items →
+        ((c f : ℕ) → IsTrue (knows c f) → IsTrue (more c f)) →
+        IsCount numbering (more call) count.column count.count → AreTold numbering more told.new.items }
 {
     if let Some(place) = told.get_mut(call) {
         *place = count;
@@ -141,7 +145,9 @@ fn tell(told: &mut Vec<Count>, call: usize, count: Count)
 
 /// Puts the row in the call's place, if it will be read.
 fn put(rows: &mut Vec<Vec<usize>>, reads: &[usize], call: usize, row: Vec<usize>)
-    ensures { (numbering : Numbering) (knows more : Table) → AreRows numbering knows rows.old.items → ((c f : ℕ) → IsTrue (knows c f) → IsTrue (more c f)) → IsRow numbering (more call) row.items → AreRows numbering more rows.new.items }
+    ensures { (numbering : Numbering) (knows more : Table) → AreRows numbering knows rows.old.items →
+        ((c f : ℕ) → IsTrue (knows c f) → IsTrue (more c f)) → IsRow numbering (more call) row.items →
+        AreRows numbering more rows.new.items }
 {
     if reads.get(call).copied().unwrap_or(0) == 0 {
         return;
@@ -205,7 +211,10 @@ fn note(
     known: &mut Known,
     call: usize,
 ) -> Result<(), AllocError>
-    ensures { OnOk result (AreSound program.now (with_partners partners.now) columns.now known.old.rows.items known.old.told.items → AreSound program.now (with_partners partners.now) columns.now known.new.rows.items known.new.told.items) }
+    ensures { OnOk result (AreSound program.now (with_partners partners.now) columns.now known.old.rows.items
+        known.old.told.items →
+        AreSound program.now (with_partners partners.now) columns.now known.new.rows.items
+        known.new.told.items) }
 {
     let read = read_for(program, partners, call);
     let row = row_from(alloc, columns, partners, known.rows.as_slice(), &read)?;
@@ -231,7 +240,10 @@ fn take_step(
     known: &mut Known,
     step: &Step,
 ) -> Result<(), AllocError>
-    ensures { OnOk result (AreSound program.now (with_partners partners.now) columns.now known.old.rows.items known.old.told.items → AreSound program.now (with_partners partners.now) columns.now known.new.rows.items known.new.told.items) }
+    ensures { OnOk result (AreSound program.now (with_partners partners.now) columns.now known.old.rows.items
+        known.old.told.items →
+        AreSound program.now (with_partners partners.now) columns.now known.new.rows.items
+        known.new.told.items) }
 {
     match step {
         Step::Issue { rank, .. } => {

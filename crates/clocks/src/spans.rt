@@ -86,7 +86,8 @@ fn is_prompt(program: &LongProgram, call: usize) -> bool
 /// Whether the receive is of the rank of the probe and behind it, and each call between them
 /// returns at once.
 fn is_received_at_once(program: &LongProgram, probe: usize, receive: usize) -> bool
-    ensures { IsTrue result → (probe < receive) × IsTrue (are_of_one_rank program.now probe receive) × ((c : ℕ) → probe < c → c < receive → IsTrue (returns_at_once program.now c)) }
+    ensures { IsTrue result → (probe < receive) × IsTrue (are_of_one_rank program.now probe receive) ×
+        ((c : ℕ) → probe < c → c < receive → IsTrue (returns_at_once program.now c)) }
 {
     if receive <= probe {
         return false;

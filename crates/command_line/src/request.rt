@@ -368,7 +368,9 @@ fn is_each(matches: &ArgMatches<'_>) -> bool
 
 /// Whether an argument has two values or more, or a file for a report is named.
 fn are_several(matches: &ArgMatches<'_>, id: &str) -> bool
-    ensures { result ≡ has_two (texts_in (all_of id.now (rows_of (found_of matches.now)))) || is_some (first_of (codes "junit") (rows_of (found_of matches.now))) }
+    ensures { result ≡
+        has_two (texts_in (all_of id.now (rows_of (found_of matches.now)))) || is_some (first_of (codes
+        "junit") (rows_of (found_of matches.now))) }
 {
     has_two(matches, id) || matches.get_str(JUNIT).is_some()
 }
@@ -580,7 +582,8 @@ fn is_beside_ranks(matches: &ArgMatches<'_>) -> bool
 
 /// Whether the progress is to be told, or phases are asked for.
 fn is_one_told(matches: &ArgMatches<'_>) -> bool
-    ensures { result ≡ is_true (one_of (codes "progress") (rows_of (found_of matches.now))) || is_true (one_of (codes "phases") (rows_of (found_of matches.now))) }
+    ensures { result ≡ is_true (one_of (codes "progress") (rows_of (found_of matches.now))) || is_true (one_of
+        (codes "phases") (rows_of (found_of matches.now))) }
 {
     is_set(matches, PROGRESS) || is_set(matches, PHASES)
 }

@@ -141,8 +141,12 @@ fn put_standing(
 /// The lines on the ranks that wait, in rising order.
 fn lines(alloc: Global, program: &LongProgram, scene: &Scene<'_>) -> Result<Vec<u8>, AllocError>
     requires edges { (from to : ℕ) → HasEdge scene.now.awaited.items from to → WaitsFor program.now scene.now.state from to }
-    requires labels { (rank : ℕ) (standing : Standing) → slice_get scene.now.standings.items rank ≡ Some standing → IsLabelled scene.now.labels.items standing }
-    ensures { IfOk result (λ told. AreTold scene.now.labels.items program.now scene.now.state scene.now.standings.items (length scene.now.standings.items) told.items) }
+    requires labels { (rank : ℕ) (standing : Standing) →
+        slice_get scene.now.standings.items rank ≡ Some standing →
+        IsLabelled scene.now.labels.items standing }
+    ensures { IfOk result (λ told.
+        AreTold scene.now.labels.items program.now scene.now.state scene.now.standings.items (length
+        scene.now.standings.items) told.items) }
 {
     let mut out = Vec::new(alloc);
     for (rank, standing) in scene.standings.iter().enumerate() {

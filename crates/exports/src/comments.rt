@@ -56,7 +56,9 @@ fn put_found(
     send: usize,
     finder: usize,
 ) -> Result<(), AllocError>
-    ensures { OnOk result (out.new.items ≡ out.old.items ++ spaced (found_word (is_probe program.now finder) ∷ numeral (send + 1) ∷ numeral (finder + 1) ∷ [])) }
+    ensures { OnOk result (out.new.items ≡
+        out.old.items ++ spaced (found_word (is_probe program.now finder) ∷ numeral (send + 1) ∷ numeral
+        (finder + 1) ∷ [])) }
 {
     put_word(out, found_word(program.is_probe(finder)))?;
     put_call(out, send)?;
@@ -91,7 +93,8 @@ fn put_bit(
     event: &Event,
     place: usize,
 ) -> Result<(), AllocError>
-    ensures { OnOk result (out.new.items ≡ out.old.items ++ spaced (codes "bit" ∷ numeral (place + 1) ∷ codes "of" ∷ event_words program.now event.now)) }
+    ensures { OnOk result (out.new.items ≡ out.old.items ++ spaced (codes "bit" ∷ numeral (place + 1) ∷ codes
+        "of" ∷ event_words program.now event.now)) }
 {
     put_word(out, "bit")?;
     put_number(out, place as u128 + 1)?;
@@ -107,7 +110,9 @@ fn put_events(
     word: &str,
     second: &Event,
 ) -> Result<(), AllocError>
-    ensures { OnOk result (out.new.items ≡ out.old.items ++ spaced (event_words program.now first.now ++ word.now ∷ event_words program.now second.now)) }
+    ensures { OnOk result (out.new.items ≡
+        out.old.items ++ spaced (event_words program.now first.now ++ word.now ∷ event_words program.now
+        second.now)) }
 {
     put_event(out, program, first)?;
     put_word(out, word)?;
@@ -122,7 +127,9 @@ fn put_equal_bits(
     second: &Event,
     bits: usize,
 ) -> Result<(), AllocError>
-    ensures { OnOk result (out.new.items ≡ out.old.items ++ spaced (numeral bits ∷ codes "equal" ∷ codes "bits" ∷ codes "of" ∷ (event_words program.now first.now ++ codes "and" ∷ event_words program.now second.now))) }
+    ensures { OnOk result (out.new.items ≡ out.old.items ++ spaced (numeral bits ∷ codes "equal" ∷ codes
+        "bits" ∷ codes "of" ∷ (event_words program.now first.now ++ codes "and" ∷ event_words program.now
+        second.now))) }
 {
     put_number(out, bits as u128)?;
     put_word(out, "equal")?;

@@ -87,7 +87,8 @@ fn kept_clauses(alloc: Global, encoded: &Encoded) -> Result<Vec<Clause>, AllocEr
 /// The clauses that say that all ranks finish, in their normal forms; none where there are more
 /// than 4,000,000.
 fn ending_clauses(alloc: Global, encoded: &Encoded) -> Result<Option<Vec<Clause>>, AllocError>
-    ensures { IfOk result (λ found. IfSome found (λ clauses. clauses.items ≡ numbered encoded.now.program (all_ranks_finish encoded.now.program))) }
+    ensures { IfOk result (λ found. IfSome found (λ clauses.
+        clauses.items ≡ numbered encoded.now.program (all_ranks_finish encoded.now.program))) }
 {
     let variables = encoded.variables(alloc)?;
     let endings = all_ranks_finish(alloc, encoded.program())?;

@@ -85,7 +85,8 @@ pub fn waiting_in_send_satisfies()
 /// and the policy.
 pub fn formula_of_probe_and_wildcards()
     ensures variables { (formula_of probe_and_wildcards).variables ≡ 136 }
-    ensures clauses { signed_clauses (flat_map (numbered probe_and_wildcards) (take 9 (families probe_and_wildcards))) ≡ clauses_of_probe_and_wildcards }
+    ensures clauses { signed_clauses (flat_map (numbered probe_and_wildcards) (take 9 (families
+        probe_and_wildcards))) ≡ clauses_of_probe_and_wildcards }
 {}
 
 /// How many clauses each family of that program has.

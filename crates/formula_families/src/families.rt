@@ -141,7 +141,8 @@ fn some_is_unfinished(
     alloc: Global,
     source: &ProgramTables<'_>,
 ) -> Result<(), AllocError>
-    ensures { OnOk result (clauses.new ≡ clauses.old ++ (map (λ c. is_true (unfinished (rank_of source.now c))) (last_calls source.now)) ∷ []) }
+    ensures { OnOk result (clauses.new ≡ clauses.old ++ (map (λ c.
+        is_true (unfinished (rank_of source.now c))) (last_calls source.now)) ∷ []) }
 {
     let calls = last_calls(alloc, source.program())?;
     let mut clause = Vec::new(alloc);
@@ -202,7 +203,9 @@ fn add_where_taken(
     family: Family,
     place: usize,
 ) -> Result<(), AllocError>
-    ensures { OnOk result (clauses.new ≡ clauses.old ++ where_taken source.now (pair_at (pairs_of source.now) place) (taken_at source.now family place)) }
+    ensures { OnOk result (clauses.new ≡
+        clauses.old ++ where_taken source.now (pair_at (pairs_of source.now) place) (taken_at source.now
+        family place)) }
 {
     let (_send, finder) = source.pair(place);
     if source.program().is_probe(finder) {
@@ -219,7 +222,8 @@ fn add_where_seen(
     source: &ProgramTables<'_>,
     place: usize,
 ) -> Result<(), AllocError>
-    ensures { let pair = pair_at (pairs_of source.now) place in OnOk result (clauses.new ≡ clauses.old ++ where_seen source.now pair (see_clauses source.now pair.0 pair.1)) }
+    ensures { let pair = pair_at (pairs_of source.now) place in OnOk result (clauses.new ≡
+        clauses.old ++ where_seen source.now pair (see_clauses source.now pair.0 pair.1)) }
 {
     let (_send, finder) = source.pair(place);
     if !source.program().is_probe(finder) {

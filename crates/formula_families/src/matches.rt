@@ -44,7 +44,9 @@ fn without_later_takers(
     taker: usize,
     takers: &[usize],
 ) -> Result<(), AllocError>
-    ensures { OnOk result (clauses.new ≡ clauses.old ++ map (λ other. is_false (matched send taker) ∷ is_false (matched send other) ∷ []) (filter (nat_lt taker) takers.now)) }
+    ensures { OnOk result (clauses.new ≡ clauses.old ++ map (λ other.
+        is_false (matched send taker) ∷ is_false (matched send other) ∷ []) (filter (nat_lt taker)
+        takers.now)) }
 {
     let unmatched = Statement::Fails(Fact::Matched(send, taker));
     for other in takers {
@@ -63,7 +65,8 @@ fn without_later_sends(
     taker: usize,
     sends: &[usize],
 ) -> Result<(), AllocError>
-    ensures { OnOk result (clauses.new ≡ clauses.old ++ map (λ other. is_false (matched send taker) ∷ is_false (matched other taker) ∷ []) (filter (nat_lt send) sends.now)) }
+    ensures { OnOk result (clauses.new ≡ clauses.old ++ map (λ other.
+        is_false (matched send taker) ∷ is_false (matched other taker) ∷ []) (filter (nat_lt send) sends.now)) }
 {
     let unmatched = Statement::Fails(Fact::Matched(send, taker));
     for other in sends {
@@ -82,7 +85,9 @@ fn seen_before_taken(
     probe: usize,
     takers: &[usize],
 ) -> Result<(), AllocError>
-    ensures { OnOk result (clauses.new ≡ clauses.old ++ map (λ taker. is_false (matched send probe) ∷ is_false (matched send taker) ∷ is_earlier (match_of probe) (match_of taker) ∷ []) takers.now) }
+    ensures { OnOk result (clauses.new ≡ clauses.old ++ map (λ taker.
+        is_false (matched send probe) ∷ is_false (matched send taker) ∷ is_earlier (match_of probe) (match_of
+        taker) ∷ []) takers.now) }
 {
     let unseen = Statement::Fails(Fact::Matched(send, probe));
     for taker in takers {
@@ -101,7 +106,8 @@ pub fn see_clauses(
     source: &ProgramTables<'_>,
     place: usize,
 ) -> Result<(), AllocError>
-    ensures { let pair = pair_at (pairs_of source.now) place in OnOk result (clauses.new ≡ clauses.old ++ see_clauses source.now pair.0 pair.1) }
+    ensures { let pair = pair_at (pairs_of source.now) place in OnOk result (clauses.new ≡
+        clauses.old ++ see_clauses source.now pair.0 pair.1) }
 {
     let (send, probe) = source.pair(place);
     issued_before_match(clauses, send, probe)?;
@@ -146,7 +152,9 @@ fn matched_earlier(
     earlier: usize,
     others: &[usize],
 ) -> Result<(), AllocError>
-    ensures { OnOk result (clauses.new ≡ clauses.old ++ map (λ other. is_false (matched pair.0 pair.1) ∷ is_false (matched earlier other) ∷ is_earlier (match_of other) (match_of pair.1) ∷ []) others.now) }
+    ensures { OnOk result (clauses.new ≡ clauses.old ++ map (λ other.
+        is_false (matched pair.0 pair.1) ∷ is_false (matched earlier other) ∷ is_earlier (match_of other)
+        (match_of pair.1) ∷ []) others.now) }
 {
     let unmatched = Statement::Fails(Fact::Matched(pair.0, pair.1));
     for other in others {
@@ -184,7 +192,9 @@ pub fn sends_are_matched_before(
     source: &ProgramTables<'_>,
     place: usize,
 ) -> Result<(), AllocError>
-    ensures { let pair = pair_at (pairs_of source.now) place in OnOk result (clauses.new ≡ clauses.old ++ flat_map (send_is_matched_before source.now pair.0 pair.1) (earlier_sends source.now pair.0 pair.1)) }
+    ensures { let pair = pair_at (pairs_of source.now) place in OnOk result (clauses.new ≡
+        clauses.old ++ flat_map (send_is_matched_before source.now pair.0 pair.1) (earlier_sends source.now
+        pair.0 pair.1)) }
 {
     let pair = source.pair(place);
     for earlier in source.earlier_sends(place) {
@@ -221,7 +231,9 @@ pub fn takers_are_matched_before(
     source: &ProgramTables<'_>,
     place: usize,
 ) -> Result<(), AllocError>
-    ensures { let pair = pair_at (pairs_of source.now) place in OnOk result (clauses.new ≡ clauses.old ++ flat_map (taker_is_matched_before source.now pair.0 pair.1) (earlier_takers source.now pair.0 pair.1)) }
+    ensures { let pair = pair_at (pairs_of source.now) place in OnOk result (clauses.new ≡
+        clauses.old ++ flat_map (taker_is_matched_before source.now pair.0 pair.1) (earlier_takers source.now
+        pair.0 pair.1)) }
 {
     let pair = source.pair(place);
     for earlier in source.earlier_takers(place) {

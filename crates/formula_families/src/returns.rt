@@ -48,7 +48,8 @@ fn where_matched(
     sends: &[usize],
     statement: &Statement,
 ) -> Result<(), AllocError>
-    ensures { OnOk result (clauses.new ≡ clauses.old ++ map (λ send. is_false (issued call) ∷ is_false (matched send taker) ∷ statement.now ∷ []) sends.now) }
+    ensures { OnOk result (clauses.new ≡ clauses.old ++ map (λ send.
+        is_false (issued call) ∷ is_false (matched send taker) ∷ statement.now ∷ []) sends.now) }
 {
     let unissued = Statement::Fails(Fact::Issued(call));
     for send in sends {
@@ -97,7 +98,10 @@ fn fetched_earlier(
     pair: (usize, usize),
     otherwise: &[Statement],
 ) -> Result<(), AllocError>
-    ensures { OnOk result (clauses.new ≡ clauses.old ++ ((is_false (issued call) ∷ is_false (matched pair.0 pair.1) ∷ is_earlier (fetch_of source.now pair.1) (issue_of call) ∷ []) ++ otherwise.now) ∷ handle_is_received_on call pair.0 pair.1 otherwise.now (receive_on_handle source.now pair.1)) }
+    ensures { OnOk result (clauses.new ≡
+        clauses.old ++ ((is_false (issued call) ∷ is_false (matched pair.0 pair.1) ∷ is_earlier (fetch_of
+        source.now pair.1) (issue_of call) ∷ []) ++ otherwise.now) ∷ handle_is_received_on call pair.0 pair.1
+        otherwise.now (receive_on_handle source.now pair.1)) }
 {
     let unissued = Statement::Fails(Fact::Issued(call));
     let unmatched = Statement::Fails(Fact::Matched(pair.0, pair.1));

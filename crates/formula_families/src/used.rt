@@ -26,7 +26,8 @@ fn mark(marks: &mut [bool], most: usize, first: usize, second: usize)
 
 fn mark_statement(marks: &mut [bool], events: &Events<'_>, statement: &Statement)
     requires { length marks.old ≡ length (events_of events.now) * length (events_of events.now) }
-    ensures { (orders : List (ℕ × ℕ)) → AreMarks (length (events_of events.now)) orders marks.old → AreMarks (length (events_of events.now)) (orders ++ places_in events.now statement.now) marks.new }
+    ensures { (orders : List (ℕ × ℕ)) → AreMarks (length (events_of events.now)) orders marks.old →
+        AreMarks (length (events_of events.now)) (orders ++ places_in events.now statement.now) marks.new }
 {
     if let Statement::Earlier(first, second) = *statement {
         let most = events.len();
@@ -41,7 +42,9 @@ fn mark_statement(marks: &mut [bool], events: &Events<'_>, statement: &Statement
 
 fn mark_clause(marks: &mut [bool], events: &Events<'_>, clause: &[Statement])
     requires { length marks.old ≡ length (events_of events.now) * length (events_of events.now) }
-    ensures { (orders : List (ℕ × ℕ)) → AreMarks (length (events_of events.now)) orders marks.old → AreMarks (length (events_of events.now)) (orders ++ flat_map (places_in events.now) clause.now) marks.new }
+    ensures { (orders : List (ℕ × ℕ)) → AreMarks (length (events_of events.now)) orders marks.old →
+        AreMarks (length (events_of events.now)) (orders ++ flat_map (places_in events.now) clause.now)
+        marks.new }
 {
     for statement in clause {
         mark_statement(marks, events, statement);
@@ -50,7 +53,9 @@ fn mark_clause(marks: &mut [bool], events: &Events<'_>, clause: &[Statement])
 
 fn mark_clauses(marks: &mut [bool], events: &Events<'_>, clauses: &Symbolic<Statement>)
     requires { length marks.old ≡ length (events_of events.now) * length (events_of events.now) }
-    ensures { (orders : List (ℕ × ℕ)) → AreMarks (length (events_of events.now)) orders marks.old → AreMarks (length (events_of events.now)) (orders ++ flat_map (flat_map (places_in events.now)) clauses.now) marks.new }
+    ensures { (orders : List (ℕ × ℕ)) → AreMarks (length (events_of events.now)) orders marks.old →
+        AreMarks (length (events_of events.now)) (orders ++ flat_map (flat_map (places_in events.now))
+        clauses.now) marks.new }
 {
     for place in 0..clauses.len() {
         mark_clause(marks, events, clauses.clause(place));
@@ -69,7 +74,9 @@ fn mark_block(
 ) -> Result<(), AllocError>
     requires size { length marks.old ≡ length (events_of events.now) * length (events_of events.now) }
     requires one { events.now ≡ source.now }
-    ensures { OnOk result ((orders : List (ℕ × ℕ)) → AreMarks (length (events_of source.now)) orders marks.old → AreMarks (length (events_of source.now)) (orders ++ orders_of source.now block.now) marks.new) }
+    ensures { OnOk result ((orders : List (ℕ × ℕ)) →
+        AreMarks (length (events_of source.now)) orders marks.old →
+        AreMarks (length (events_of source.now)) (orders ++ orders_of source.now block.now) marks.new) }
 {
     put_block(clauses, alloc, source, block)?;
     mark_clauses(marks, events, clauses);
@@ -87,7 +94,9 @@ fn mark_family(
 ) -> Result<(), AllocError>
     requires size { length marks.old ≡ length (events_of events.now) * length (events_of events.now) }
     requires one { events.now ≡ source.now }
-    ensures { OnOk result ((orders : List (ℕ × ℕ)) → AreMarks (length (events_of source.now)) orders marks.old → AreMarks (length (events_of source.now)) (orders ++ orders_of_family source.now family) marks.new) }
+    ensures { OnOk result ((orders : List (ℕ × ℕ)) →
+        AreMarks (length (events_of source.now)) orders marks.old →
+        AreMarks (length (events_of source.now)) (orders ++ orders_of_family source.now family) marks.new) }
 {
     for place in 0..size_of(source, family) {
         let block = Block { family, place };
@@ -106,7 +115,10 @@ fn mark_families(
 ) -> Result<(), AllocError>
     requires size { length marks.old ≡ length (events_of events.now) * length (events_of events.now) }
     requires one { events.now ≡ source.now }
-    ensures { OnOk result ((orders : List (ℕ × ℕ)) → AreMarks (length (events_of source.now)) orders marks.old → AreMarks (length (events_of source.now)) (orders ++ flat_map (orders_of_family source.now) families.now) marks.new) }
+    ensures { OnOk result ((orders : List (ℕ × ℕ)) →
+        AreMarks (length (events_of source.now)) orders marks.old →
+        AreMarks (length (events_of source.now)) (orders ++ flat_map (orders_of_family source.now)
+        families.now) marks.new) }
 {
     let mut clauses = Symbolic::new(alloc);
     for family in families {
@@ -138,7 +150,9 @@ fn push_row(
 ) -> Result<(), AllocError>
     requires size { length marks.now ≡ most * most }
     requires first { first < most }
-    ensures { OnOk result ((orders : List (ℕ × ℕ)) → AreMarks most orders marks.now → used.new.items ≡ used.old.items ++ filter (is_among orders) (map (λ f. (first, f)) (between first most))) }
+    ensures { OnOk result ((orders : List (ℕ × ℕ)) → AreMarks most orders marks.now →
+        used.new.items ≡ used.old.items ++ filter (is_among orders) (map (λ f.
+        (first, f)) (between first most))) }
 {
     for second in first + 1..most {
         push_marked(used, marks[first * most + second], first, second)?;
@@ -149,7 +163,8 @@ fn push_row(
 /// The marked pairs, by the first place, then by the second.
 fn marked(alloc: Global, marks: &[bool], most: usize) -> Result<Vec<(usize, usize)>, AllocError>
     requires { length marks.now ≡ most * most }
-    ensures { IfOk result (λ used. (orders : List (ℕ × ℕ)) → AreMarks most orders marks.now → used.items ≡ filter (is_among orders) (event_pairs most)) }
+    ensures { IfOk result (λ used. (orders : List (ℕ × ℕ)) → AreMarks most orders marks.now →
+        used.items ≡ filter (is_among orders) (event_pairs most)) }
 {
     let mut used = Vec::new(alloc);
     for first in 0..most {

@@ -80,7 +80,8 @@ fn push_match(
 /// Adds the numbers of matches and sees.
 fn push_matches(slots: &mut Vec<usize>, program: &Program, calls: usize) -> Result<(), AllocError>
     requires { calls < 2 ^ 62 }
-    ensures { OnOk result (slots.new.items ≡ slots.old.items ++ map (λ t. calls + t) (filter (is_finder program.now) (range_with_len 0 calls))) }
+    ensures { OnOk result (slots.new.items ≡ slots.old.items ++ map (λ t.
+        calls + t) (filter (is_finder program.now) (range_with_len 0 calls))) }
 {
     for taker in 0..calls {
         push_match(slots, program, calls, taker)?;

@@ -28,7 +28,9 @@ fn put_well_part(
     well: Option<&[Step]>,
 ) -> Result<(), AllocError>
     requires { IfSome (option_copied well) (IsFinishedRun program.now) }
-    ensures { OnOk result ((part : List ℕ) × IsWellPart text.now source.now program.now (option_copied well.entry) part × (out.new.items ≡ out.old.items ++ part)) }
+    ensures { OnOk result ((part : List ℕ) ×
+        IsWellPart text.now source.now program.now (option_copied well.entry) part ×
+        (out.new.items ≡ out.old.items ++ part)) }
 {
     let Some(steps) = well else {
         return Ok(());
@@ -72,7 +74,8 @@ fn put_page(
     words: &[u8],
     drawn: &[u8],
 ) -> Result<(), AllocError>
-    ensures { OnOk result (out.new.items ≡ out.old.items ++ page_with words.now drawn.now (listing text.now program.now end.now calls.now)) }
+    ensures { OnOk result (out.new.items ≡
+        out.old.items ++ page_with words.now drawn.now (listing text.now program.now end.now calls.now)) }
 {
     put_text(out, HEAD)?;
     put_escaped(out, words)?;

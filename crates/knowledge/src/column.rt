@@ -25,7 +25,8 @@ fn take_out_untold(
     finder: usize,
     call: usize,
 ) -> bool
-    ensures covers { CoversJustified program.now (with_partners partners.now) finder known.old.items → CoversJustified program.now (with_partners partners.now) finder known.new.items }
+    ensures covers { CoversJustified program.now (with_partners partners.now) finder known.old.items →
+        CoversJustified program.now (with_partners partners.now) finder known.new.items }
     ensures fewer { result ≡ true → count_known known.new.items < count_known known.old.items }
     ensures same { result ≡ false → known.new.items ≡ known.old.items }
     ensures told { result ≡ false → IsTold program.now (with_partners partners.now) finder known.new.items call }
@@ -49,7 +50,8 @@ fn take_out_all_untold(
     known: &mut Vec<bool>,
     finder: usize,
 ) -> bool
-    ensures covers { CoversJustified program.now (with_partners partners.now) finder known.old.items → CoversJustified program.now (with_partners partners.now) finder known.new.items }
+    ensures covers { CoversJustified program.now (with_partners partners.now) finder known.old.items →
+        CoversJustified program.now (with_partners partners.now) finder known.new.items }
     ensures fewer { result ≡ true → count_known known.new.items < count_known known.old.items }
     ensures told { result ≡ false → (c : ℕ) → IsTold program.now (with_partners partners.now) finder known.new.items c }
 {
@@ -63,7 +65,8 @@ fn take_out_all_untold(
 
 /// Passes over all calls until one takes out none.
 fn settle(program: &LongProgram, partners: &[Option<usize>], known: &mut Vec<bool>, finder: usize)
-    ensures covers { CoversJustified program.now (with_partners partners.now) finder known.old.items → CoversJustified program.now (with_partners partners.now) finder known.new.items }
+    ensures covers { CoversJustified program.now (with_partners partners.now) finder known.old.items →
+        CoversJustified program.now (with_partners partners.now) finder known.new.items }
     ensures told { (c : ℕ) → IsTold program.now (with_partners partners.now) finder known.new.items c }
 {
     'passes: loop {
@@ -100,7 +103,9 @@ pub fn column_of(
     finder: usize,
 ) -> Result<Vec<bool>, AllocError>
     ensures justified { IfOk result (λ known. IsJustified program.now (with_partners partners.now) (column_table finder known.items)) }
-    ensures greatest { IfOk result (λ known. (knows : Table) → IsJustified program.now (with_partners partners.now) knows → (c : ℕ) → IsTrue (knows c finder) → IsTrue (column_table finder known.items c finder)) }
+    ensures greatest { IfOk result (λ known. (knows : Table) →
+        IsJustified program.now (with_partners partners.now) knows → (c : ℕ) → IsTrue (knows c finder) →
+        IsTrue (column_table finder known.items c finder)) }
 {
     let mut known = all_calls(alloc, program)?;
     for call in order {

@@ -129,7 +129,9 @@ pub fn tells_return(
     finder: usize,
     call: usize,
 ) -> bool
-    ensures { result ≡ tells_return_call program.now (with_partners partners.now) (column_table finder known.now) call (call_at program.now call) finder }
+    ensures { result ≡
+        tells_return_call program.now (with_partners partners.now) (column_table finder known.now) call
+        (call_at program.now call) finder }
 {
     match program.call(call) {
         None => false,

@@ -55,7 +55,8 @@ fn put_other(
     taken: Taken,
     send: usize,
 ) -> Result<(), AllocError>
-    ensures { OnOk result (AreOthersBelow program.now call taken send others.old.items → AreOthersBelow program.now call taken (send + 1) others.new.items) }
+    ensures { OnOk result (AreOthersBelow program.now call taken send others.old.items →
+        AreOthersBelow program.now call taken (send + 1) others.new.items) }
 {
     if !program.are_fit(send, call) {
         return Ok(());

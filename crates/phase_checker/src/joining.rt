@@ -47,7 +47,8 @@ fn deal_at(
     requires early { IsFirstEarly phases.now order.now early }
     requires before { IfSome early (λ first. place ≤ first) }
     requires places { length next.old ≡ program.now.ranks }
-    ensures dealt { IfOk result (λ done. (q : MpiProgram) → IsRest program.now next.old q → IsDealtAt phases.now order.now place program.now q next.new) }
+    ensures dealt { IfOk result (λ done. (q : MpiProgram) → IsRest program.now next.old q →
+        IsDealtAt phases.now order.now place program.now q next.new) }
     ensures why { IfErr result (λ why. (q : MpiProgram) → IsRest program.now next.old q → IsWrong phases.now order.now place q why) }
 {
     let Some(phase) = phases.get(order[place]) else {

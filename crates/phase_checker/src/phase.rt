@@ -122,7 +122,8 @@ impl Phase {
         requires places { length next.old ≡ program.now.ranks }
         ensures refused { result ≡ false → next.new ≡ next.old }
         ensures front { (q : MpiProgram) → IsRest program.now next.old q → (result ≡ true) ↔ IsFront q self.now.program }
-        ensures rest { (q : MpiProgram) → IsRest program.now next.old q → result ≡ true → IsRest program.now next.new (behind q self.now.program) }
+        ensures rest { (q : MpiProgram) → IsRest program.now next.old q → result ≡ true →
+            IsRest program.now next.new (behind q self.now.program) }
     {
         deal(program, &self.program, next)
     }

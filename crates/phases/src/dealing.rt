@@ -55,7 +55,8 @@ fn move_on(program: &LongProgram, calls: &[Call], next: &mut [usize]) -> usize
     requires ranks { (c : ℕ) (call : Call) → slice_get calls.now c ≡ Some call → call.rank < length next.old }
     ensures moved { IsMovedOn (take result calls.now) next.old next.new }
     ensures stand { StandFirst program.now calls.now next.old result }
-    ensures stops { (call : Call) → slice_get calls.now result ≡ Some call → StandsAt program.now (get_or next.new call.rank 0) call result → ⊥ }
+    ensures stops { (call : Call) → slice_get calls.now result ≡ Some call →
+        StandsAt program.now (get_or next.new call.rank 0) call result → ⊥ }
 {
     for (place, call) in calls.iter().enumerate() {
         let rank = call.rank as usize;

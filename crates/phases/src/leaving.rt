@@ -73,7 +73,8 @@ fn numbers_of(
 fn counted(traffic: Traffic, call: &Call) -> Traffic
     requires sent { traffic.sent < 9223372036854775807 }
     requires taken { traffic.taken < 9223372036854775807 }
-    ensures { (calls : List Call) (address : Address) → address_of call.now ≡ Some address → IsTraffic calls address traffic → IsTraffic (calls ++ call.now ∷ []) address result }
+    ensures { (calls : List Call) (address : Address) → address_of call.now ≡ Some address →
+        IsTraffic calls address traffic → IsTraffic (calls ++ call.now ∷ []) address result }
 {
     if call.kind.message().is_some() {
         Traffic {

@@ -63,7 +63,8 @@ pub fn heading_of(alloc: Global, text: &[u8]) -> Result<String, AllocError>
 
 /// What stands behind the first two lines of a map of the text with this heading.
 fn behind_heading<'a>(map: &'a [u8], text_heading: &[u8]) -> Result<&'a [u8], MapFault>
-    ensures ok { IfOk result (λ rest. text_lines map.now ≡ (codes "map 1" ++ 10 ∷ []) ∷ (text_heading.now ++ 10 ∷ []) ∷ text_lines rest.now) }
+    ensures ok { IfOk result (λ rest. text_lines map.now ≡
+        (codes "map 1" ++ 10 ∷ []) ∷ (text_heading.now ++ 10 ∷ []) ∷ text_lines rest.now) }
     ensures shorter { IfOk result (λ rest. length rest.now + 2 ≤ length map.now) }
     ensures fault { IfErr result (λ fault. (text : List ℕ) → text_heading.now ≡ heading text → IsMapFault text map.now fault) }
 {

@@ -65,8 +65,11 @@ fn checked_line(
     requires size { length known.old ≡ formula.now.variables + 1 }
     requires few { length formula.now.clauses + length (earlier.now.log.now) + length (earlier.now.more.now) ≤ 2147483647 }
     ensures made { IfOk result (λ found. IfSome found (λ made. made ≡ resolved base line.now)) }
-    ensures derived { IfOk result (λ found. IfSome found (λ _. Derives formula.now (earlier.now.log.now ++ earlier.now.more.now) (resolved base line.now))) }
-    ensures not_derived { IfOk result (λ found. IfNone found (Derives formula.now (earlier.now.log.now ++ earlier.now.more.now) (resolved base line.now) → ⊥)) }
+    ensures derived { IfOk result (λ found. IfSome found (λ _.
+        Derives formula.now (earlier.now.log.now ++ earlier.now.more.now) (resolved base line.now))) }
+    ensures not_derived { IfOk result (λ found.
+        IfNone found (Derives formula.now (earlier.now.log.now ++ earlier.now.more.now) (resolved base
+        line.now) → ⊥)) }
     ensures size { length known.new ≡ length known.old }
 {
     let made = resolved_line(alloc, base, line)?;

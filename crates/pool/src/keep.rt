@@ -398,7 +398,9 @@ impl Pool {
         batch: &Batch,
         derived: Option<DerivedLines>,
     ) -> Result<u32, PublishFault>
-        requires derived { IfSome derived (λ _. DeriveAfter self.old.held.formula self.old.held.log (resolved_lines (next_number self.old.held) batch.now.lines.items)) }
+        requires derived { IfSome derived (λ _.
+            DeriveAfter self.old.held.formula self.old.held.log (resolved_lines (next_number self.old.held)
+            batch.now.lines.items)) }
         requires lines { IfSome derived (λ d. AreOfBatch batch.now.lines.items d) }
         ensures reply { IsPublished self.old.held batch.now.lines.items result }
         ensures pool { self.new ≡ published self.old worker batch.now.lines.items result }

@@ -94,7 +94,8 @@ impl Ledger {
 
     /// Notes a leave with its reason, so that the places that are kept stay free.
     pub(crate) fn leave(&mut self, worker: u32, why: Option<Why>) -> Result<(), AllocError>
-        ensures history { OnOk result (self.new.history ≡ self.old.history ++ (record { worker = worker; deed = Operation.Leave why }) ∷ []) }
+        ensures history { OnOk result (self.new.history ≡
+            self.old.history ++ (record { worker = worker; deed = Operation.Leave why }) ∷ []) }
         ensures reasons { OnOk result (self.new.reasons ≡ with_reason self.old.reasons why) }
         ensures places { OnOk result (self.new.places ≡ self.old.places) }
         ensures err { OnErr result (IsSameLedger self.old self.new) }
@@ -108,7 +109,8 @@ impl Ledger {
 
     /// The same by a place that is kept, if one is.
     pub(crate) fn leave_kept(&mut self, worker: u32, why: Option<Why>) -> Result<(), AllocError>
-        ensures history { OnOk result (self.new.history ≡ self.old.history ++ (record { worker = worker; deed = Operation.Leave why }) ∷ []) }
+        ensures history { OnOk result (self.new.history ≡
+            self.old.history ++ (record { worker = worker; deed = Operation.Leave why }) ∷ []) }
         ensures reasons { OnOk result (self.new.reasons ≡ with_reason self.old.reasons why) }
         ensures places { OnOk result (self.new.places ≡ self.old.places - 1) }
         ensures err { OnErr result (IsSameLedger self.old self.new) }

@@ -91,8 +91,11 @@ struct Literals<'a> {
 
 /// The literals before the colon, where there are literals and a colon.
 fn literals_of(alloc: Global, others: Option<&[u8]>) -> Result<Option<Literals<'_>>, AllocError>
-    ensures none { IfOk result (λ found. IfNone found ((ls : List Literal) (hints : List (List ℕ)) → map literal_word ls ++ codes ":" ∷ hints ≢ words_after (option_copied others.entry))) }
-    ensures some { IfOk result (λ found. IfSome found (λ read. (ls : List Literal) × (map literal_word ls ++ codes ":" ∷ words_after (option_copied read.hints) ≡ words_after (option_copied others.entry)) × AreRead read.in_range read.literals.items ls)) }
+    ensures none { IfOk result (λ found. IfNone found ((ls : List Literal) (hints : List (List ℕ)) →
+        map literal_word ls ++ codes ":" ∷ hints ≢ words_after (option_copied others.entry))) }
+    ensures some { IfOk result (λ found. IfSome found (λ read. (ls : List Literal) ×
+        (map literal_word ls ++ codes ":" ∷ words_after (option_copied read.hints) ≡
+        words_after (option_copied others.entry)) × AreRead read.in_range read.literals.items ls)) }
 {
     let mut literals = Vec::with_capacity(alloc, count_to_colon(others))?;
     let mut in_range = true;
@@ -119,7 +122,8 @@ fn literals_of(alloc: Global, others: Option<&[u8]>) -> Result<Option<Literals<'
 /// The numbers of the words, where each is one; each above 2,147,483,647 as 2,147,483,648.
 fn numbers_of(alloc: Global, others: Option<&[u8]>) -> Result<Option<Vec<u32>>, AllocError>
     ensures none { IfOk result (λ found. IfNone found ((ns : List ℕ) → map numeral ns ≢ words_after (option_copied others.entry))) }
-    ensures some { IfOk result (λ found. IfSome found (λ read. (ns : List ℕ) × (map numeral ns ≡ words_after (option_copied others.entry)) × (read.items ≡ map capped ns))) }
+    ensures some { IfOk result (λ found. IfSome found (λ read. (ns : List ℕ) ×
+        (map numeral ns ≡ words_after (option_copied others.entry)) × (read.items ≡ map capped ns))) }
 {
     let mut numbers = Vec::with_capacity(alloc, word_count(others))?;
     let mut rest = others;

@@ -158,9 +158,24 @@ impl Refutation {
         lines: Vec<Line>,
         tree: ProofTree,
     ) -> Result<Refutation, MakeRefutationFault>
-        ensures made { IfOk result (λ r. r ≡ record { version = version; variables = variables; clauses = clauses; lines = lines.items; nodes = tree }) }
+        ensures made { IfOk result (λ r. r ≡ record {
+          version = version;
+          variables = variables;
+          clauses =
+              clauses;
+          lines = lines.items;
+          nodes = tree;
+        }) }
         ensures limits { IfOk result (λ r. IsRefutation r) }
-        ensures too_large { result ≡ Err MakeRefutationFault.TooLarge → IsRefutation (record { version = version; variables = variables; clauses = clauses; lines = lines.items; nodes = tree }) → ⊥ }
+        ensures too_large { result ≡ Err MakeRefutationFault.TooLarge →
+            IsRefutation (record {
+              version = version;
+              variables = variables;
+              clauses = clauses;
+              lines =
+                  lines.items;
+              nodes = tree;
+            }) → ⊥ }
     {
         if variables > LARGEST_NUMBER || clauses > LARGEST_NUMBER {
             return Err(MakeRefutationFault::TooLarge);
@@ -204,7 +219,8 @@ impl Refutation {
         ensures trimmed { OnOk result (self.new ≡ trimmed_of self.old) }
         ensures unchanged { OnErr result (self.new ≡ self.old) }
         ensures number { result ≡ Err TrimFault.Number → are_named self.old.clauses self.old.lines self.old.nodes ≡ false }
-        ensures number_only { are_named self.old.clauses self.old.lines self.old.nodes ≡ false → (result ≡ Err TrimFault.Number) ⊎ (result ≡ Err TrimFault.Memory) }
+        ensures number_only { are_named self.old.clauses self.old.lines self.old.nodes ≡ false →
+            (result ≡ Err TrimFault.Number) ⊎ (result ≡ Err TrimFault.Memory) }
     {
         trimming::trim(alloc, self.clauses, &mut self.lines, &mut self.tree)?;
         self.version = Version::Two;
@@ -219,7 +235,14 @@ impl Refutation {
         lines: Vec<Line>,
         tree: ProofTree,
     ) -> Refutation
-        requires { IsRefutation (record { version = version; variables = variables; clauses = clauses; lines = lines.items; nodes = tree }) }
+        requires { IsRefutation (record {
+          version = version;
+          variables = variables;
+          clauses = clauses;
+          lines =
+              lines.items;
+          nodes = tree;
+        }) }
         ensures { result ≡ record { version = version; variables = variables; clauses = clauses; lines = lines.items; nodes = tree } }
     {
         Refutation {

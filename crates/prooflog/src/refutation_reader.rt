@@ -22,7 +22,8 @@ use std::alloc::Global;
 /// 2,147,483,648.
 pub fn counts_of(line: &[u8]) -> Option<(u32, u32)>
     ensures none { IfNone result ((v c : ℕ) → counts_words v c ≢ words_of line.now) }
-    ensures some { IfSome result (λ found. (v : ℕ) × (c : ℕ) × (counts_words v c ≡ words_of line.now) × (found.0 ≡ capped v) × (found.1 ≡ capped c)) }
+    ensures some { IfSome result (λ found. (v : ℕ) × (c : ℕ) × (counts_words v c ≡ words_of line.now) ×
+        (found.0 ≡ capped v) × (found.1 ≡ capped c)) }
 {
     let (kind, others) = cut_word(line);
     let Some(words) = others else {
@@ -52,10 +53,13 @@ fn read_lines<'a>(
     before: Ahead<'a>,
 ) -> Result<(Vec<Line>, &'a [u8]), EvidenceFault>
     requires { LinesSoFar bytes.now before.rest.now (3 + length before.lines.items) before.lines.items }
-    ensures cut { IfOk result (λ found. text_lines bytes.now ≡ map item_line (map a_proof found.0.items ++ the_tree ∷ []) ++ text_lines found.1.now) }
+    ensures cut { IfOk result (λ found.
+        text_lines bytes.now ≡ map item_line (map a_proof found.0.items ++ the_tree ∷ []) ++ text_lines
+        found.1.now) }
     ensures in_range { IfOk result (λ found. IsTrue (list_all is_line_in_range found.0.items)) }
     ensures few { IfOk result (λ found. length found.0.items ≤ 1000000) }
-    ensures fault { IfErr result (λ fault. (version : Version) (v c : ℕ) → v ≤ 2147483647 → c ≤ 2147483647 → HasFaultAfter (opening version v c) bytes.now fault) }
+    ensures fault { IfErr result (λ fault. (version : Version) (v c : ℕ) → v ≤ 2147483647 → c ≤ 2147483647 →
+        HasFaultAfter (opening version v c) bytes.now fault) }
 {
     let Ahead {
         mut lines,
@@ -98,7 +102,9 @@ fn read_nodes(alloc: Global, bytes: &[u8], first: u32) -> Result<Vec<Node>, Evid
     ensures small { IfOk result (λ nodes. IsSmall [] nodes.items) }
     ensures numbered { IfOk result (λ nodes. IsTrue (are_numbered nodes.items)) }
     ensures tree { IfOk result (λ nodes. IsTrue (is_tree nodes.items)) }
-    ensures fault { IfErr result (λ fault. (version : Version) (v c : ℕ) (lines : List ProofLine) → FitsAbove v c lines → first ≡ length lines + 4 → HasFaultAfter (above_tree version v c lines) bytes.now fault) }
+    ensures fault { IfErr result (λ fault. (version : Version) (v c : ℕ) (lines : List ProofLine) →
+        FitsAbove v c lines → first ≡ length lines + 4 →
+        HasFaultAfter (above_tree version v c lines) bytes.now fault) }
 {
     let mut nodes: Vec<Node> = Vec::new(alloc);
     let mut waiting: Vec<u32> = Vec::new(alloc);

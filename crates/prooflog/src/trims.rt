@@ -72,7 +72,8 @@ fn trimmed_copy(alloc: Global, refutation: &Refutation) -> Result<Evidence, Trim
     ensures trimmed { IfOk result (IsTrimmed (Evidence.Refutation refutation.now)) }
     ensures accepted { IfOk result (EachKeepsAccepted (Evidence.Refutation refutation.now)) }
     ensures number { result ≡ Err TrimFault.Number → HasStrayNumber (Evidence.Refutation refutation.now) }
-    ensures number_only { HasStrayNumber (Evidence.Refutation refutation.now) → (result ≡ Err TrimFault.Number) ⊎ (result ≡ Err TrimFault.Memory) }
+    ensures number_only { HasStrayNumber (Evidence.Refutation refutation.now) →
+        (result ≡ Err TrimFault.Number) ⊎ (result ≡ Err TrimFault.Memory) }
     ensures not_refutation { result ≡ Err TrimFault.NotRefutation → ⊥ }
 {
     let mut copy = match refutation.copy(alloc) {

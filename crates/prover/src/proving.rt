@@ -47,7 +47,8 @@ fn told_refutation<R: Threads + Sync>(
 
 /// The answer of a schedule, for each program on which it is an evidence.
 fn told_schedule<R: Threads + Sync>(rt: &R, alloc: Global, schedule: Schedule) -> Answer
-    ensures answer { (p : MpiProgram) (text : List ℕ) → IsEvidenceOn p (Evidence.Schedule schedule) → IsTextOf text p → Answers text result }
+    ensures answer { (p : MpiProgram) (text : List ℕ) → IsEvidenceOn p (Evidence.Schedule schedule) →
+        IsTextOf text p → Answers text result }
     ensures finishes { (budget : ℕ) (text : List ℕ) → FinishesIfUnknown budget text result }
 {
     match write_evidence_in(rt, alloc, Evidence::Schedule(schedule), 1) {

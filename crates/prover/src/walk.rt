@@ -124,7 +124,9 @@ fn is_open_finder(program: &LongProgram, state: &State, sees: bool, call: usize)
 
 /// The issued sends that are not matched.
 fn open_sends(alloc: Global, program: &LongProgram, state: &State) -> Result<Vec<usize>, AllocError>
-    ensures { IfOk result (λ sends. sends.items ≡ filter (is_open_send program.now state.now) (range_with_len 0 (length program.now.calls))) }
+    ensures { IfOk result (λ sends.
+        sends.items ≡
+        filter (is_open_send program.now state.now) (range_with_len 0 (length program.now.calls))) }
 {
     (0..program.calls().len())
         .filter(|call| is_open_send(program, state, *call))
@@ -139,7 +141,9 @@ fn open_finders(
     state: &State,
     sees: bool,
 ) -> Result<Vec<usize>, AllocError>
-    ensures { IfOk result (λ finders. finders.items ≡ filter (is_open_finder program.now state.now sees) (range_with_len 0 (length program.now.calls))) }
+    ensures { IfOk result (λ finders.
+        finders.items ≡
+        filter (is_open_finder program.now state.now sees) (range_with_len 0 (length program.now.calls))) }
 {
     (0..program.calls().len())
         .filter(|call| is_open_finder(program, state, sees, *call))
@@ -170,7 +174,8 @@ fn next_find_of(
     finders: &[usize],
 ) -> Option<Step>
     ensures some { IfSome result (IsEnabled program.now state.now) }
-    ensures none { IfNone result ((finder : ℕ) → Contains finders.now finder → IsEnabled program.now state.now (find_step sees send finder) → ⊥) }
+    ensures none { IfNone result ((finder : ℕ) → Contains finders.now finder →
+        IsEnabled program.now state.now (find_step sees send finder) → ⊥) }
 {
     for finder in finders {
         let step = find_step(sees, send, *finder);
@@ -190,7 +195,8 @@ fn find_of(
     finders: &[usize],
 ) -> Option<Step>
     ensures some { IfSome result (IsEnabled program.now state.now) }
-    ensures none { IfNone result ((send finder : ℕ) → Contains sends.now send → Contains finders.now finder → IsEnabled program.now state.now (find_step sees send finder) → ⊥) }
+    ensures none { IfNone result ((send finder : ℕ) → Contains sends.now send → Contains finders.now finder →
+        IsEnabled program.now state.now (find_step sees send finder) → ⊥) }
 {
     for send in sends {
         let step = next_find_of(program, state, sees, *send, finders);

@@ -71,7 +71,9 @@ fn refuted_text(
     refuted: &Refuted,
     form: Form,
 ) -> Result<Vec<u8>, AllocError>
-    ensures { IfOk result (λ told. IsNumbered form refuted.now.program (counts_text form refuted.now.program refuted.now.refutation) told.items) }
+    ensures { IfOk result (λ told.
+        IsNumbered form refuted.now.program (counts_text form refuted.now.program refuted.now.refutation)
+        told.items) }
 {
     let program: &LongProgram = &refuted.program;
     let numbers = counts_text(alloc, &refuted.program, &refuted.refutation, form)?;

@@ -255,8 +255,12 @@ pub fn scene_of<'a>(
     requires { IsRun program.now (opening program.now) steps.now }
     ensures labels { IfOk result (λ scene. scene.labels.items ≡ call_labels text.now source.now program.now) }
     ensures state { IfOk result (λ scene. scene.state ≡ after_all (opening program.now) steps.now) }
-    ensures standings { IfOk result (λ scene. AreStandings program.now (after_all (opening program.now) steps.now) program.now.ranks scene.standings.items) }
-    ensures awaited { IfOk result (λ scene. (from to : ℕ) → HasEdge scene.awaited.items from to ↔ WaitsFor program.now (after_all (opening program.now) steps.now) from to) }
+    ensures standings { IfOk result (λ scene.
+        AreStandings program.now (after_all (opening program.now) steps.now) program.now.ranks
+        scene.standings.items) }
+    ensures awaited { IfOk result (λ scene. (from to : ℕ) →
+        HasEdge scene.awaited.items from to ↔ WaitsFor program.now (after_all (opening program.now) steps.now)
+        from to) }
     ensures cycle { IfOk result (λ scene. IsCycleOrNone scene.awaited.items scene.cycle.items) }
 {
     let labels = call_labels(alloc, text, source, program)?;

@@ -45,7 +45,8 @@ fn push_rank(
     lines: &[CallLine],
 ) -> Result<(), AllocError>
     requires { heading + length lines.now < 2 ^ 64 }
-    ensures { (rank : ℕ) → OnOk result (numbers.new.items ≡ numbers.old.items ++ map (λ x. heading + x.part.place) (parts_of_lines rank 1 lines.now)) }
+    ensures { (rank : ℕ) → OnOk result (numbers.new.items ≡ numbers.old.items ++ map (λ x.
+        heading + x.part.place) (parts_of_lines rank 1 lines.now)) }
 {
     for (index, line) in lines.iter().enumerate() {
         push_line(alloc, numbers, heading + index + 1, calls_of(line))?;

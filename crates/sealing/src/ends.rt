@@ -85,7 +85,8 @@ fn add_untold(
     finder: Finder,
     loose: &mut Vec<Loose>,
 ) -> Result<(), AllocError>
-    ensures { OnOk result (Adds loose.old.items loose.new.items (IsUntoldBelow program.now findings.now known.now finder program.now.ranks)) }
+    ensures { OnOk result (Adds loose.old.items loose.new.items (IsUntoldBelow program.now findings.now
+        known.now finder program.now.ranks)) }
 {
     for source in 0..program.ranks() {
         if !tells_finish(program, findings, known, finder.place, source) {

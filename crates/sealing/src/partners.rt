@@ -49,7 +49,9 @@ fn partners_in(
     places: &HashMap<Occurrence, usize>,
     occurrences: &[Option<Occurrence>],
 ) -> Result<Vec<Option<usize>>, AllocError>
-    ensures { IfOk result (λ partners. partners.items ≡ map (partner_in (contains same_wanted asked.now) (get same_occurrence places.now)) occurrences.now) }
+    ensures { IfOk result (λ partners.
+        partners.items ≡
+        map (partner_in (contains same_wanted asked.now) (get same_occurrence places.now)) occurrences.now) }
 {
     let mut partners = Vec::new(alloc);
     for occurrence in occurrences {

@@ -61,7 +61,9 @@ fn left_before(history: &[Entry], worker: u32) -> bool
 
 /// A leave; the first of a worker by a place that is kept.
 fn leave_pool(pool: &mut Pool, worker: u32, why: Option<Why>) -> Result<(), AllocError>
-    ensures ok { OnOk result (pool.new ≡ noted (with_places pool.old (places_after (has_entry worker pool.old.history) pool.old.places)) (leave_item worker why)) }
+    ensures ok { OnOk result (pool.new ≡
+        noted (with_places pool.old (places_after (has_entry worker pool.old.history) pool.old.places))
+        (leave_item worker why)) }
     ensures err { OnErr result (pool.new ≡ pool.old) }
     ensures first { has_entry worker pool.old.history ≡ false → 1 ≤ pool.old.places → IsOk result }
 {
@@ -161,8 +163,10 @@ impl<B: PoolName> Locked<B> {
         requires derived { IfSome derived (λ _. IsDerivedFrom B.opening.formula view.now batch.now.lines.items) }
         requires lines { IfSome derived (λ d. AreOfBatch batch.now.lines.items d) }
         ensures seat { seat.new ≡ told_publish seat.old batch.now.lines.items result }
-        ensures reply { (result ≡ Err PublishFault.Memory → ⊥) → HoldsOver B.opening seat.old (λ h. IsPublished h batch.now.lines.items result) }
-        ensures not_derived { (place : ℕ) → result ≡ Err (PublishFault.NotDerived place) → IsRefusedOver B.opening.formula seat.old.mine batch.now.lines.items place }
+        ensures reply { (result ≡ Err PublishFault.Memory → ⊥) →
+            HoldsOver B.opening seat.old (λ h. IsPublished h batch.now.lines.items result) }
+        ensures not_derived { (place : ℕ) → result ≡ Err (PublishFault.NotDerived place) →
+            IsRefusedOver B.opening.formula seat.old.mine batch.now.lines.items place }
     {
         self.match_seat(rt, cell, seat);
         let worker = seat.worker;

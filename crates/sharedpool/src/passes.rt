@@ -76,7 +76,9 @@ pub(crate) fn take_back<R: Wait>(rt: &R, cell: &Cell, keeper: &mut Token)
     requires keeps { (cell_view keeper.old).keeps ≡ true }
     requires sits { (cell_view keeper.old).sits ≡ true }
     ensures of { keeper.new.table_id ≡ keeper.old.table_id }
-    ensures taken { cell_view keeper.new ≡ taker (cell_view keeper.old).workers (cell_view keeper.old).all ((cell_view keeper.old).worker ∷ (cell_view keeper.old).taken) }
+    ensures taken { cell_view keeper.new ≡
+        taker (cell_view keeper.old).workers (cell_view keeper.old).all ((cell_view keeper.old).worker ∷
+        (cell_view keeper.old).taken) }
     ensures mine { (cell_view keeper.old).mine ≡ items_of (cell_view keeper.old).worker (cell_view keeper.old).all }
     ensures below { (cell_view keeper.old).worker < (cell_view keeper.old).workers }
     ensures others { AllBelow (cell_view keeper.old).workers (cell_view keeper.old).all }

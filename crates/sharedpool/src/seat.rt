@@ -138,7 +138,9 @@ impl<B: PoolName> Seat<B> {
         requires keeper_of { keeper.old.table_id ≡ B.table }
         requires keeps { (cell_view keeper.old).keeps ≡ true }
         ensures of { keeper.new.table_id ≡ B.table }
-        ensures taken { cell_view keeper.new ≡ taker (cell_view keeper.old).workers (cell_view keeper.old).all (self.worker ∷ (cell_view keeper.old).taken) }
+        ensures taken { cell_view keeper.new ≡
+            taker (cell_view keeper.old).workers (cell_view keeper.old).all (self.worker ∷ (cell_view
+            keeper.old).taken) }
         ensures mine { self.mine ≡ items_of self.worker (cell_view keeper.old).all }
         ensures below { self.worker < (cell_view keeper.old).workers }
         ensures others { AllBelow (cell_view keeper.old).workers (cell_view keeper.old).all }

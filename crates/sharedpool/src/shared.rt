@@ -222,8 +222,10 @@ impl<B: PoolName> Share for SharedPool<B> {
         batch: &Batch,
     ) -> Result<u32, PublishFault>
         ensures seat { seat.new ≡ told_publish seat.old batch.now.lines.items result }
-        ensures reply { (result ≡ Err PublishFault.Memory → ⊥) → HoldsOver B.opening seat.old (λ h. IsPublished h batch.now.lines.items result) }
-        ensures not_derived { (place : ℕ) → result ≡ Err (PublishFault.NotDerived place) → IsRefusedOver B.opening.formula seat.old.mine batch.now.lines.items place }
+        ensures reply { (result ≡ Err PublishFault.Memory → ⊥) →
+            HoldsOver B.opening seat.old (λ h. IsPublished h batch.now.lines.items result) }
+        ensures not_derived { (place : ℕ) → result ≡ Err (PublishFault.NotDerived place) →
+            IsRefusedOver B.opening.formula seat.old.mine batch.now.lines.items place }
     {
         let formula = self.encoded.formula();
         let derived = derived_from(alloc, &mut seat.known, formula, &seat.view, batch);

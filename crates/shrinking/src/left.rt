@@ -97,7 +97,8 @@ fn are_renumbered(olds: &[&[u8]], news: &[&[u8]]) -> bool
 /// The place behind a word, where it stands at this place; else this place.
 fn place_behind(news: &[&[u8]], place: usize, word: &[u8]) -> usize
     requires { place ≤ length news.now }
-    ensures behind { (result ≡ place) ⊎ ((result ≡ place + 1) × (place < length (map (λ w. w.now) news.now)) × (get_or (map (λ w. w.now) news.now) place [] ≡ word.now)) }
+    ensures behind { (result ≡ place) ⊎ ((result ≡ place + 1) × (place < length (map (λ w. w.now) news.now)) ×
+        (get_or (map (λ w. w.now) news.now) place [] ≡ word.now)) }
     ensures within { result ≤ length news.now }
 {
     match news.get(place) {
@@ -140,7 +141,8 @@ fn is_shorter_wait(olds: &[&[u8]], news: &[&[u8]]) -> bool
 
 /// Whether the words are left of the other ones.
 fn are_words_left(olds: &[&[u8]], news: &[&[u8]]) -> bool
-    ensures { IsTrue result → AreRenumbered (map (λ w. w.now) olds.now) (map (λ w. w.now) news.now) ⊎ IsShorterWait (map (λ w. w.now) olds.now) (map (λ w. w.now) news.now) }
+    ensures { IsTrue result → AreRenumbered (map (λ w. w.now) olds.now) (map (λ w. w.now) news.now) ⊎
+        IsShorterWait (map (λ w. w.now) olds.now) (map (λ w. w.now) news.now) }
 {
     are_renumbered(olds, news) || is_shorter_wait(olds, news)
 }

@@ -202,7 +202,8 @@ fn put_names(
 
 /// Adds the numbers of the line that begins with a call.
 fn put_numbers(out: &mut Vec<u8>, call: Call) -> Result<(), AllocError>
-    ensures text { OnOk result ((names : List (Vec ℕ)) (rest : List Placed) → out.new.items ≡ out.old.items ++ spaced (number_words (line_of_call names call rest))) }
+    ensures text { OnOk result ((names : List (Vec ℕ)) (rest : List Placed) →
+        out.new.items ≡ out.old.items ++ spaced (number_words (line_of_call names call rest))) }
     ensures range { OnOk result ((names : List (Vec ℕ)) (rest : List Placed) → IsInRange long (line_of_call names call rest)) }
 {
     match call {

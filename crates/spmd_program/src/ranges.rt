@@ -43,7 +43,8 @@ fn several(before: &str, behind: &str) -> Option<Ranks>
 /// What stands before the first dot of a text, and behind it.
 fn around_dot(text: &str) -> Option<(&str, &str)>
     ensures none { IfNone result (has_dot text.now ≡ false) }
-    ensures some { IfSome result (λ parts. (has_dot text.now ≡ true) × (parts.0.now ≡ before_first is_dot text.now) × (parts.1.now ≡ after_first is_dot text.now)) }
+    ensures some { IfSome result (λ parts. (has_dot text.now ≡ true) ×
+        (parts.0.now ≡ before_first is_dot text.now) × (parts.1.now ≡ after_first is_dot text.now)) }
 {
     text.split_once('.')
 }

@@ -91,7 +91,8 @@ pub fn ordered(
 ) -> Result<(), NotUnrolled>
     requires { IsProgramText text.now.policy text.now.names.items ranks unrolled.now.calls.items program.now }
     ensures ordered { OnOk result (AreOrdered text.now.policy text.now.names.items ranks unrolled.now.calls.items) }
-    ensures fault { IfErr result (Tells (IsUnordered path.now text.now.policy text.now.names.items ranks unrolled.now.turns.items unrolled.now.calls.items)) }
+    ensures fault { IfErr result (Tells (IsUnordered path.now text.now.policy text.now.names.items ranks
+        unrolled.now.turns.items unrolled.now.calls.items)) }
 {
     let Ok(source) = read_long(alloc, program) else {
         return Err(NotUnrolled::Memory);

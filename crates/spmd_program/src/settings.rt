@@ -156,7 +156,8 @@ fn set_place(
 /// What stands before the first `=` of a setting, and behind it.
 fn parts_of(word: &str) -> Option<(&str, &str)>
     ensures none { IfNone result (has_equals word.now ≡ false) }
-    ensures some { IfSome result (λ parts. (has_equals word.now ≡ true) × (parts.0.now ≡ name_in word.now) × (parts.1.now ≡ value_in word.now)) }
+    ensures some { IfSome result (λ parts. (has_equals word.now ≡ true) × (parts.0.now ≡ name_in word.now) ×
+        (parts.1.now ≡ value_in word.now)) }
 {
     word.split_once('=')
 }

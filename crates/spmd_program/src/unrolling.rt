@@ -171,12 +171,14 @@ fn printed(
     unrolled: &Unrolled,
     mapped: bool,
 ) -> Result<Unrolling, NotUnrolled>
-    ensures program { IfOk result (λ made. IsProgramText text.now.policy text.now.names.items ranks unrolled.now.calls.items made.program.items) }
+    ensures program { IfOk result (λ made.
+        IsProgramText text.now.policy text.now.names.items ranks unrolled.now.calls.items made.program.items) }
     ensures ordered { OnOk result (AreOrdered text.now.policy text.now.names.items ranks unrolled.now.calls.items) }
     ensures map { IfOk result (λ made. IsMapWanted mapped
         (map_text path.now text.now.names.items source.now unrolled.now.turns.items unrolled.now.calls.items made.program.items)
         (option_map (λ m. m.items) made.map)) }
-    ensures wrong { IfErr result (Tells (IsUnordered path.now text.now.policy text.now.names.items ranks unrolled.now.turns.items unrolled.now.calls.items)) }
+    ensures wrong { IfErr result (Tells (IsUnordered path.now text.now.policy text.now.names.items ranks
+        unrolled.now.turns.items unrolled.now.calls.items)) }
 {
     let program = program_text(alloc, text.policy, &text.names, ranks, &unrolled.calls)?;
     ordered(alloc, path, ranks, text, unrolled, &program)?;
@@ -243,9 +245,11 @@ fn unrolled_with(
     barriers: bool,
     mapped: bool,
 ) -> Result<Unrolling, NotUnrolled>
-    ensures unrolled { IfOk result (λ made. IsUnrollingOf (text_run text.now.program values.now ranks barriers 18446744073709551615 10000000)
+    ensures unrolled { IfOk result (λ made.
+        IsUnrollingOf (text_run text.now.program values.now ranks barriers 18446744073709551615 10000000)
         path.now source.now ranks text.now mapped made.program.items (option_map (λ m. m.items) made.map)) }
-    ensures refused { IfErr result (Tells (IsWrongOf (text_run text.now.program values.now ranks barriers 18446744073709551615 10000000) path.now ranks text.now)) }
+    ensures refused { IfErr result (Tells (IsWrongOf (text_run text.now.program values.now ranks barriers
+        18446744073709551615 10000000) path.now ranks text.now)) }
 {
     let limits = Limits {
         calls: u64::MAX,

@@ -39,7 +39,9 @@ fn in_turn(parser: &mut Parser<'_>, a: Made, b: Made) -> Made
 /// The last statements of the list, so many of them, one after another: as a tree that is no
 /// deeper than it has to be.
 fn sequence(parser: &mut Parser<'_>, list: &mut Vec<Made>, count: usize) -> Made
-    ensures { (before popped : List Kept) → list.old.items ≡ before ++ popped → length popped ≡ count → (list.new.items ≡ before) × Makes parser.old parser.new (flat (held result) ≡ flat_all (held_all popped)) }
+    ensures { (before popped : List Kept) → list.old.items ≡ before ++ popped → length popped ≡ count →
+        (list.new.items ≡ before) ×
+        Makes parser.old parser.new (flat (held result) ≡ flat_all (held_all popped)) }
 {
     if count == 0 {
         return keep(parser, Statement::Nothing);
@@ -182,7 +184,8 @@ fn refuse_other(parser: &mut Parser<'_>)
 fn end_block(parser: &mut Parser<'_>, at: &mut u32)
     ensures reads { Reads (end_part false) parser.old parser.new result }
     ensures stays { (why : ParseReason) → parser.old.fault ≡ Some why → at.new ≡ at.old }
-    ensures line { (level : Level) (outer : List Level) → EndsBlock level parser.old → Tells (level ∷ outer) parser.old parser.new parser.old.rest.now at.new }
+    ensures line { (level : Level) (outer : List Level) → EndsBlock level parser.old →
+        Tells (level ∷ outer) parser.old parser.new parser.old.rest.now at.new }
 {
     begin_line(parser, at);
     if parser.take(Piece::Word(Word::End)) {
@@ -200,7 +203,8 @@ fn end_block(parser: &mut Parser<'_>, at: &mut u32)
 fn end_branch(parser: &mut Parser<'_>, at: &mut u32, chained: bool)
     ensures reads { Reads (end_part chained) parser.old parser.new result }
     ensures stays { (why : ParseReason) → parser.old.fault ≡ Some why → at.new ≡ at.old }
-    ensures line { (level : Level) (outer : List Level) → EndsBlock level parser.old → Tells (level ∷ outer) parser.old parser.new parser.old.rest.now at.new }
+    ensures line { (level : Level) (outer : List Level) → EndsBlock level parser.old →
+        Tells (level ∷ outer) parser.old parser.new parser.old.rest.now at.new }
     ensures same { chained ≡ true → parser.new ≡ parser.old }
 {
     if !chained {
@@ -243,7 +247,8 @@ fn end_text(parser: &mut Parser<'_>, at: &mut u32)
 fn inside(parser: &mut Parser<'_>, at: &mut u32, depth: u32) -> Made
     ensures reads { IsInside parser.old parser.new depth (held result) }
     ensures stays { (why : ParseReason) → parser.old.fault ≡ Some why → at.new ≡ at.old }
-    ensures line { (block : Block) (outer : List Level) → is_settled block ≡ true → Tells (level_at block parser.old depth ∷ outer) parser.old parser.new parser.old.rest.now at.new }
+    ensures line { (block : Block) (outer : List Level) → is_settled block ≡ true →
+        Tells (level_at block parser.old depth ∷ outer) parser.old parser.new parser.old.rest.now at.new }
     ensures ended { parser.new.fault ≡ None → is_end (next parser.new) ≡ true }
 {
     let body = statements(parser, at, depth);
@@ -256,7 +261,9 @@ fn inside(parser: &mut Parser<'_>, at: &mut u32, depth: u32) -> Made
 fn body_of(parser: &mut Parser<'_>, at: &mut u32, name: u32, depth: u32) -> Made
     ensures reads { Reads (statements_part (within_loop name (scope_of parser.old)) depth) parser.old parser.new (held result) }
     ensures stays { (why : ParseReason) → parser.old.fault ≡ Some why → at.new ≡ at.old }
-    ensures line { (block : Block) (outer : List Level) → is_settled block ≡ true → Tells (record { block = block; scope = within_loop name (scope_of parser.old); depth = depth } ∷ outer) parser.old parser.new parser.old.rest.now at.new }
+    ensures line { (block : Block) (outer : List Level) → is_settled block ≡ true →
+        Tells (record { block = block; scope = within_loop name (scope_of parser.old); depth = depth } ∷
+        outer) parser.old parser.new parser.old.rest.now at.new }
     ensures ended { parser.new.fault ≡ None → is_end (next parser.new) ≡ true }
 {
     match parser.loops.push(name) {
@@ -270,7 +277,9 @@ fn body_of(parser: &mut Parser<'_>, at: &mut u32, name: u32, depth: u32) -> Made
 fn looped(parser: &mut Parser<'_>, at: &mut u32, line: u32, depth: u32) -> Made
     ensures reads { Reads (begun_part (scope_of parser.old) depth line Word.For) parser.old parser.new (held result) }
     ensures stays { (why : ParseReason) → parser.old.fault ≡ Some why → at.new ≡ at.old }
-    ensures line { (block : Block) (outer : List Level) → is_settled block ≡ true → at.old ≡ line → Tells (level_at block parser.old depth ∷ outer) parser.old parser.new (from_word line Word.For parser.old) at.new }
+    ensures line { (block : Block) (outer : List Level) → is_settled block ≡ true → at.old ≡ line →
+        Tells (level_at block parser.old depth ∷ outer) parser.old parser.new (from_word line Word.For
+        parser.old) at.new }
 {
     let name = variable(parser);
     let span = span_at(parser);
@@ -289,7 +298,9 @@ fn looped(parser: &mut Parser<'_>, at: &mut u32, line: u32, depth: u32) -> Made
 fn branch(parser: &mut Parser<'_>, at: &mut u32, line: u32, chained: bool, depth: u32) -> Made
     ensures reads { Reads (begun_part (scope_of parser.old) depth line (branch_word chained)) parser.old parser.new (held result) }
     ensures stays { (why : ParseReason) → parser.old.fault ≡ Some why → at.new ≡ at.old }
-    ensures line { (block : Block) (outer : List Level) → may_hold chained block ≡ true → at.old ≡ line → Tells (level_at block parser.old depth ∷ outer) parser.old parser.new (from_word line (branch_word chained) parser.old) at.new }
+    ensures line { (block : Block) (outer : List Level) → may_hold chained block ≡ true → at.old ≡ line →
+        Tells (level_at block parser.old depth ∷ outer) parser.old parser.new (from_word line (branch_word
+        chained) parser.old) at.new }
     ensures ends { chained ≡ true → parser.new.fault ≡ None → EndsBranch parser.new (held result) }
 {
     let condition = condition_at(parser);
@@ -308,7 +319,9 @@ fn branch(parser: &mut Parser<'_>, at: &mut u32, line: u32, chained: bool, depth
 fn after_else(parser: &mut Parser<'_>, at: &mut u32, depth: u32) -> Made
     ensures reads { (line : ℕ) → Reads (begun_part (scope_of parser.old) depth line Word.Else) parser.old parser.new (held result) }
     ensures stays { (why : ParseReason) → parser.old.fault ≡ Some why → at.new ≡ at.old }
-    ensures line { (line : ℕ) (outer : List Level) → at.old ≡ line → Tells (level_at Block.branch parser.old depth ∷ outer) parser.old parser.new (from_word line Word.Else parser.old) at.new }
+    ensures line { (line : ℕ) (outer : List Level) → at.old ≡ line →
+        Tells (level_at Block.branch parser.old depth ∷ outer) parser.old parser.new (from_word line Word.Else
+        parser.old) at.new }
     ensures ended { parser.new.fault ≡ None → is_end (next parser.new) ≡ true }
 {
     parser.end_line();
@@ -321,7 +334,9 @@ fn after_else(parser: &mut Parser<'_>, at: &mut u32, depth: u32) -> Made
 fn tail(parser: &mut Parser<'_>, at: &mut u32, depth: u32) -> Made
     ensures reads { Reads (tail_part (scope_of parser.old) depth) parser.old parser.new (held result) }
     ensures stays { (why : ParseReason) → parser.old.fault ≡ Some why → at.new ≡ at.old }
-    ensures line { (outer : List Level) → Tells (level_at Block.branch parser.old depth ∷ outer) parser.old parser.new parser.old.rest.now at.new }
+    ensures line { (outer : List Level) →
+        Tells (level_at Block.branch parser.old depth ∷ outer) parser.old parser.new parser.old.rest.now
+        at.new }
     ensures ends { is_end (next parser.old) ≡ true → parser.new.fault ≡ None → EndsBranch parser.new (held result) }
 {
     begin_line(parser, at);
@@ -340,7 +355,10 @@ fn tail(parser: &mut Parser<'_>, at: &mut u32, depth: u32) -> Made
 fn begun(parser: &mut Parser<'_>, at: &mut u32, word: Word, line: u32, depth: u32) -> Made
     ensures reads { is_first word ≡ true → Reads (begun_part (scope_of parser.old) depth line word) parser.old parser.new (held result) }
     ensures stays { (why : ParseReason) → parser.old.fault ≡ Some why → at.new ≡ at.old }
-    ensures line { (block : Block) (outer : List Level) → is_settled block ≡ true → word_of (Piece.Word word) ≡ Some word → at.old ≡ line → Tells (level_at block parser.old depth ∷ outer) parser.old parser.new (from_word line word parser.old) at.new }
+    ensures line { (block : Block) (outer : List Level) → is_settled block ≡ true →
+        word_of (Piece.Word word) ≡ Some word → at.old ≡ line →
+        Tells (level_at block parser.old depth ∷ outer) parser.old parser.new (from_word line word parser.old)
+        at.new }
 {
     match word {
         Word::For => looped(parser, at, line, depth),
@@ -352,10 +370,13 @@ fn begun(parser: &mut Parser<'_>, at: &mut u32, word: Word, line: u32, depth: u3
 /// A statement that begins with this word, which comes next.
 #[cycle(statements)]
 fn statement(parser: &mut Parser<'_>, at: &mut u32, word: Word, depth: u32) -> Made
-    ensures reads { is_first word ≡ true → next parser.old ≡ Piece.Word word → Reads (one_part (scope_of parser.old) depth word) parser.old parser.new (held result) }
+    ensures reads { is_first word ≡ true → next parser.old ≡ Piece.Word word →
+        Reads (one_part (scope_of parser.old) depth word) parser.old parser.new (held result) }
     ensures shorter { is_first word ≡ true → next parser.old ≡ Piece.Word word → length parser.new.rest.now < length parser.old.rest.now }
     ensures stays { (why : ParseReason) → parser.old.fault ≡ Some why → at.new ≡ at.old }
-    ensures line { (block : Block) (outer : List Level) → is_settled block ≡ true → word_of (Piece.Word word) ≡ Some word → next parser.old ≡ Piece.Word word → Tells (level_at block parser.old depth ∷ outer) parser.old parser.new parser.old.rest.now at.new }
+    ensures line { (block : Block) (outer : List Level) → is_settled block ≡ true →
+        word_of (Piece.Word word) ≡ Some word → next parser.old ≡ Piece.Word word →
+        Tells (level_at block parser.old depth ∷ outer) parser.old parser.new parser.old.rest.now at.new }
 {
     begin_line(parser, at);
     let line = parser.line();
@@ -368,7 +389,8 @@ fn statement(parser: &mut Parser<'_>, at: &mut u32, word: Word, depth: u32) -> M
 fn statements(parser: &mut Parser<'_>, at: &mut u32, depth: u32) -> Made
     ensures reads { Reads (statements_part (scope_of parser.old) depth) parser.old parser.new (held result) }
     ensures stays { (why : ParseReason) → parser.old.fault ≡ Some why → at.new ≡ at.old }
-    ensures line { (block : Block) (outer : List Level) → is_settled block ≡ true → Tells (level_at block parser.old depth ∷ outer) parser.old parser.new parser.old.rest.now at.new }
+    ensures line { (block : Block) (outer : List Level) → is_settled block ≡ true →
+        Tells (level_at block parser.old depth ∷ outer) parser.old parser.new parser.old.rest.now at.new }
     ensures ended { parser.new.fault ≡ None → is_end (next parser.new) ≡ true }
 {
     let mut list = Vec::new(parser.alloc);
@@ -414,9 +436,12 @@ fn parameters(parser: &mut Parser<'_>, at: &mut u32) -> Made
 
 /// The whole text, up to its end. At most 32 blocks stand within one another in it.
 pub(crate) fn program(parser: &mut Parser<'_>, at: &mut u32) -> (Policy, Made)
-    ensures reads { parser.old.in_parameter ≡ false → parser.old.parameters.items ≡ [] → parser.old.loops.items ≡ [] → Meets (text_part parser.old.names.now) parser.old parser.new (result.0, held result.1) }
+    ensures reads { parser.old.in_parameter ≡ false → parser.old.parameters.items ≡ [] →
+        parser.old.loops.items ≡ [] →
+        Meets (text_part parser.old.names.now) parser.old parser.new (result.0, held result.1) }
     ensures ends { parser.new.fault ≡ None → is_all_read parser.new.rest.now ≡ true }
-    ensures line { parser.old.in_parameter ≡ false → parser.old.parameters.items ≡ [] → parser.old.loops.items ≡ [] → IsEnded parser.old.rest.now
+    ensures line { parser.old.in_parameter ≡ false → parser.old.parameters.items ≡ [] →
+        parser.old.loops.items ≡ [] → IsEnded parser.old.rest.now
         → Tells (begin parser.old.names.now ∷ []) parser.old parser.new parser.old.rest.now at.new }
 {
     let policy = heading(parser, at);

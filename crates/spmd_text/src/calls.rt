@@ -207,7 +207,9 @@ fn root(parser: &mut Parser<'_>, rooted: bool) -> Option<Expression>
 
 /// A collective call after its word: the root where it has one, and its group.
 fn collective(parser: &mut Parser<'_>, kind: Kind, rooted: bool) -> Arguments
-    ensures { rooted ≡ is_rooted kind → Reads (arguments_part parser.old.in_parameter parser.old.names.now (Form.Collective kind rooted)) parser.old parser.new result }
+    ensures { rooted ≡ is_rooted kind →
+        Reads (arguments_part parser.old.in_parameter parser.old.names.now (Form.Collective kind rooted))
+        parser.old parser.new result }
 {
     let root = root(parser, rooted);
     let group = group(parser);
@@ -222,7 +224,8 @@ fn collective(parser: &mut Parser<'_>, kind: Kind, rooted: bool) -> Arguments
 
 /// A receive on a handle after its word: the request where it is started, and the handle.
 fn matched_receive(parser: &mut Parser<'_>, started: bool) -> Arguments
-    ensures { Reads (arguments_part parser.old.in_parameter parser.old.names.now (Form.MatchedReceive started)) parser.old parser.new result }
+    ensures { Reads (arguments_part parser.old.in_parameter parser.old.names.now (Form.MatchedReceive
+        started)) parser.old parser.new result }
 {
     let request = request(parser, started);
     let handle = label(parser);
@@ -361,7 +364,8 @@ fn arguments(parser: &mut Parser<'_>, form: Form) -> Arguments
 
 /// The call that the word begins, up to the end of its line.
 pub(crate) fn call(parser: &mut Parser<'_>, word: Word, line: u32) -> Made
-    ensures { (depth : ℕ) → is_call word ≡ true → Reads (begun_part (scope_of parser.old) depth line word) parser.old parser.new (held result) }
+    ensures { (depth : ℕ) → is_call word ≡ true →
+        Reads (begun_part (scope_of parser.old) depth line word) parser.old parser.new (held result) }
 {
     let Some(form) = form_of(word) else {
         return refused(parser, ParseReason::NoStatement);

@@ -106,7 +106,8 @@ fn failed(parser: &mut Parser<'_>, reason: ParseReason) -> Expression
 /// What was put together, where memory lasted.
 fn kept(parser: &mut Parser<'_>, made: Result<Expression, AllocError>) -> Expression
     ensures goes { Goes parser.old parser.new }
-    ensures kept { (e : Expression) (rest : List Token) → Stands parser.old rest → IfOk made (λ x. Alike x e) → Finds parser.new rest (Alike result e) }
+    ensures kept { (e : Expression) (rest : List Token) → Stands parser.old rest →
+        IfOk made (λ x. Alike x e) → Finds parser.new rest (Alike result e) }
     ensures sound { parser.new.fault ≡ None → (made ≡ Ok result) × (parser.new ≡ parser.old) }
 {
     match made {
@@ -148,7 +149,9 @@ fn want(parser: &mut Parser<'_>, part: &Expression, condition: bool)
 /// Two parts with a joint between them, of which the left one goes with it.
 fn joined(parser: &mut Parser<'_>, joint: Joint, left: Expression, right: Expression) -> Expression
     ensures goes { Goes parser.old parser.new }
-    ensures joined { (a b : Expression) (p q : Place) (rest : List Token) → Stands parser.old rest → Alike left a → Alike right b → may_join joint a b ≡ true → Finds parser.new rest (Alike result (joined joint p a q b)) }
+    ensures joined { (a b : Expression) (p q : Place) (rest : List Token) → Stands parser.old rest →
+        Alike left a → Alike right b → may_join joint a b ≡ true →
+        Finds parser.new rest (Alike result (joined joint p a q b)) }
     ensures sound { parser.new.fault ≡ None → PutTogether parser.old parser.new joint left right result }
 {
     want(parser, &right, joins_conditions(joint));
@@ -168,7 +171,8 @@ fn unclosed(parser: &Parser<'_>, inner: &Expression) -> ParseReason {
 /// Notes what is wrong with the part behind the prefix, or behind what ends it.
 fn end_prefix(parser: &mut Parser<'_>, prefix: Prefix, inner: &Expression)
     ensures goes { Goes parser.old parser.new }
-    ensures ended { (a : Expression) (here rest : List Token) → Stands parser.old here → Alike inner.now a → ends_prefix prefix a here rest → Stands parser.new rest }
+    ensures ended { (a : Expression) (here rest : List Token) → Stands parser.old here → Alike inner.now a →
+        ends_prefix prefix a here rest → Stands parser.new rest }
     ensures sound { parser.new.fault ≡ None → ends_prefix prefix inner.now parser.old.rest.now parser.new.rest.now }
 {
     match prefix {
@@ -184,7 +188,9 @@ fn end_prefix(parser: &mut Parser<'_>, prefix: Prefix, inner: &Expression)
 /// A part with what stands before it, or around it.
 fn prefixed(parser: &mut Parser<'_>, prefix: Prefix, inner: Expression) -> Expression
     ensures goes { Goes parser.old parser.new }
-    ensures prefixed { (a : Expression) (p : Place) (here rest : List Token) → Stands parser.old here → Alike inner a → ends_prefix prefix a here rest → Finds parser.new rest (Alike result (enclosed prefix p a)) }
+    ensures prefixed { (a : Expression) (p : Place) (here rest : List Token) → Stands parser.old here →
+        Alike inner a → ends_prefix prefix a here rest →
+        Finds parser.new rest (Alike result (enclosed prefix p a)) }
     ensures sound { parser.new.fault ≡ None → PutAround parser.old parser.new prefix inner result }
 {
     end_prefix(parser, prefix, &inner);
@@ -200,7 +206,9 @@ fn chosen(
     no: Expression,
 ) -> Expression
     ensures goes { Goes parser.old parser.new }
-    ensures chosen { (c a b : Expression) (p q s : Place) (rest : List Token) → Stands parser.old rest → Alike condition c → Alike yes a → Alike no b → is_condition a ≡ false → is_condition b ≡ false → Finds parser.new rest (Alike result (form.Choice' p c q a s b)) }
+    ensures chosen { (c a b : Expression) (p q s : Place) (rest : List Token) → Stands parser.old rest →
+        Alike condition c → Alike yes a → Alike no b → is_condition a ≡ false → is_condition b ≡ false →
+        Finds parser.new rest (Alike result (form.Choice' p c q a s b)) }
     ensures sound { parser.new.fault ≡ None → PutChoice parser.old parser.new condition yes no result }
 {
     want(parser, &yes, false);
@@ -212,7 +220,8 @@ fn chosen(
 /// A factor of one piece.
 fn leaf(parser: &mut Parser<'_>) -> Expression
     ensures goes { Goes parser.old parser.new }
-    ensures leaf { (depth : ℕ) (a : Expression) (rest : List Token) → Ahead parser.old depth a rest → is_operand a ≡ true → begun a ≡ beginning.Leaf → Stands parser.new rest × Alike result a }
+    ensures leaf { (depth : ℕ) (a : Expression) (rest : List Token) → Ahead parser.old depth a rest →
+        is_operand a ≡ true → begun a ≡ beginning.Leaf → Stands parser.new rest × Alike result a }
     ensures sound { (least depth : ℕ) → parser.new.fault ≡ None → WasBegun parser.old parser.new beginning.Leaf least depth result }
 {
     if parser.in_parameter && parser.is(Piece::Word(Word::Rank)) {
@@ -232,8 +241,11 @@ fn leaf(parser: &mut Parser<'_>) -> Expression
 #[cycle(expression)]
 fn behind_prefix(parser: &mut Parser<'_>, prefix: Prefix, least: u32, depth: u32) -> Expression
     ensures goes { Goes parser.old parser.new }
-    ensures complete { (a : Expression) (p : Place) (rest : List Token) → Ahead parser.old depth (enclosed prefix p a) rest → MayBegin least (enclosed prefix p a) rest → Finds parser.new rest (Alike result (enclosed prefix p a)) }
-    ensures sound { parser.new.fault ≡ None → beginning.Prefix prefix ≡ beginning_of (next parser.old) least → WasBegun parser.old parser.new (beginning.Prefix prefix) least depth result }
+    ensures complete { (a : Expression) (p : Place) (rest : List Token) →
+        Ahead parser.old depth (enclosed prefix p a) rest → MayBegin least (enclosed prefix p a) rest →
+        Finds parser.new rest (Alike result (enclosed prefix p a)) }
+    ensures sound { parser.new.fault ≡ None → beginning.Prefix prefix ≡ beginning_of (next parser.old) least →
+        WasBegun parser.old parser.new (beginning.Prefix prefix) least depth result }
 {
     if depth == 0 {
         return failed(parser, ParseReason::TooDeep);
@@ -247,8 +259,12 @@ fn behind_prefix(parser: &mut Parser<'_>, prefix: Prefix, least: u32, depth: u32
 #[cycle(expression)]
 fn choice_at(parser: &mut Parser<'_>, depth: u32) -> Expression
     ensures goes { Goes parser.old parser.new }
-    ensures complete { (c a b : Expression) (p q s : Place) (rest : List Token) → Ahead parser.old depth (form.Choice' p c q a s b) rest → stops 4 rest ≡ true → Finds parser.new rest (Alike result (form.Choice' p c q a s b)) }
-    ensures sound { (least : ℕ) → parser.new.fault ≡ None → beginning.Choice ≡ beginning_of (next parser.old) least → WasBegun parser.old parser.new beginning.Choice least depth result }
+    ensures complete { (c a b : Expression) (p q s : Place) (rest : List Token) →
+        Ahead parser.old depth (form.Choice' p c q a s b) rest → stops 4 rest ≡ true →
+        Finds parser.new rest (Alike result (form.Choice' p c q a s b)) }
+    ensures sound { (least : ℕ) → parser.new.fault ≡ None →
+        beginning.Choice ≡ beginning_of (next parser.old) least →
+        WasBegun parser.old parser.new beginning.Choice least depth result }
 {
     if depth == 0 {
         return failed(parser, ParseReason::TooDeep);
@@ -267,8 +283,11 @@ fn choice_at(parser: &mut Parser<'_>, depth: u32) -> Expression
 #[cycle(expression)]
 fn operand(parser: &mut Parser<'_>, beginning: Beginning, least: u32, depth: u32) -> Expression
     ensures goes { Goes parser.old parser.new }
-    ensures complete { (a : Expression) (rest : List Token) → Ahead parser.old depth a rest → is_operand a ≡ true → beginning ≡ begun a → MayBegin least a rest → Finds parser.new rest (Alike result a) }
-    ensures sound { parser.new.fault ≡ None → beginning ≡ beginning_of (next parser.old) least → WasBegun parser.old parser.new beginning least depth result }
+    ensures complete { (a : Expression) (rest : List Token) → Ahead parser.old depth a rest →
+        is_operand a ≡ true → beginning ≡ begun a → MayBegin least a rest →
+        Finds parser.new rest (Alike result a) }
+    ensures sound { parser.new.fault ≡ None → beginning ≡ beginning_of (next parser.old) least →
+        WasBegun parser.old parser.new beginning least depth result }
 {
     match beginning {
         Beginning::Leaf => leaf(parser),
@@ -288,8 +307,11 @@ fn joins(
     depth: u32,
 ) -> Expression
     ensures goes { Goes parser.old parser.new }
-    ensures complete { (e : Expression) (rest : List Token) → Growing parser.old first first_row least depth e rest → Finds parser.new rest (Alike result e) }
-    ensures sound { (here : List Token) → parser.new.fault ≡ None → SoFar here parser.old first first_row least depth → WasRead here parser.old.in_parameter parser.new least depth result }
+    ensures complete { (e : Expression) (rest : List Token) →
+        Growing parser.old first first_row least depth e rest → Finds parser.new rest (Alike result e) }
+    ensures sound { (here : List Token) → parser.new.fault ≡ None →
+        SoFar here parser.old first first_row least depth →
+        WasRead here parser.old.in_parameter parser.new least depth result }
 {
     let mut left = first;
     let mut row = first_row;
@@ -313,8 +335,10 @@ fn joins(
 #[cycle(expression)]
 fn expression(parser: &mut Parser<'_>, least: u32, depth: u32) -> Expression
     ensures goes { Goes parser.old parser.new }
-    ensures complete { (e : Expression) (rest : List Token) → Ahead parser.old depth e rest → MayStand least e rest → Finds parser.new rest (Alike result e) }
-    ensures sound { parser.new.fault ≡ None → least ≤ 6 → WasRead parser.old.rest.now parser.old.in_parameter parser.new least depth result }
+    ensures complete { (e : Expression) (rest : List Token) → Ahead parser.old depth e rest →
+        MayStand least e rest → Finds parser.new rest (Alike result e) }
+    ensures sound { parser.new.fault ≡ None → least ≤ 6 →
+        WasRead parser.old.rest.now parser.old.in_parameter parser.new least depth result }
 {
     let beginning = beginning_of(parser.piece(), least);
     let first = operand(parser, beginning, least, depth);

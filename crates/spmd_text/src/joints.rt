@@ -139,7 +139,9 @@ pub(crate) fn joint_ahead(piece: Piece, row: u32, least: u32) -> Option<Joint>
 
 /// The row with one joint more: 256 parts at most.
 pub(crate) fn longer(row: Row, joint: Joint) -> Result<Row, ParseReason>
-    ensures complete { (a b : Expression) (p q : Place) → IsRow row a → may_join joint a b ≡ true → parts (joined joint p a q b) ≤ 256 → (next : Row) × (result ≡ Ok next) × IsRow next (joined joint p a q b) }
+    ensures complete { (a b : Expression) (p q : Place) → IsRow row a → may_join joint a b ≡ true →
+        parts (joined joint p a q b) ≤ 256 → (next : Row) × (result ≡ Ok next) ×
+        IsRow next (joined joint p a q b) }
     ensures sound { (next : Row) (a b : Expression) (p q : Place) → result ≡ Ok next → IsRow row a → IsLonger row next joint p a q b }
 {
     let binding = binding_of(joint);

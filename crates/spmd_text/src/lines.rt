@@ -67,7 +67,8 @@ fn unreached(parser: &mut Parser<'_>, line: u32) -> Made
 
 /// A statement of one line, after its first word.
 pub(crate) fn simple(parser: &mut Parser<'_>, word: Word, line: u32) -> Made
-    ensures { (depth : ℕ) → is_simple word ≡ true → Reads (begun_part (scope_of parser.old) depth line word) parser.old parser.new (held result) }
+    ensures { (depth : ℕ) → is_simple word ≡ true →
+        Reads (begun_part (scope_of parser.old) depth line word) parser.old parser.new (held result) }
 {
     match word {
         Word::Let => assign(parser, line),

@@ -95,7 +95,8 @@ impl Parser<'_> {
     pub(crate) fn take(&mut self, piece: Piece) -> bool
         ensures goes { Goes self.old self.new }
         ensures found { result ≡ nat_eq (code (next self.old)) (code piece) }
-        ensures taken { (rest : List Token) → self.old.fault ≡ None → after piece (Some self.old.rest.now) ≡ Some rest → (result ≡ true) × Stands self.new rest }
+        ensures taken { (rest : List Token) → self.old.fault ≡ None →
+            after piece (Some self.old.rest.now) ≡ Some rest → (result ≡ true) × Stands self.new rest }
         ensures left { result ≡ false → self.new ≡ self.old }
         ensures passed { result ≡ true → (self.new.fault ≡ self.old.fault) × (self.new.rest.now ≡ behind self.old.rest.now) }
         ensures reads { result ≡ true → is_plain piece ≡ true → Reads (piece_part piece) self.old self.new (tt {0}) }
@@ -111,8 +112,11 @@ impl Parser<'_> {
     /// Takes the piece, which has to stand here.
     pub(crate) fn expect(&mut self, piece: Piece, reason: ParseReason)
         ensures goes { Goes self.old self.new }
-        ensures taken { (rest : List Token) → self.old.fault ≡ None → after piece (Some self.old.rest.now) ≡ Some rest → Stands self.new rest }
-        ensures passed { self.new.fault ≡ None → (nat_eq (code (next self.old)) (code piece) ≡ true) × (self.new.rest.now ≡ behind self.old.rest.now) }
+        ensures taken { (rest : List Token) → self.old.fault ≡ None →
+            after piece (Some self.old.rest.now) ≡ Some rest → Stands self.new rest }
+        ensures passed { self.new.fault ≡ None →
+            (nat_eq (code (next self.old)) (code piece) ≡ true) ×
+            (self.new.rest.now ≡ behind self.old.rest.now) }
         ensures reads { IsTrue (is_plain piece) → Reads (piece_part piece) self.old self.new result }
     {
         if !self.take(piece) {
@@ -123,7 +127,9 @@ impl Parser<'_> {
     /// Takes a name.
     pub(crate) fn name(&mut self) -> u32
         ensures goes { Goes self.old self.new }
-        ensures taken { (name : ℕ) (rest : List Token) → self.old.fault ≡ None → after (piece.Name name) (Some self.old.rest.now) ≡ Some rest → (result ≡ name) × Stands self.new rest }
+        ensures taken { (name : ℕ) (rest : List Token) → self.old.fault ≡ None →
+            after (piece.Name name) (Some self.old.rest.now) ≡ Some rest →
+            (result ≡ name) × Stands self.new rest }
         ensures passed { self.new.fault ≡ None → after (piece.Name result) (Some self.old.rest.now) ≡ Some self.new.rest.now }
         ensures reads { Reads name_part self.old self.new result }
     {
@@ -142,7 +148,8 @@ impl Parser<'_> {
     /// Takes a comma.
     pub(crate) fn comma(&mut self)
         ensures goes { Goes self.old self.new }
-        ensures taken { (rest : List Token) → self.old.fault ≡ None → after piece.Comma (Some self.old.rest.now) ≡ Some rest → Stands self.new rest }
+        ensures taken { (rest : List Token) → self.old.fault ≡ None →
+            after piece.Comma (Some self.old.rest.now) ≡ Some rest → Stands self.new rest }
         ensures passed { self.new.fault ≡ None → after piece.Comma (Some self.old.rest.now) ≡ Some self.new.rest.now }
         ensures reads { Reads (piece_part piece.Comma) self.old self.new result }
     {

@@ -60,7 +60,8 @@ fn first_fault(parser: &Parser<'_>, line: u32) -> Option<ParseFault>
 /// read.
 fn read(alloc: Global, found: &Pieces) -> Reading
     ensures said { result.fault ≡ None → Says found.now.names.items found.now.tokens.items result.policy (held result.statements) }
-    ensures told { IfSome result.fault (λ fault. is_memory fault.reason ≡ false → IsReadable found.now.names.items found.now.tokens.items → ⊥) }
+    ensures told { IfSome result.fault (λ fault. is_memory fault.reason ≡ false →
+        IsReadable found.now.names.items found.now.tokens.items → ⊥) }
     ensures first { IfSome result.fault (λ fault. is_memory fault.reason ≡ false → IsEnded found.now.tokens.items
         → IsFirstFault found.now.names.items found.now.tokens.items fault.line) }
 {

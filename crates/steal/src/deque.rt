@@ -61,7 +61,8 @@ impl OwnerSeat {
     /// thief that has yet to leave it.
     pub fn push(&mut self, cube: u32) -> Result<(), u32>
         ensures same { IsSameOwner self.old self.new × (popped self.new ≡ popped self.old) }
-        ensures cube { MatchResult result (λ _. pushed self.new ≡ pushed self.old ++ cube ∷ []) (λ back. (back ≡ cube) × (pushed self.new ≡ pushed self.old)) }
+        ensures cube { MatchResult result (λ _. pushed self.new ≡ pushed self.old ++ cube ∷ []) (λ back.
+            (back ≡ cube) × (pushed self.new ≡ pushed self.old)) }
     {
         let Some(unpopped) = self.unpopped.checked_add(1) else {
             return Err(cube);

@@ -30,7 +30,8 @@ impl Supply {
     /// Puts a cube into its own deque, at the back, or gives it back as `push` of `OwnerSeat` does.
     pub fn put(&mut self, cube: u32) -> Result<(), u32>
         ensures same { IsSameSupply self.old self.new × (taken self.new ≡ taken self.old) }
-        ensures cube { MatchResult result (λ _. given self.new ≡ given self.old ++ cube ∷ []) (λ back. (back ≡ cube) × (given self.new ≡ given self.old)) }
+        ensures cube { MatchResult result (λ _. given self.new ≡ given self.old ++ cube ∷ []) (λ back.
+            (back ≡ cube) × (given self.new ≡ given self.old)) }
     {
         self.own.push(cube)
     }
@@ -68,7 +69,8 @@ fn stolen_soon(thief: &mut ThiefSeat) -> Option<u32>
 // What the first thief steals that can, from the one after this worker's on, round.
 fn stolen_round(thieves: &mut [ThiefSeat], worker: u32) -> Option<u32>
     ensures same { AllZip IsSameThief thieves.old thieves.new }
-    ensures cube { MatchOption result (stolen_by thieves.new ≡ stolen_by thieves.old) (λ cube. HasOneMore (stolen_by thieves.old) cube (stolen_by thieves.new)) }
+    ensures cube { MatchOption result (stolen_by thieves.new ≡ stolen_by thieves.old) (λ cube.
+        HasOneMore (stolen_by thieves.old) cube (stolen_by thieves.new)) }
 {
     let count = thieves.len();
     for step in 1..count {
@@ -161,7 +163,9 @@ fn last_of_each(
 /// which the supplies are dropped.
 pub fn settle_all(alloc: Global, supplies: Vec<Supply>) -> Result<Vec<u32>, AllocError>
     requires { AreSupplies supplies.items }
-    ensures { IfOk result (λ left. (cube : ℕ) → occurrences cube (given_by supplies.items) ≡ occurrences cube (taken_by supplies.items ++ left.items)) }
+    ensures { IfOk result (λ left. (cube : ℕ) →
+        occurrences cube (given_by supplies.items) ≡
+        occurrences cube (taken_by supplies.items ++ left.items)) }
 {
     let (owners, rows) = parted(alloc, supplies)?;
     left_of_all(alloc, owners, rows)
@@ -192,7 +196,10 @@ fn left_of_all(
 ) -> Result<Vec<u32>, AllocError>
     requires rows { All (AreThieves owners.items) (rows_of rows.items) }
     requires counts { All (λ owner. thief_count owner ≡ vec_len rows) owners.items }
-    ensures { IfOk result (λ left. (cube : ℕ) → occurrences cube (flat_map pushed owners.items) ≡ occurrences cube ((flat_map popped owners.items ++ flat_map stolen_by (rows_of rows.items)) ++ left.items)) }
+    ensures { IfOk result (λ left. (cube : ℕ) →
+        occurrences cube (flat_map pushed owners.items) ≡
+        occurrences cube ((flat_map popped owners.items ++ flat_map stolen_by (rows_of rows.items)) ++
+        left.items)) }
 {
     let mut left = Vec::new(alloc);
     while let Some(owner) = owners.pop() {
@@ -208,7 +215,9 @@ fn left_of_all(
 fn left_of(owner: OwnerSeat, thieves: Vec<ThiefSeat>) -> Result<Vec<u32>, AllocError>
     requires of { All (λ thief. IsThiefOf owner thief) thieves.items }
     requires complete { vec_len thieves ≡ thief_count owner }
-    ensures { IfOk result (λ left. (cube : ℕ) → occurrences cube (pushed owner) ≡ occurrences cube ((popped owner ++ stolen_by thieves.items) ++ left.items)) }
+    ensures { IfOk result (λ left. (cube : ℕ) →
+        occurrences cube (pushed owner) ≡
+        occurrences cube ((popped owner ++ stolen_by thieves.items) ++ left.items)) }
 {
     match settle(owner, thieves) {
         Ok(tally) => Ok(tally.left),

@@ -42,7 +42,9 @@ fn joined(mut owner: Owner, thieves: Vec<ThiefSeat>) -> Owner
     requires deque { All (λ thief. stealer_deque thief.thief ≡ worker_deque owner) thieves.items }
     requires parts { 0 < (worker_view owner).parts }
     ensures flavor { worker_flavor result ≡ worker_flavor owner }
-    ensures view { worker_view result ≡ hand ((worker_view owner).parts + vec_len thieves) (worker_view owner).pushed ((worker_view owner).taken ++ stolen_by thieves.items) }
+    ensures view { worker_view result ≡
+        hand ((worker_view owner).parts + vec_len thieves) (worker_view owner).pushed ((worker_view
+        owner).taken ++ stolen_by thieves.items) }
 {
     for seat in thieves {
         owner.absorb::<Parts>(seat.pass);
@@ -70,7 +72,9 @@ fn drained(mut owner: Owner, mut left: Vec<u32>) -> Vec<u32>
 /// Room is asked for each cube that was pushed and that the owner hasn't popped.
 pub fn settle(owner: OwnerSeat, thieves: Vec<ThiefSeat>) -> Result<Tally, Unsettled>
     requires { All (λ thief. IsThiefOf owner thief) thieves.items }
-    ensures balanced { IfOk result (λ tally. (cube : ℕ) → occurrences cube (pushed owner) ≡ occurrences cube ((popped owner ++ stolen_by thieves.items) ++ tally.left.items)) }
+    ensures balanced { IfOk result (λ tally. (cube : ℕ) →
+        occurrences cube (pushed owner) ≡
+        occurrences cube ((popped owner ++ stolen_by thieves.items) ++ tally.left.items)) }
     ensures handed_back { IfErr result (λ r. (r.owner ≡ owner) × (r.thieves ≡ thieves)) }
     ensures complete { OnOk result (vec_len thieves ≡ thief_count owner) }
     ensures missing { IfErr result (λ r. (r.fault ≡ Missing) ↔ (vec_len thieves ≢ thief_count owner)) }

@@ -146,7 +146,9 @@ fn publish_derived(pool: &mut Pool, words: &str, given: &mut Given) {
 /// The lines, asked for twice where there are none: memory may have been wanting the first time.
 fn derived_once_more(alloc: Global, pool: &Pool, batch: &Batch) -> Option<DerivedLines>
     ensures lines { IfSome result (λ d. AreOfBatch batch.now.lines.items d) }
-    ensures derived { IfSome result (λ _. DeriveAfter pool.now.held.formula pool.now.held.log (resolved_lines (next_number pool.now.held) batch.now.lines.items)) }
+    ensures derived { IfSome result (λ _.
+        DeriveAfter pool.now.held.formula pool.now.held.log (resolved_lines (next_number pool.now.held)
+        batch.now.lines.items)) }
 {
     match derived(alloc, pool, batch) {
         Some(lines) => Some(lines),
@@ -156,7 +158,9 @@ fn derived_once_more(alloc: Global, pool: &Pool, batch: &Batch) -> Option<Derive
 
 fn derived(alloc: Global, pool: &Pool, batch: &Batch) -> Option<DerivedLines>
     ensures lines { IfSome result (λ d. AreOfBatch batch.now.lines.items d) }
-    ensures derived { IfSome result (λ _. DeriveAfter pool.now.held.formula pool.now.held.log (resolved_lines (next_number pool.now.held) batch.now.lines.items)) }
+    ensures derived { IfSome result (λ _.
+        DeriveAfter pool.now.held.formula pool.now.held.log (resolved_lines (next_number pool.now.held)
+        batch.now.lines.items)) }
 {
     let _history = pool.history();
     let formula = pool.formula();

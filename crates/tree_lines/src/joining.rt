@@ -85,7 +85,12 @@ fn add_line(
     hints: Vec<u32>,
 ) -> Result<Entry, AllocError>
     requires derived { AreDerived formula.now (lines.now ++ added.old.items) }
-    requires derives { IsTrue (rises literals.items) → Derives formula.now (lines.now ++ added.old.items) (record { literals = literals.items; hints = hints.items }) }
+    requires derives { IsTrue (rises literals.items) →
+        Derives formula.now (lines.now ++ added.old.items) (record {
+          literals = literals.items;
+          hints =
+              hints.items;
+        }) }
     requires sorted { IsTrue (are_sorted literals.items) }
     requires within { IsTrue (is_within formula.now.variables literals.items) }
     requires hints { IsTrue (are_numbers hints.items) }

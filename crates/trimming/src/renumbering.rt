@@ -95,7 +95,9 @@ impl Renumbering {
     fn put(&self, staying: &mut Vec<Line>, place: usize, line: Line)
         requires there { place < length self.now.flags }
         requires room { vec_len staying.old < vec_capacity staying.old }
-        ensures yes { slice_get self.now.flags place ≡ Some true → staying.new.items ≡ staying.old.items ++ renumbered_line (renumber self.now.clauses self.now.flags) line ∷ [] }
+        ensures yes { slice_get self.now.flags place ≡ Some true →
+            staying.new.items ≡
+            staying.old.items ++ renumbered_line (renumber self.now.clauses self.now.flags) line ∷ [] }
         ensures no { slice_get self.now.flags place ≡ Some false → staying.new.items ≡ staying.old.items }
         ensures most { vec_len staying.new ≤ vec_len staying.old + 1 }
         ensures capacity { vec_capacity staying.new ≡ vec_capacity staying.old }
@@ -109,7 +111,9 @@ impl Renumbering {
     /// runs out, all stay as they are.
     pub fn keep(&self, alloc: Global, lines: &mut Vec<Line>) -> Result<(), AllocError>
         requires { length self.now.flags ≡ length lines.old.items }
-        ensures kept { OnOk result (lines.new.items ≡ map (renumbered_line (renumber self.now.clauses self.now.flags)) (kept self.now.flags lines.old.items)) }
+        ensures kept { OnOk result (lines.new.items ≡
+            map (renumbered_line (renumber self.now.clauses self.now.flags)) (kept self.now.flags
+            lines.old.items)) }
         ensures unchanged { OnErr result (lines.new.items ≡ lines.old.items) }
     {
         let mut staying = Vec::with_capacity(alloc, lines.len())?;

@@ -49,12 +49,14 @@ pub fn trim(
 ) -> Result<(), TrimFault>
     ensures lines { OnOk result (lines.new.items ≡ trimmed_lines clauses lines.old.items tree.old) }
     ensures tree { OnOk result (tree.new ≡ trimmed_nodes clauses lines.old.items tree.old) }
-    ensures accepted { OnOk result ((f : Conjunction) → length f.clauses ≡ clauses → Accepts f lines.old.items tree.old → Accepts f lines.new.items tree.new) }
+    ensures accepted { OnOk result ((f : Conjunction) → length f.clauses ≡ clauses →
+        Accepts f lines.old.items tree.old → Accepts f lines.new.items tree.new) }
     ensures needed { OnOk result (Needed clauses lines.new.items tree.new) }
     ensures same_lines { OnErr result (lines.new.items ≡ lines.old.items) }
     ensures same_tree { OnErr result (tree.new ≡ tree.old) }
     ensures number { result ≡ Err TrimFault.Number → are_named clauses lines.old.items tree.old ≡ false }
-    ensures number_only { are_named clauses lines.old.items tree.old ≡ false → (result ≡ Err TrimFault.Number) ⊎ (result ≡ Err TrimFault.Memory) }
+    ensures number_only { are_named clauses lines.old.items tree.old ≡ false →
+        (result ≡ Err TrimFault.Number) ⊎ (result ≡ Err TrimFault.Memory) }
 {
     if !are_named(clauses, lines.as_slice(), tree.nodes()) {
         return Err(TrimFault::Number);

@@ -127,7 +127,8 @@ impl Search {
     ) -> Result<Option<Vec<u32>>, AllocError>
         requires search { IsSearch edges.now self.old.path.items self.old.marks.items self.old.looked.items }
         requires last { slice_get self.old.path.items (length self.old.path.items - 1) ≡ Some rank }
-        ensures search { IfOk result (λ found. IfNone found (IsSearch edges.now self.new.path.items self.new.marks.items self.new.looked.items)) }
+        ensures search { IfOk result (λ found.
+            IfNone found (IsSearch edges.now self.new.path.items self.new.marks.items self.new.looked.items)) }
         ensures met { IfOk result (λ found. IfNone found (AreMet self.old.marks.items self.new.marks.items)) }
         ensures less { IfOk result (λ found. IfNone found (weight self.new.marks.items < weight self.old.marks.items)) }
         ensures cycle { IfOk result (λ found. IfSome found (λ ranks. IsCycle edges.now ranks.items)) }
@@ -156,7 +157,8 @@ impl Search {
     ) -> Result<Option<Vec<u32>>, AllocError>
         requires search { IsSearch edges.now self.old.path.items self.old.marks.items self.old.looked.items }
         requires empty { self.old.path.items ≡ [] }
-        ensures search { IfOk result (λ found. IfNone found (IsSearch edges.now self.new.path.items self.new.marks.items self.new.looked.items)) }
+        ensures search { IfOk result (λ found.
+            IfNone found (IsSearch edges.now self.new.path.items self.new.marks.items self.new.looked.items)) }
         ensures empty { IfOk result (λ found. IfNone found (self.new.path.items ≡ [])) }
         ensures met { IfOk result (λ found. IfNone found (AreMet self.old.marks.items self.new.marks.items)) }
         ensures root { IfOk result (λ found. IfNone found (mark_at self.new.marks.items root ≢ New)) }
@@ -185,7 +187,8 @@ impl Search {
 /// From the lowest rank that leads to a cycle on, the path goes to the lowest such rank that is
 /// waited for, until it comes back.
 pub fn cycle(alloc: Global, edges: &[Vec<u32>]) -> Result<Option<Vec<u32>>, AllocError>
-    ensures cycle { IfOk result (λ found. MatchOption found ((ranks : List ℕ) → IsCycle edges.now ranks → ⊥) (λ ranks. IsCycle edges.now ranks.items)) }
+    ensures cycle { IfOk result (λ found. MatchOption found ((ranks : List ℕ) → IsCycle edges.now ranks →
+        ⊥) (λ ranks. IsCycle edges.now ranks.items)) }
     ensures once { IfOk result (λ found. IfSome found (λ ranks. AllPairs (λ one other. one ≢ other) ranks.items)) }
 {
     // No memory holds so many lists that their number isn't one of 32 bits.
