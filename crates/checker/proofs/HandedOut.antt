@@ -10,7 +10,8 @@ use Rattle.prooflog.specs.Refutations.{ClaimedRefutation}
 use Rattle.prooflog.specs.Grammar.{IsEvidenceText}
 use Rattle.checker.specs.declared.judging.Judged.TheVariants as judged
 use Rattle.checker.specs.declared.refuting.Refuted.{Refuted}
-use Rattle.checker.specs.Verdicts.{AreShown, IsJudged, IsRefutedBy, Shows}
+use Rattle.checker.specs.Headline.{Shows}
+use Rattle.checker.specs.Verdicts.{AreShown, IsJudged, IsRefutedBy}
 
 pub are_refuted : (program evidence : List ℕ) (p : MpiProgram) (claim : ClaimedRefutation) (found : Refuted) → IsTextOf program p → IsEvidenceText evidence (Refutation claim)
     → found ≡ record { program = p; formula = formula_of p; refutation = claim } → IsRefutedBy p claim → IsJudged program evidence (Ok (judged.Refuted found))

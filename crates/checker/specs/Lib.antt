@@ -1,2 +1,3 @@
 pub mod Parts
+pub mod Headline
 pub mod Verdicts

@@ -14,8 +14,6 @@ use Rattle.formula.specs.Numbering.{formula_of}
 use Rattle.encode.specs.declared.fault.EncodeFault.TheVariants as encoding
 use Rattle.semantics.specs.declared.state.Step.{Step}
 use Rattle.semantics.specs.declared.schedule.End.TheVariants as ends
-use Rattle.calltext.specs.Limits.{short}
-use Rattle.semantics.specs.Headline.{IsNeverStuckWithin}
 use Rattle.semantics.specs.Machine.{IsStuckRun, IsFinishedRun, IsLiveRun, StopsAt}
 use Rattle.refutations.specs.Refutations.{Accepts, AreDerived, IsFirstFaulty}
 use Rattle.refutations.specs.Trees.{AcceptsTree, HasTreeFault}
@@ -32,23 +30,7 @@ use Rattle.checker.specs.declared.reason.Reason.{Reason}
 use Rattle.checker.specs.declared.reason.Reason.TheVariants as reasons
 use Rattle.checker.specs.declared.reason.Verdict.{Verdict}
 use Rattle.checker.specs.declared.reason.Verdict.TheVariants as verdicts
-
--- ---- the headline
-
--- The program's bytes are the text of a program, and no list of steps is a run of it that ends
--- where a rank is unfinished and no step is enabled.
-abbrev pub IsNeverStuck : List ℕ → Type 0
-IsNeverStuck = IsNeverStuckWithin short
-
--- The program's bytes are the text of a program, the evidence's bytes are the text of a schedule,
--- and the schedule is a run of that program that ends where a rank is unfinished and no step is
--- enabled.
-pub record Shows (program evidence : List ℕ) : Type 0 where
-  pub p : MpiProgram
-  pub steps : List Step
-  pub text : IsTextOf program p
-  pub schedule : IsEvidenceText evidence (Schedule steps)
-  pub stuck : IsStuckRun p steps
+use Rattle.checker.specs.Headline.{IsNeverStuck, Shows}
 
 -- ---- texts
 

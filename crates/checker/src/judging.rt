@@ -1,7 +1,8 @@
 //! The verdict.
 
 ghost use Rattle.std.specs.Prelude.{◌≡◌, ◌≢◌, ◌<◌, ◌≤◌, IfOk, IfErr};
-ghost use Rattle.checker.specs.Verdicts.{AreRefuted, IsJudged, IsNeverStuck, IsVerdict, Judges, Shows};
+ghost use Rattle.checker.specs.Headline.{IsNeverStuck, Shows};
+ghost use Rattle.checker.specs.Verdicts.{AreRefuted, IsJudged, IsVerdict, Judges};
 
 use crate::reason::{Reason, Verdict};
 use crate::refuting::{Refuted, refute};

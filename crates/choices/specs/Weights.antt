@@ -8,7 +8,7 @@ use Rattle.narrowing.specs.declared.taken.Taken.{Taken}
 use Rattle.narrowing.specs.Ways.{AreOtherWays}
 use Rattle.narrowing.specs.Narrowed.{IsNarrowed}
 use Rattle.narrowing.specs.Laws.{LeavesOpen, IsTakenSo}
-use Rattle.checker.specs.Verdicts.{IsNeverStuck}
+use Rattle.checker.specs.Headline.{IsNeverStuck}
 use Rattle.prover.specs.Answers.{CanHang}
 use Rattle.choices.specs.Pins.{IsPinned}
 use Rattle.choices.specs.declared.asking.Way.{Way}

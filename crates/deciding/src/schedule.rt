@@ -3,7 +3,8 @@
 ghost use Rattle.std.specs.Prelude.{◌+◌, ◌++◌, ◌≡◌, IfOk, OnOk, map};
 ghost use Rattle.std.specs.List.{flat_map};
 ghost use Rattle.plaintext.specs.Plain.{numeral};
-ghost use Rattle.prooflog.specs.Steps.{find_step, step_line, written};
+ghost use Rattle.prooflog.specs.Reading.{find_step};
+ghost use Rattle.prooflog.specs.Steps.{step_line, written};
 ghost use Rattle.deciding.specs.Schedules.{issue_step, schedule_text};
 
 use prooflog::find_word;

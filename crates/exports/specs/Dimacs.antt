@@ -14,7 +14,7 @@ use Rattle.formula.specs.declared.facts.Meaning.TheVariants.{OfFact as fact, Clo
 use Rattle.formula.specs.Families.{event_at}
 use Rattle.formula.specs.Numbering.{meanings, formula_of}
 use Rattle.prooflog.specs.Refutations.{literal_word}
-use Rattle.prooflog.specs.Steps.{find_word}
+use Rattle.prooflog.specs.Reading.{find_word}
 
 -- An event's words are `issue C`, `match T` with the taker, or `see P` with the probe.
 abbrev pub event_words : MpiProgram → Event → List (List ℕ)

@@ -22,7 +22,7 @@ use Rattle.sealing.specs.declared.loose.Loose.{Loose}
 use Rattle.sealing.specs.Loose.{IsLooseSend}
 use Rattle.sealing.proofs.Sealed.{one_sealed_phase_more}
 use Rattle.sealing.proofs.Seals.{no_loose_send_seals}
-use Rattle.checker.specs.Verdicts.{IsNeverStuck}
+use Rattle.checker.specs.Headline.{IsNeverStuck}
 use Rattle.phase_checker.specs.declared.phase.Phase.{Phase}
 use Rattle.phase_checker.specs.Dealing.{Dealt, IsAt, KeepsToItself}
 use Rattle.phase_checker.specs.Laws.{JoinedAreNeverStuck}

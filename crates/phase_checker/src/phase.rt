@@ -38,7 +38,8 @@ impl Phase {
     ghost use Rattle.callorder.specs.Resolving.{IsTextOfWithin};
     ghost use Rattle.phases.specs.Rests.{IsFront, IsRest, behind};
     ghost use Rattle.sealing.specs.Loose.{AreLoose};
-    ghost use Rattle.checker.specs.Verdicts.{IsNeverStuck, Judges, Refutes};
+    ghost use Rattle.checker.specs.Headline.{IsNeverStuck};
+    ghost use Rattle.checker.specs.Verdicts.{Judges, Refutes};
     ghost use Rattle.phase_checker.specs.Reasons.{IsNoPhase};
 
     /// The phase that this program is. The only error is want of memory.

@@ -4,9 +4,9 @@ use Rattle.std.proofs.lemmas.List.{map-append}
 use Rattle.plaintext.specs.Fronts.{to_end, BeginsWith}
 use Rattle.prooflog.specs.declared.refutation.Version.{Version}
 use Rattle.prooflog.specs.declared.refutation.Version.TheVariants.{One}
-use Rattle.prooflog.specs.Steps.{step_line}
+use Rattle.prooflog.specs.Steps.{step_line, schedule_line}
 use Rattle.prooflog.specs.Refutations.{ClaimedRefutation, Item, item_line, items}
-use Rattle.prooflog.specs.Grammar.{Written, as_schedule, as_refutation, schedule_line, refutation_line, written_lines}
+use Rattle.prooflog.specs.Grammar.{Written, as_schedule, as_refutation, refutation_line, written_lines}
 use Rattle.prooflog.specs.Reading.{opening}
 use Rattle.prooflog.proofs.ProofWords.{item_line_injective, item_line_nonempty}
 use Rattle.prooflog.proofs.Fronts.{Next, next_or_end}

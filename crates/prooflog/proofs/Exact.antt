@@ -19,9 +19,9 @@ use Rattle.prooflog.specs.declared.fault.EvidenceFault.TheVariants.{Memory, Synt
 use Rattle.prooflog.specs.declared.refutation.Version.{Version}
 use Rattle.prooflog.specs.declared.refutation.Version.TheVariants.{One, Two}
 use Rattle.prooflog.specs.declared.step.WrittenStep.{WrittenStep}
-use Rattle.prooflog.specs.Steps.{written, step_line}
+use Rattle.prooflog.specs.Steps.{written, step_line, schedule_line}
 use Rattle.prooflog.specs.Refutations.{ClaimedRefutation, Item, item_line, items, a_node}
-use Rattle.prooflog.specs.Grammar.{Written, as_schedule, as_refutation, heading_line, schedule_line, refutation_line, written_lines, written_of, IsWithinLimits, IsEvidenceText}
+use Rattle.prooflog.specs.Grammar.{Written, as_schedule, as_refutation, heading_line, refutation_line, written_lines, written_of, IsEvidenceText}
 use Rattle.prooflog.specs.Fault.{IsRanged, IsFew, CanGoOn, IsWhy, HasEvidenceFault}
 use Rattle.prooflog.proofs.StepLines.{plain_step, step_line_injective, step_line_nonempty}
 use Rattle.prooflog.proofs.ProofWords.{plain_item, item_line_injective, item_line_nonempty}
@@ -56,7 +56,9 @@ all_lines (as_refutation r) = (
 )
 
 pub lines_of_text : (bytes : List ℕ) (e : Evidence) → IsEvidenceText bytes e → text_lines bytes ≡ to_end (written_lines (written_of e))
-lines_of_text bytes e t = ap text_lines t.text ∙ lines_joined (written_lines (written_of e)) (all_lines (written_of e))
+lines_of_text bytes (Schedule ss) t =
+    let w = as_schedule (map written ss) in ap text_lines t.text ∙ lines_joined (written_lines w) (all_lines w)
+lines_of_text bytes (Refutation r) t = ap text_lines t.text ∙ lines_joined (written_lines (as_refutation r)) (all_lines (as_refutation r))
 
 -- ---- lines have one value
 
@@ -154,17 +156,17 @@ one_value bytes a b s t = one_written a b (sym (lines_of_text bytes a s) ∙ lin
 
 -- ---- a text has no fault
 
-ranged : (e : Evidence) → IsWithinLimits e → IsRanged (written_of e)
-ranged (Schedule ss) limits = limits.in_range
-ranged (Refutation r) limits = limits.0
+ranged : (bytes : List ℕ) (e : Evidence) → IsEvidenceText bytes e → IsRanged (written_of e)
+ranged bytes (Schedule ss) t = t.limits.in_range
+ranged bytes (Refutation r) t = t.limits.0
 
-few : (e : Evidence) (count : ℕ) → IsWithinLimits e → IsFew count (written_of e)
-few (Schedule ss) count limits = omega (arith, limits.few, length-take (count - 2) (map written ss))
-few (Refutation r) count limits = small_front r.lines r.nodes (count - 2) (count - (3 + length r.lines)) limits.1
+few : (bytes : List ℕ) (e : Evidence) (count : ℕ) → IsEvidenceText bytes e → IsFew count (written_of e)
+few bytes (Schedule ss) count t = omega (arith, t.limits.few, length-take (count - 2) (map written ss))
+few bytes (Refutation r) count t = small_front r.lines r.nodes (count - 2) (count - (3 + length r.lines)) t.limits.1
 
 no_first_fault : (bytes : List ℕ) (evidence : Evidence) (before : List (List ℕ)) (line : List ℕ) → IsEvidenceText bytes evidence → IsFirstFaultyLine CanGoOn bytes before line → ⊥
 no_first_fault bytes e before line t first =
-    let whole : CanGoOn (text_lines bytes) = (written_of e, (ranged e t.limits, few e (length (text_lines bytes)) t.limits), ([], sym (lines_of_text bytes e t) ∙ sym (append-nil (text_lines bytes)))) in
+    let whole : CanGoOn (text_lines bytes) = (written_of e, (ranged bytes e t, few bytes e (length (text_lines bytes)) t), ([], sym (lines_of_text bytes e t) ∙ sym (append-nil (text_lines bytes)))) in
     no_faulty_line CanGoOn bytes before line closed_go_on whole first
 
 pub text_has_no_fault : (bytes : List ℕ) (evidence : Evidence) (fault : EvidenceFault) → IsEvidenceText bytes evidence → HasEvidenceFault bytes fault → fault ≡ Memory

@@ -14,9 +14,9 @@ use Rattle.prooflog.specs.declared.fault.EvidenceFault.{EvidenceFault}
 use Rattle.prooflog.specs.declared.fault.EvidenceFault.TheVariants.{Syntax, Range}
 use Rattle.prooflog.specs.declared.refutation.Version.{Version}
 use Rattle.prooflog.specs.declared.refutation.Version.TheVariants.{One, Two}
-use Rattle.prooflog.specs.Steps.{written, step_line, IsSchedule}
+use Rattle.prooflog.specs.Steps.{written, step_line, IsSchedule, schedule_line}
 use Rattle.prooflog.specs.Refutations.{ClaimedRefutation, IsSmall, IsRefutation, items, item_line}
-use Rattle.prooflog.specs.Grammar.{Written, as_schedule, as_refutation, heading_line, schedule_line, refutation_line, written_lines, IsEvidenceText}
+use Rattle.prooflog.specs.Grammar.{Written, as_schedule, as_refutation, heading_line, refutation_line, written_lines, IsEvidenceText}
 use Rattle.prooflog.specs.Fault.{HasShape, IsInRange, CanGoOn, HasEvidenceFault}
 use Rattle.prooflog.specs.Reading.{words_of, counts_words, opening, HasFaultAfter}
 use Rattle.prooflog.proofs.Fronts.{small_front, stops_syntax, stops_range, after_more, of_text}

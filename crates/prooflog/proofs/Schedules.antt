@@ -15,9 +15,9 @@ use Rattle.prooflog.specs.declared.evidence.Evidence.TheVariants.{Schedule}
 use Rattle.prooflog.specs.declared.fault.EvidenceFault.TheVariants.{Syntax, Range, TooLarge}
 use Rattle.prooflog.specs.declared.refutation.Version.TheVariants.{One}
 use Rattle.prooflog.specs.declared.step.WrittenStep.{WrittenStep}
-use Rattle.prooflog.specs.Steps.{written, step_words, step_line, IsStepInRange, IsSchedule}
+use Rattle.prooflog.specs.Steps.{written, step_words, step_line, IsStepInRange, IsSchedule, schedule_line}
 use Rattle.prooflog.specs.Refutations.{item_line, items}
-use Rattle.prooflog.specs.Grammar.{Written, as_schedule, as_refutation, heading_line, schedule_line, refutation_line, written_lines, IsEvidenceText}
+use Rattle.prooflog.specs.Grammar.{Written, as_schedule, as_refutation, heading_line, refutation_line, written_lines, IsEvidenceText}
 use Rattle.prooflog.specs.Fault.{IsRanged, IsFew, CanGoOn}
 use Rattle.prooflog.specs.Reading.{HasFaultAfter}
 use Rattle.prooflog.proofs.StepLines.{step_line_injective, step_line_nonempty}

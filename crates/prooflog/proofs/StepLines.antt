@@ -11,8 +11,8 @@ use Rattle.plaintext.proofs.Texts.{line_of_injective, capped_small}
 use Rattle.plaintext.proofs.FirstFaults.{heads}
 use Rattle.prooflog.specs.declared.step.WrittenStep.{WrittenStep}
 use Rattle.prooflog.specs.declared.step.WrittenStep.TheVariants.{Issue, Match, See}
-use Rattle.prooflog.specs.Steps.{buffered_words, find_word, find_step, step_words, step_line, IsStepInRange, AreCallsInRange}
-use Rattle.prooflog.specs.Reading.{words_of, capped, capped_step}
+use Rattle.prooflog.specs.Steps.{buffered_words, step_words, step_line, IsStepInRange, AreCallsInRange}
+use Rattle.prooflog.specs.Reading.{words_of, capped, capped_step, find_word, find_step}
 
 -- ---- one line
 

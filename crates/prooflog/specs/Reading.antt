@@ -1,5 +1,5 @@
 -- What the reader's parts say of a line and of the rest of a text.
-use Rattle.std.specs.Prelude.{codes, ◌≡◌, ◌≢◌, ◌↔◌, ℕ, ◌+◌, ◌≤◌, Bool, IsTrue, List, [], ◌∷◌, ◌++◌, length, map, drop, min, Option, Some, None, IfSome, slice_get, ◌==◌}
+use Rattle.std.specs.Prelude.{codes, ◌≡◌, ◌≢◌, ◌↔◌, ℕ, ◌+◌, ◌≤◌, Bool, IsTrue, List, [], ◌∷◌, ◌++◌, length, map, drop, min, Option, Some, None, IfSome, slice_get, ◌==◌, true, false}
 use Rattle.std.specs.List.{slice_split, slice_range, AllByRecursion, list_all}
 use Rattle.plaintext.specs.Plain.{numeral, text_lines}
 use Rattle.plaintext.specs.Fronts.{to_end, IsFirstFaultyLine}
@@ -19,7 +19,8 @@ use Rattle.prooflog.specs.declared.refutation.Version.TheVariants.{One}
 use Rattle.prooflog.specs.declared.step.WrittenStep.{WrittenStep}
 use Rattle.prooflog.specs.declared.step.WrittenStep.TheVariants.{Issue, Match, See}
 use Rattle.prooflog.specs.Refutations.{proof_words, is_line_in_range, item_line, a_proof, the_tree}
-use Rattle.prooflog.specs.Grammar.{heading_line, schedule_line, refutation_line}
+use Rattle.prooflog.specs.Steps.{schedule_line}
+use Rattle.prooflog.specs.Grammar.{heading_line, refutation_line}
 use Rattle.prooflog.specs.Fault.{CanGoOn, IsWhy}
 
 -- what stands between the spaces of a line
@@ -120,3 +121,13 @@ AreParts bytes parts = (place : ℕ) (part : Option TextPart) → slice_get part
 abbrev pub IsOpened : List ℕ → EvidenceKind → List ℕ → Type 0
 IsOpened bytes Schedule rest = text_lines bytes ≡ (heading_line One ∷ schedule_line ∷ []) ++ text_lines rest
 IsOpened bytes (Refutation version v c) rest = (text_lines bytes ≡ opening version v c ++ text_lines rest) × (v ≤ 2147483647) × (c ≤ 2147483647)
+
+-- The step by which a finder finds a send: a probe sees it, a taker is matched with it.
+abbrev pub find_step : Bool → ℕ → ℕ → WrittenStep
+find_step true send probe = See send probe
+find_step false send taker = Match send taker
+
+-- The word of a finder's step is `see` for a probe, and `match` for a taker.
+abbrev pub find_word : Bool → List ℕ
+find_word true = codes "see"
+find_word false = codes "match"

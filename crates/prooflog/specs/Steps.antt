@@ -1,5 +1,7 @@
--- Steps of a schedule as its text writes them, and the limits of a schedule.
-use Rattle.std.specs.Prelude.{codes, ℕ, ◌+◌, ◌≤◌, List, [], ◌∷◌, length, map, All, Bool, true, false}
+-- The text of a schedule: how each step is written, and the limits. A schedule has one text: its
+-- lines, each with its LF.
+use Rattle.std.specs.Prelude.{codes, ◌≡◌, ℕ, ◌+◌, ◌≤◌, List, [], ◌∷◌, length, map, All, Bool, true, false}
+use Rattle.std.specs.List.{flat_map}
 use Rattle.plaintext.specs.Plain.{numeral, line_of}
 use Rattle.semantics.specs.declared.state.Step.{Step}
 use Rattle.semantics.specs.declared.state.Step.TheVariants as steps
@@ -13,20 +15,10 @@ written (steps.Issue rank buffered) = Issue rank buffered
 written (steps.Match send taker) = Match (send + 1) (taker + 1)
 written (steps.See send probe) = See (send + 1) (probe + 1)
 
--- The step by which a finder finds a send: a probe sees it, a taker is matched with it.
-abbrev pub find_step : Bool → ℕ → ℕ → WrittenStep
-find_step true send probe = See send probe
-find_step false send taker = Match send taker
-
 -- The word `buffered` stands where a send is buffered, and nothing where it isn't.
 abbrev pub buffered_words : Bool → List (List ℕ)
 buffered_words true = codes "buffered" ∷ []
 buffered_words false = []
-
--- The word of a finder's step is `see` for a probe, and `match` for a taker.
-abbrev pub find_word : Bool → List ℕ
-find_word true = codes "see"
-find_word false = codes "match"
 
 -- A step's words are `issue R`, `issue R buffered`, `match S T` or `see S P`.
 abbrev pub step_words : WrittenStep → List (List ℕ)
@@ -57,3 +49,20 @@ pub record IsWrittenSchedule (steps : List WrittenStep) : Type 0 where
 -- A schedule is within the limits as it is written.
 abbrev pub IsSchedule : List Step → Type 0
 IsSchedule steps = IsWrittenSchedule (map written steps)
+
+-- The first line of a schedule's text is `evidence 1`, and the second `schedule`.
+abbrev pub first_line : List ℕ
+first_line = line_of (codes "evidence" ∷ codes "1" ∷ [])
+
+abbrev pub schedule_line : List ℕ
+schedule_line = line_of (codes "schedule" ∷ [])
+
+-- Then each step has its line.
+abbrev pub schedule_lines : List WrittenStep → List (List ℕ)
+schedule_lines steps = first_line ∷ schedule_line ∷ map step_line steps
+
+-- The bytes are the text of the schedule: it is within the limits, and the bytes are its lines, one
+-- after another.
+pub record IsScheduleText (bytes : List ℕ) (steps : List Step) : Type 0 where
+  pub limits : IsSchedule steps
+  pub text : bytes ≡ flat_map (λ line. line) (schedule_lines (map written steps))

@@ -2,8 +2,8 @@
 
 ghost use Rattle.std.specs.Prelude.{◌≡◌, ◌≢◌, ◌+◌, ◌++◌, ◌∷◌, [], codes, length, map, true, false, IfNone, IfSome, IfOk, IfErr};
 ghost use Rattle.plaintext.specs.Plain.{text_lines};
-ghost use Rattle.prooflog.specs.Steps.{IsSchedule, written, step_line};
-ghost use Rattle.prooflog.specs.Grammar.{IsEvidenceText, heading_line, schedule_line};
+ghost use Rattle.prooflog.specs.Steps.{IsSchedule, written, step_line, schedule_line};
+ghost use Rattle.prooflog.specs.Grammar.{IsEvidenceText, heading_line};
 ghost use Rattle.prooflog.specs.declared.refutation.Version.TheVariants.{One};
 ghost use Rattle.prooflog.specs.Fault.{HasEvidenceFault};
 ghost use Rattle.prooflog.specs.Reading.{HasFaultAfter, IsOpened, LinesSoFar};

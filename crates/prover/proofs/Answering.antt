@@ -12,7 +12,8 @@ use Rattle.prooflog.specs.declared.evidence.Evidence.TheVariants.{Schedule, Refu
 use Rattle.prooflog.specs.declared.refutation.Version.TheVariants.{One, Two}
 use Rattle.prooflog.specs.Trims.{IsTrimmed}
 use Rattle.checker.proofs.Shorter.{refuted_trimmed}
-use Rattle.checker.specs.Verdicts.{IsNeverStuck, IsRefutedBy, Refutes, HasFormula}
+use Rattle.checker.specs.Headline.{IsNeverStuck}
+use Rattle.checker.specs.Verdicts.{IsRefutedBy, Refutes, HasFormula}
 use Rattle.checker.proofs.Headlines.{refuted_are_never_stuck}
 use Rattle.pool.specs.States.{PoolState, IsAssembled}
 use Rattle.prover.specs.declared.answer.Answer.{Answer}

@@ -7,7 +7,8 @@ use Rattle.semantics.specs.declared.state.Step.{Step}
 use Rattle.semantics.specs.Machine.{IsFinishedRun, IsStuckRun}
 use Rattle.checker.specs.declared.reason.Reason.{Reason}
 use Rattle.checker.specs.declared.reason.Reason.TheVariants as reasons
-use Rattle.checker.specs.Verdicts.{IsNeverStuck, Refutes, Shows, HasFormula, HasNoFormula, IsProgramReason}
+use Rattle.checker.specs.Headline.{IsNeverStuck, Shows}
+use Rattle.checker.specs.Verdicts.{Refutes, HasFormula, HasNoFormula, IsProgramReason}
 use Rattle.prover.specs.declared.answer.Answer.{Answer}
 use Rattle.prover.specs.declared.answer.Answer.TheVariants as answers
 use Rattle.prover.specs.declared.ends.WalkEnds.{WalkEnds}

@@ -24,7 +24,8 @@ use Rattle.refutations.specs.declared.tree.Node.TheVariants.{Split, Leaf}
 use Rattle.prooflog.specs.Grammar.{IsEvidenceText}
 use Rattle.prooflog.specs.Refutations.{ClaimedRefutation}
 use Rattle.prooflog.specs.declared.evidence.Evidence.TheVariants.{Refutation}
-use Rattle.checker.specs.Verdicts.{IsReason, Refutes, Shows}
+use Rattle.checker.specs.Headline.{Shows}
+use Rattle.checker.specs.Verdicts.{IsReason, Refutes}
 use Rattle.reports.specs.Sizes.{choices, messages, open_sends, wildcards}
 use Rattle.reports.specs.declared.explained.Explained.{Explained}
 use Rattle.reports.specs.declared.explained.Explained.TheVariants as told

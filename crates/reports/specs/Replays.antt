@@ -3,7 +3,8 @@ use Rattle.std.specs.Prelude.{◌≡◌, ℕ, Bool, true, false, List}
 use Rattle.calltext.specs.Grammar.{IsText, ProgramText}
 use Rattle.callorder.specs.Programs.{MpiProgram}
 use Rattle.semantics.specs.declared.state.Step.{Step}
-use Rattle.checker.specs.Verdicts.{Shows, IsARefutation, IsReason, is_of_refutation}
+use Rattle.checker.specs.Headline.{Shows}
+use Rattle.checker.specs.Verdicts.{IsARefutation, IsReason, is_of_refutation}
 use Rattle.charts.specs.Lining.{lined_run}
 use Rattle.reports.specs.Telling.{told_run}
 use Rattle.reports.specs.declared.steps.Replayed.{Replayed}

@@ -1,7 +1,8 @@
 -- The laws of runs of `check`, `replay` and `encode`.
 use Rattle.std.proofs.Common.{◌≡◌, ◌∙◌, ◌⊎◌, arith, ap, inl, inr, sym, subst, ℕ, List, Bool, Some, Option}
 use Rattle.clap.specs.Words.{Text}
-use Rattle.checker.specs.Verdicts.{Judges, Shows}
+use Rattle.checker.specs.Headline.{Shows}
+use Rattle.checker.specs.Verdicts.{Judges}
 use Rattle.checker.specs.declared.reason.Reason.{Reason}
 use Rattle.checker.specs.declared.reason.Verdict.{Verdict}
 use Rattle.checker.specs.declared.reason.Verdict.TheVariants as verdicts

@@ -11,7 +11,7 @@ use Rattle.deciding.specs.declared.decision.Decision.{Decision}
 use Rattle.deciding.specs.declared.decision.Decision.TheVariants as decisions
 use Rattle.deciding.specs.declared.decision.Race.{Race}
 use Rattle.deciding.specs.declared.texts.Undecided.{Undecided}
-use Rattle.checker.specs.Verdicts.{IsNeverStuck, Shows}
+use Rattle.checker.specs.Headline.{IsNeverStuck, Shows}
 use Rattle.checker.specs.declared.reason.Reason.{Reason}
 use Rattle.prover.specs.Answers.{Answers, CanFinish, FinishesIfUnknown}
 use Rattle.prover.specs.declared.answer.Answer.{Answer}

@@ -7,7 +7,8 @@ use Rattle.calltext.specs.declared.fault.ReadFault.TheVariants as reading
 use Rattle.callorder.specs.Programs.{MpiProgram}
 use Rattle.callorder.specs.Resolving.{IsTextOf}
 use Rattle.prooflog.specs.declared.evidence.Evidence.TheVariants.{Schedule, Refutation}
-use Rattle.checker.specs.Verdicts.{IsProgramReason, IsReason, Judges, Refutes, Shows}
+use Rattle.checker.specs.Headline.{Shows}
+use Rattle.checker.specs.Verdicts.{IsProgramReason, IsReason, Judges, Refutes}
 use Rattle.checker.specs.declared.reason.Reason.{Reason}
 use Rattle.checker.specs.declared.reason.Reason.TheVariants as reasons
 use Rattle.checker.specs.declared.reason.Verdict.{Verdict}

@@ -6,7 +6,7 @@ use Rattle.calltext.specs.Limits.{long}
 use Rattle.semantics.specs.Headline.{IsStuckRunWithin}
 use Rattle.semantics.specs.declared.state.Step.{Step}
 use Rattle.options.specs.declared.form.Form.{Form}
-use Rattle.checker.specs.Verdicts.{Shows}
+use Rattle.checker.specs.Headline.{Shows}
 use Rattle.command_line.specs.Requests.{AskFor, Task, to_decide, to_export, to_phases, to_shrink}
 use Rattle.command_line.specs.UsualWords.{PlainForm}
 use Rattle.session.specs.Asking.{AskToCheck, AskToExplain, AskToExplainBy, AskToProve, AskToReplay, TellsDeadlock}

@@ -2,7 +2,7 @@
 use Rattle.std.specs.Prelude.{◌≡◌, ◌≢◌, ◌⊎◌, ℕ, Bool, List, ◌++◌, Option, Some}
 use Rattle.clap.specs.Words.{Text}
 use Rattle.options.specs.declared.form.Form.{Form}
-use Rattle.checker.specs.Verdicts.{Shows}
+use Rattle.checker.specs.Headline.{Shows}
 use Rattle.pool.specs.declared.why.Why.{Why}
 use Rattle.pool.specs.declared.why.Why.TheVariants as whys
 use Rattle.command_line.specs.Requests.{AskFor, to_check, to_explain, to_prove, to_replay}

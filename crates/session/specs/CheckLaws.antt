@@ -1,7 +1,8 @@
 -- What follows from how a run of `check`, `replay` or `encode` ended.
 use Rattle.std.specs.Prelude.{◌≡◌, ◌≢◌, ◌⊎◌, ℕ, Bool, List, Some, IsTrue}
 use Rattle.clap.specs.Words.{Text}
-use Rattle.checker.specs.Verdicts.{IsNeverStuck, Refutes, Shows}
+use Rattle.checker.specs.Headline.{IsNeverStuck, Shows}
+use Rattle.checker.specs.Verdicts.{Refutes}
 use Rattle.reports.specs.Replays.{TellsRun}
 use Rattle.command_line.specs.Requests.{AskFor, to_encode}
 use Rattle.session.specs.Asking.{AskToCheck, AskToReplay, DeadlockIsShown, ShownIsTold, TellsSafety}

@@ -1,7 +1,8 @@
 -- What follows from how a run of `export`, `trim` or `shrink` ended.
 use Rattle.std.specs.Prelude.{codes, ◌≡◌, ◌≢◌, ℕ, Bool, false, List, ◌++◌, Option, Some, None, IsTrue}
 use Rattle.clap.specs.Words.{Text}
-use Rattle.checker.specs.Verdicts.{IsNeverStuck, Refutes}
+use Rattle.checker.specs.Headline.{IsNeverStuck}
+use Rattle.checker.specs.Verdicts.{Refutes}
 use Rattle.reports.specs.Exports.{Exports}
 use Rattle.reports.specs.Trimming.{Shortens}
 use Rattle.reports.specs.declared.trimmed.Shortened.{Shortened}

@@ -8,7 +8,8 @@ use Rattle.deciding.specs.Decisions.{HasRace}
 use Rattle.deciding.specs.Schedules.{schedule_text}
 use Rattle.deciding.specs.declared.decision.Race.{Race}
 use Rattle.options.specs.declared.form.Form.{Form}
-use Rattle.checker.specs.Verdicts.{IsNeverStuck, Refutes, Shows}
+use Rattle.checker.specs.Headline.{IsNeverStuck, Shows}
+use Rattle.checker.specs.Verdicts.{Refutes}
 use Rattle.checker.specs.declared.reason.Reason.{Reason}
 use Rattle.prover.specs.Answers.{Answers, CanFinish}
 use Rattle.prover.specs.declared.answer.Answer.TheVariants as answers

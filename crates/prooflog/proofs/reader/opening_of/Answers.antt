@@ -1,7 +1,8 @@
 use Rattle.std.proofs.Common.{◌≡◌, [], ◌∷◌, ◌++◌, ap, sym, ◌∙◌, arith}
 use Rattle.plaintext.specs.Plain.{text_lines}
 use Rattle.prooflog.specs.declared.refutation.Version.TheVariants.{One}
-use Rattle.prooflog.specs.Grammar.{heading_line, schedule_line, refutation_line}
+use Rattle.prooflog.specs.Steps.{schedule_line}
+use Rattle.prooflog.specs.Grammar.{heading_line, refutation_line}
 use Rattle.prooflog.proofs.Headings.{first_faulty, first_unended, first_is, second_faulty, second_unended, second_over, no_schedule, no_counts, counts_line, second_is}
 use Rattle.prooflog.proofs.reader.opening_of.Goals.{then-variables-gt-LARGEST_NUMBER-via-then-variables-gt-LARGEST_NUMBER, then-variables-gt-LARGEST_NUMBER-via-else-variables-gt-LARGEST_NUMBER+then-clauses-gt-LARGEST_NUMBER}
 use Rattle.prooflog.proofs.reader.opening_of.Goals as goal

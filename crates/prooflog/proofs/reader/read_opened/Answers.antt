@@ -1,5 +1,6 @@
 use Rattle.std.proofs.Common.{subst}
-use Rattle.prooflog.specs.Grammar.{schedule_line, refutation_line}
+use Rattle.prooflog.specs.Steps.{schedule_line}
+use Rattle.prooflog.specs.Grammar.{refutation_line}
 use Rattle.prooflog.specs.Reading.{IsOpened}
 use Rattle.prooflog.specs.declared.reader.EvidenceKind.TheVariants.{Schedule, Refutation}
 use Rattle.prooflog.specs.declared.refutation.Version.TheVariants.{One}
