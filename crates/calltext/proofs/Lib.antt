@@ -3,6 +3,7 @@ pub mod Places
 pub mod RefusedLaws
 pub mod Letters
 pub mod Verbs
+pub mod Slots
 pub mod Lines
 pub mod Once
 pub mod CallReads

@@ -5,6 +5,7 @@ pub mod Grammar
 pub mod Fault
 pub mod Capped
 pub mod Verbs
+pub mod Slots
 pub mod Item
 pub mod Body
 pub mod AtLine

@@ -4,6 +4,7 @@
 
 ghost use Rattle.calltext.specs.Fault.{OneFault, OneValue, SameTextWithin, TextHasNoFault};
 ghost use Rattle.calltext.specs.Limits.{ShortIsWithinLong};
+ghost use Rattle.calltext.specs.Slots.{WordsFillSlots};
 
 /// Bytes are the text of one program at most.
 pub fn one_value()
@@ -29,4 +30,9 @@ pub fn same_text_within()
 /// What is within the short limits is within the long ones.
 pub fn short_is_within_long()
     ensures { ShortIsWithinLong }
+{}
+
+/// Words behind a verb fill its slots exactly where they and the verb are a call's.
+pub fn words_fill_slots()
+    ensures { WordsFillSlots }
 {}

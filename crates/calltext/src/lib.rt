@@ -22,11 +22,14 @@ mod words;
 
 pub use call::{CallLine, Mode, Policy};
 pub use fault::ReadFault;
-pub use laws::{one_fault, one_value, same_text_within, short_is_within_long, text_has_no_fault};
+pub use laws::{
+    one_fault, one_value, same_text_within, short_is_within_long, text_has_no_fault,
+    words_fill_slots,
+};
 pub use limits::Limits;
-pub use name::{Name, Names};
+pub use name::{Name, Names, is_name};
 pub use printer::print;
 pub use reader::{read, read_long};
 pub use refused::RefusedWord;
 pub use source::{LongSource, Source};
-pub use verb::Verb;
+pub use verb::{Slot, Verb};

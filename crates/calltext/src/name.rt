@@ -97,7 +97,9 @@ fn are_letters_or_digits(letters: &[u8]) -> bool
     true
 }
 
-fn is_name(word: &[u8]) -> bool
+/// Whether the word can name a request or a handle: one letter a to z, and then up to 15 of a to z
+/// and 0 to 9.
+pub fn is_name(word: &[u8]) -> bool
     ensures { result ≡ is_name word.now }
 {
     let [first, others @ ..] = word else {

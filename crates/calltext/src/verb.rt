@@ -2,6 +2,7 @@
 
 ghost use Rattle.std.specs.Prelude.{◌≡◌, ◌≢◌, IfNone, IfSome};
 ghost use Rattle.calltext.specs.Grammar.{send_word};
+ghost use Rattle.calltext.specs.Slots.{slots_of};
 ghost use Rattle.calltext.specs.Verbs.{started_word, verb_of, verb_word, verbs};
 
 use crate::call::{CallLine, Mode};
@@ -27,6 +28,27 @@ pub enum Verb {
     WaitAll,
     /// `sendrecv`.
     SendReceive,
+}
+
+/// What a word behind a call line's first stands for.
+#[derive(Clone, Copy, PartialEq, Eq)]
+pub enum Slot {
+    /// The name of a request.
+    Request,
+    /// Names of requests, one or more: all words that follow.
+    Requests,
+    /// The name of a handle.
+    Handle,
+    /// A rank, from 0.
+    Rank,
+    /// A rank, from 0, or a star for any.
+    RankOrStar,
+    /// A tag, from 0.
+    Tag,
+    /// A tag, from 0, or a star for any.
+    TagOrStar,
+    /// `comm` and the number of a communicator, from 1; both may be left out.
+    Communicator,
 }
 
 const VERBS: [Verb; 15] = [
@@ -100,6 +122,38 @@ impl Verb {
             Verb::Wait => "wait",
             Verb::WaitAll => "waitall",
             Verb::SendReceive => "sendrecv",
+        }
+    }
+
+    /// What the words behind it stand for, in their order.
+    pub fn slots(&self) -> &'static [Slot]
+        ensures { result.now ≡ slots_of self.now }
+    {
+        match self {
+            Verb::Send { started: false, .. } => &[Slot::Rank, Slot::Tag, Slot::Communicator],
+            Verb::Send { started: true, .. } => {
+                &[Slot::Request, Slot::Rank, Slot::Tag, Slot::Communicator]
+            }
+            Verb::Receive { started: false } | Verb::Probe => {
+                &[Slot::RankOrStar, Slot::TagOrStar, Slot::Communicator]
+            }
+            Verb::Receive { started: true } => {
+                &[Slot::Request, Slot::RankOrStar, Slot::TagOrStar, Slot::Communicator]
+            }
+            Verb::MatchedProbe => {
+                &[Slot::Handle, Slot::RankOrStar, Slot::TagOrStar, Slot::Communicator]
+            }
+            Verb::MatchedReceive { started: false } => &[Slot::Handle],
+            Verb::MatchedReceive { started: true } => &[Slot::Request, Slot::Handle],
+            Verb::Wait => &[Slot::Request],
+            Verb::WaitAll => &[Slot::Requests],
+            Verb::SendReceive => &[
+                Slot::Rank,
+                Slot::Tag,
+                Slot::RankOrStar,
+                Slot::TagOrStar,
+                Slot::Communicator,
+            ],
         }
     }
 

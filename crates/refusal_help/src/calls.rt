@@ -1,6 +1,8 @@
 //! What is wrong with a call line whose first word is a call.
 
-use crate::shapes::{WordFault, number_fault, shape_of, slot_of, word_fault};
+use crate::shapes::{
+    WordFault, label_of, number_fault, put_shape, required_slots, slot_at, word_fault,
+};
 use crate::told::Help;
 use calltext::Verb;
 use plaintext::is_word;
@@ -55,11 +57,12 @@ fn put_word_fault(
 }
 
 /// Tells what is wrong with the first word that breaks the shape. False where none does.
-fn put_broken(help: &mut Help, shape: &str, words: &[&[u8]]) -> Result<bool, AllocError> {
-    for (place, word) in shape.split(' ').zip(words.iter()) {
-        if let Some(fault) = word_fault(place, word, help.limits) {
-            let (_slot, label) = slot_of(place);
-            put_word_fault(help, label, word, fault)?;
+fn put_broken(help: &mut Help, verb: Verb, words: &[&[u8]]) -> Result<bool, AllocError> {
+    for (place, word) in words.iter().enumerate() {
+        if let Some(slot) = slot_at(verb, place)
+            && let Some(fault) = word_fault(slot, word, help.limits)
+        {
+            put_word_fault(help, label_of(slot), word, fault)?;
             return Ok(true);
         }
     }
@@ -67,8 +70,11 @@ fn put_broken(help: &mut Help, shape: &str, words: &[&[u8]]) -> Result<bool, All
 }
 
 /// Tells what is wrong with the words that follow those of the shape.
-fn put_more(help: &mut Help, shape: &str, rest: &[&[u8]]) -> Result<(), AllocError> {
-    let has_communicator = shape.contains("TAG");
+fn put_more(
+    help: &mut Help,
+    has_communicator: bool,
+    rest: &[&[u8]],
+) -> Result<(), AllocError> {
     match rest {
         [] => Ok(()),
         [word, number] if has_communicator && is_word(word, "comm") => {
@@ -90,32 +96,28 @@ fn put_more(help: &mut Help, shape: &str, rest: &[&[u8]]) -> Result<(), AllocErr
 }
 
 /// Tells which words break the shape of a call line, if any do.
-fn put_faults(help: &mut Help, shape: &str, words: &[&[u8]]) -> Result<(), AllocError> {
-    if put_broken(help, shape, words)? {
+fn put_faults(help: &mut Help, verb: Verb, words: &[&[u8]]) -> Result<(), AllocError> {
+    if put_broken(help, verb, words)? {
         return Ok(());
     }
-    if let Some(place) = shape.split(' ').nth(words.len()) {
-        let (_slot, label) = slot_of(place);
+    if let Some(slot) = slot_at(verb, words.len()) {
+        let label = label_of(slot);
         return write!(help.notes, "a {label} is missing\n");
     }
-    let known = shape.split(' ').count();
-    put_more(help, shape, words.get(known..).unwrap_or(&[]))
+    let (slots, has_communicator) = required_slots(verb);
+    let known = slots.len().saturating_add(1);
+    put_more(help, has_communicator, words.get(known..).unwrap_or(&[]))
 }
 
 /// Tells what is wrong with a call line whose first word is this one, and the shape that it has to
 /// have.
 pub fn put_call(help: &mut Help, verb: Verb, words: &[&[u8]]) -> Result<(), AllocError> {
-    let shape = shape_of(verb);
     if let Verb::WaitAll = verb {
         help.notes.push_str(
             "a name is a letter a to z, then at most 15 letters a to z and digits\n",
         )?;
     } else {
-        put_faults(help, shape, words)?;
+        put_faults(help, verb, words)?;
     }
-    help.expected.push_str(shape)?;
-    if shape.contains("TAG") {
-        help.expected.push_str(" [comm NUMBER]")?;
-    }
-    Ok(())
+    put_shape(&mut help.expected, verb)
 }

@@ -1,12 +1,12 @@
 //! What is wrong with a call line among the others.
 
 use crate::lines::{bytes_at, lines_of};
-use crate::shapes::{Slot, shape_of, slot_of};
+use crate::shapes::slot_at;
 use crate::sizes::{Size, size_words};
 use crate::syntax::ranks_of;
 use crate::told::{File, Help};
 use callorder::CallFault;
-use calltext::Verb;
+use calltext::{Slot, Verb};
 use plaintext::{number_of, words_of};
 use std::alloc::{AllocError, Global};
 
@@ -33,27 +33,35 @@ fn line_number(lines: &[&[u8]], rank: u32, place: usize) -> usize {
     }
 }
 
-/// The word of the line that stands for this, if the line can have only one such.
+/// The word of the line that stands in this slot, if the line can have only one such.
 fn named<'a>(slot: Slot, words: &[&'a [u8]]) -> Option<&'a [u8]> {
     let first = words.first()?;
     let verb = Verb::find(first)?;
-    if let Verb::WaitAll = verb {
-        return None;
-    }
-    let (_place, word) = shape_of(verb)
-        .split(' ')
-        .zip(words.iter())
-        .find(|(place, _word)| slot_of(place).0 == slot)?;
+    let (_place, word) = words
+        .iter()
+        .enumerate()
+        .find(|(place, _word)| slot_at(verb, *place) == Some(slot))?;
     Some(*word)
+}
+
+/// Whether the word at this place names a rank that is none of so many.
+fn is_stray(verb: Verb, place: usize, word: &[u8], ranks: usize) -> bool {
+    match slot_at(verb, place) {
+        Some(Slot::Rank | Slot::RankOrStar) => {
+            number_of(word).is_some_and(|number| number as usize >= ranks)
+        }
+        _ => false,
+    }
 }
 
 /// The rank of the line that the program lacks.
 fn stray_rank<'a>(words: &[&'a [u8]], ranks: usize) -> Option<&'a [u8]> {
     let first = words.first()?;
     let verb = Verb::find(first)?;
-    let (_place, word) = shape_of(verb).split(' ').zip(words.iter()).find(|(place, word)| {
-        slot_of(place).0 == Slot::Rank && number_of(word).is_some_and(|n| n as usize >= ranks)
-    })?;
+    let (_place, word) = words
+        .iter()
+        .enumerate()
+        .find(|(place, word)| is_stray(verb, *place, word, ranks))?;
     Some(*word)
 }
 

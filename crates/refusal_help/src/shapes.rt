@@ -1,70 +1,57 @@
 //! The shapes of call lines, and the words that break them.
 
-use calltext::{Limits, Mode, Verb};
+use calltext::{Limits, Slot, Verb, is_name};
 use plaintext::{is_word, number_of};
+use std::alloc::AllocError;
 
-/// The shape of a send's line.
-fn send_shape(mode: Mode, started: bool) -> &'static str {
-    match (mode, started) {
-        (Mode::Standard, false) => "send RANK TAG",
-        (Mode::Synchronous, false) => "ssend RANK TAG",
-        (Mode::Buffered, false) => "bsend RANK TAG",
-        (Mode::Standard, true) => "isend REQUEST RANK TAG",
-        (Mode::Synchronous, true) => "issend REQUEST RANK TAG",
-        (Mode::Buffered, true) => "ibsend REQUEST RANK TAG",
+/// How a shape has what stands in this slot.
+fn shape_word(slot: Slot) -> &'static str {
+    match slot {
+        Slot::Request => "REQUEST",
+        Slot::Requests => "REQUEST ..",
+        Slot::Handle => "HANDLE",
+        Slot::Rank => "RANK",
+        Slot::RankOrStar => "RANK-or-*",
+        Slot::Tag => "TAG",
+        Slot::TagOrStar => "TAG-or-*",
+        Slot::Communicator => "[comm NUMBER]",
     }
 }
 
-/// The shape of a line with this first word.
-pub fn shape_of(verb: Verb) -> &'static str {
-    match verb {
-        Verb::Send { mode, started } => send_shape(mode, started),
-        Verb::Receive { started: false } => "recv RANK-or-* TAG-or-*",
-        Verb::Receive { started: true } => "irecv REQUEST RANK-or-* TAG-or-*",
-        Verb::MatchedProbe => "mprobe HANDLE RANK-or-* TAG-or-*",
-        Verb::Probe => "probe RANK-or-* TAG-or-*",
-        Verb::MatchedReceive { started: false } => "mrecv HANDLE",
-        Verb::MatchedReceive { started: true } => "imrecv REQUEST HANDLE",
-        Verb::Wait => "wait REQUEST",
-        Verb::WaitAll => "waitall REQUEST ..",
-        Verb::SendReceive => "sendrecv RANK TAG RANK-or-* TAG-or-*",
+/// Adds the shape of a line with this first word.
+pub fn put_shape(out: &mut String, verb: Verb) -> Result<(), AllocError> {
+    out.push_str(verb.text())?;
+    for slot in verb.slots() {
+        out.push(' ')?;
+        out.push_str(shape_word(*slot))?;
+    }
+    Ok(())
+}
+
+/// What a word in this slot is called.
+pub fn label_of(slot: Slot) -> &'static str {
+    match slot {
+        Slot::Request | Slot::Requests => "request",
+        Slot::Handle => "handle",
+        Slot::Rank | Slot::RankOrStar => "rank",
+        Slot::Tag | Slot::TagOrStar => "tag",
+        Slot::Communicator => "comm",
     }
 }
 
-/// What a word of a shape stands for.
-#[derive(Clone, Copy, PartialEq, Eq)]
-pub enum Slot {
-    Rank,
-    Tag,
-    Request,
-    Handle,
-    /// The word stands for itself.
-    Word,
-}
-
-/// What this word of a shape stands for, and what that is called.
-pub fn slot_of(word: &str) -> (Slot, &'static str) {
-    if word.starts_with("RANK") {
-        (Slot::Rank, "rank")
-    } else if word.starts_with("TAG") {
-        (Slot::Tag, "tag")
-    } else if word == "REQUEST" {
-        (Slot::Request, "request")
-    } else if word == "HANDLE" {
-        (Slot::Handle, "handle")
-    } else {
-        (Slot::Word, "word")
+/// The slots that can't be left out, and whether a communicator may follow.
+pub fn required_slots(verb: Verb) -> (&'static [Slot], bool) {
+    match verb.slots() {
+        [slots @ .., Slot::Communicator] => (slots, true),
+        slots => (slots, false),
     }
 }
 
-/// Whether the word is a name of a request or of a handle.
-fn is_name(word: &[u8]) -> bool {
-    let begins = word.first().is_some_and(|byte| byte.is_ascii_lowercase());
-    begins
-        && word.len() <= 16
-        && word
-            .iter()
-            .all(|byte| byte.is_ascii_lowercase() || byte.is_ascii_digit())
+/// The slot of the word at this place, where the verb stands at 0; none for those of a communicator
+/// and for what may not stand there.
+pub fn slot_at(verb: Verb, place: usize) -> Option<Slot> {
+    let (slots, _has_communicator) = required_slots(verb);
+    slots.get(place.checked_sub(1)?).copied()
 }
 
 /// What is wrong with a word.
@@ -87,17 +74,14 @@ pub fn number_fault(word: &[u8], least: u32, most: u32) -> Option<WordFault> {
     }
 }
 
-/// What is wrong with a word in the place of this word of a shape, where something is.
-pub fn word_fault(shape: &str, word: &[u8], limits: Limits) -> Option<WordFault> {
-    if shape.ends_with("*") && is_word(word, "*") {
-        return None;
-    }
-    let (slot, _label) = slot_of(shape);
+/// What is wrong with a word in this slot, where something is.
+pub fn word_fault(slot: Slot, word: &[u8], limits: Limits) -> Option<WordFault> {
     match slot {
-        Slot::Rank => number_fault(word, 0, limits.peer),
-        Slot::Tag => number_fault(word, 0, limits.tag),
-        Slot::Request | Slot::Handle if is_name(word) => None,
-        Slot::Request | Slot::Handle => Some(WordFault::NoName),
-        Slot::Word => None,
+        Slot::RankOrStar | Slot::TagOrStar if is_word(word, "*") => None,
+        Slot::Rank | Slot::RankOrStar => number_fault(word, 0, limits.peer),
+        Slot::Tag | Slot::TagOrStar => number_fault(word, 0, limits.tag),
+        Slot::Request | Slot::Requests | Slot::Handle if is_name(word) => None,
+        Slot::Request | Slot::Requests | Slot::Handle => Some(WordFault::NoName),
+        Slot::Communicator => None,
     }
 }

@@ -2,43 +2,36 @@
 
 use crate::excerpts::Excerpt;
 use crate::lines::{count_ranks, is_rank, lines_of, verb_of};
-use calltext::Verb;
+use calltext::Slot;
 use plaintext::{number_of, put_number, words_of};
 use std::alloc::{AllocError, Global};
 
-/// At which places, from 0, the words of a line may name ranks, or how many ranks there are; 0
-/// where there is no such place.
-fn rank_places(words: &[&[u8]]) -> (usize, usize) {
+/// What stands in the words of a line behind the first. A line that is no call's is a heading, which
+/// names a rank, or how many ranks there are.
+fn slots_of(words: &[&[u8]]) -> &'static [Slot] {
     match verb_of(words) {
-        Some(Verb::Send { started, .. } | Verb::Receive { started }) => {
-            (1 + usize::from(started), 0)
-        }
-        Some(Verb::Probe) => (1, 0),
-        Some(Verb::MatchedProbe) => (2, 0),
-        Some(Verb::SendReceive) => (1, 3),
-        Some(_) => (0, 0),
-        None => (1, 0),
+        Some(verb) => verb.slots(),
+        None => &[Slot::Rank],
     }
 }
 
-/// The rank that the word at this place names.
-fn rank_at(words: &[&[u8]], place: usize) -> Option<u32> {
-    if place == 0 {
-        return None;
+/// The rank, or how many ranks there are, that the word at this place names, if it names one.
+fn rank_at(slots: &[Slot], words: &[&[u8]], place: usize) -> Option<u32> {
+    match slots.get(place.checked_sub(1)?) {
+        Some(Slot::Rank | Slot::RankOrStar) => number_of(words.get(place)?),
+        _ => None,
     }
-    let word = words.get(place)?;
-    number_of(word)
 }
 
 /// Whether the words name the rank.
 pub fn names(words: &[&[u8]], rank: u32) -> bool {
-    let (one, other) = rank_places(words);
-    rank_at(words, one) == Some(rank) || rank_at(words, other) == Some(rank)
+    let slots = slots_of(words);
+    (0..words.len()).any(|place| rank_at(slots, words, place) == Some(rank))
 }
 
 /// The rank whose heading a line of these words is.
 pub fn heading_rank(words: &[&[u8]]) -> Option<u32> {
-    rank_at(words, 1)
+    rank_at(&[Slot::Rank], words, 1)
 }
 
 /// For each rank the number that it gets once these are left out, and behind the last one how many
@@ -56,26 +49,15 @@ pub fn new_numbers(alloc: Global, left_out: &[bool]) -> Result<Vec<u32>, AllocEr
     Ok(numbers)
 }
 
-/// The new number of the rank that the word at this place names, if it names one.
-fn new_number(words: &[&[u8]], place: usize, numbers: &[u32]) -> Option<u32> {
-    let (one, other) = rank_places(words);
-    if place != one && place != other {
-        return None;
-    }
-    let rank = rank_at(words, place)?;
-    numbers.get(rank as usize).copied()
-}
-
 /// Adds a word, where it names a rank by the new number.
 fn put_word(
     out: &mut Vec<u8>,
-    words: &[&[u8]],
-    place: usize,
     word: &[u8],
+    rank: Option<u32>,
     numbers: &[u32],
 ) -> Result<(), AllocError> {
-    match new_number(words, place, numbers) {
-        Some(number) => put_number(out, number),
+    match rank.and_then(|rank| numbers.get(rank as usize)) {
+        Some(number) => put_number(out, *number),
         None => out.extend_from_slice(word),
     }
 }
@@ -86,11 +68,12 @@ pub fn put_renumbered(
     words: &[&[u8]],
     numbers: &[u32],
 ) -> Result<(), AllocError> {
+    let slots = slots_of(words);
     for (place, word) in words.iter().enumerate() {
         if place > 0 {
             out.push(b' ')?;
         }
-        put_word(out, words, place, word, numbers)?;
+        put_word(out, word, rank_at(slots, words, place), numbers)?;
     }
     out.push(b'\n')?;
     Ok(())
