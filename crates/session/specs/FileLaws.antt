@@ -13,7 +13,7 @@ use Rattle.session.specs.Runs.{PrintsAlone, SessionRun}
 use Rattle.session.specs.Shrinking.{IsSmaller, IsUnhung}
 use Rattle.shrinking.specs.Left.{AreLeft}
 use Rattle.shrinking.specs.Mapping.{map_text}
-use Rattle.shrinking.specs.Outcome.{left_text}
+use Rattle.shrinking.specs.Told.{left_text}
 
 -- ---- export
 

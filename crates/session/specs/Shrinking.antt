@@ -9,7 +9,7 @@ use Rattle.deciding.specs.declared.texts.Undecided.{Undecided}
 use Rattle.prover.specs.Answers.{CanFinish, CanHang}
 use Rattle.shrinking.specs.Left.{AreLeft}
 use Rattle.shrinking.specs.Mapping.{map_text}
-use Rattle.shrinking.specs.Outcome.{left_text}
+use Rattle.shrinking.specs.Told.{left_text}
 use Rattle.shrinking.specs.Shrinking.{CanHangLong, IsNotStuckLong, IsShrunk, IsShrunkLong}
 use Rattle.shrinking.specs.declared.halving.NotShrunkLong.{NotShrunkLong}
 use Rattle.shrinking.specs.declared.halving.NotShrunkLong.TheVariants as unshrunk

@@ -5,7 +5,7 @@ ghost use Rattle.session.specs.Pages.{ChangesAtMost, IsWritten, StopsBy};
 ghost use Rattle.session.specs.Unrolling.{ChangesAtMostTwo, IsFileOf, IsNamed};
 ghost use Rattle.shrinking.specs.Left.{AreLeft};
 ghost use Rattle.shrinking.specs.Mapping.{map_text};
-ghost use Rattle.shrinking.specs.Outcome.{left_text};
+ghost use Rattle.shrinking.specs.Told.{left_text};
 ghost use Rattle.session.specs.Shrinking.{AreWritten, IsBeyond, IsMadeSmaller, IsNotSmaller, IsShrinkFile, IsSmaller, IsSmallerPage, IsUnshrunkPage};
 
 use crate::commands::{Stop, write};
