@@ -116,7 +116,7 @@ stands_after formula h (Publish count (Ok base)) lines steps first place line sa
 stands_after formula h (Publish count (Err fault)) lines steps first place line same reply begins past there = no_place first begins
 stands_after formula h (Fetch from (Ok count)) lines steps first place line same reply begins past there =
     let told : first ≡ from = cc in
-    let lines_are : lines ≡ drop first h.log = reply.1 ∙ ap (λ n. drop n h.log) (sym told) in
+    let lines_are : lines ≡ drop first h.log = reply.0.1 ∙ ap (λ n. drop n h.log) (sym told) in
     sym (drop_at first place h.log past) ∙ ap (λ (l : List ProofLine). slice_get l (place - first)) (sym lines_are) ∙ there
 stands_after formula h (Fetch from (Err fault)) lines steps first place line same reply begins past there = no_place first begins
 stands_after formula h (Close leaf number given) lines steps first place line same reply begins past there = no_place first begins
@@ -132,7 +132,7 @@ told_now formula h item place from line step stands is past =
       first = from;
       begins = ap (first_place formula) is.1;
       past = past;
-      there = ap (λ (l : List ProofLine). slice_get l (place - from)) reply.1 ∙ drop_at from place h.log past ∙ stands;
+      there = ap (λ (l : List ProofLine). slice_get l (place - from)) reply.0.1 ∙ drop_at from place h.log past ∙ stands;
     }
 
 told_later : (formula : Conjunction) (h : PoolState) (items : List LoggedCall) (j : ℕ) (later : LoggedCall) (place from : ℕ) (line : ProofLine) → IsRun h items → slice_get items j ≡ Some later

@@ -15,7 +15,7 @@ invariant_of-self-in-Ok c =
     let log = c.self.inside.log in
     let lines = resolved_lines c.next_number-base.result c.as_slice-lines.result.now in
     let derive = subst (λ (f : Conjunction). DeriveAfter f log lines) (c.formula-formula.ensures.same ∙ ap (λ (e : EncodedProgram). e.formula) c.deref.ensures) e.reply.0 in (
-      sound_with _ c.note.new.self.reasons (sound_publish _ lines c.extend.new.log e.ok c.self.invariant.0 derive e.reply.1),
+      sound_with _ c.answer.new.self.reasons (sound_publish _ lines c.extend.new.log e.ok c.self.invariant.0 derive e.reply.1),
       c.self.invariant.1,
       e.size ∙ c.self.invariant.2,
     )
