@@ -1,4 +1,4 @@
--- What a pool is, what each call is answered, and what it makes of the pool.
+-- What a pool is, and what its calls are answered.
 use Rattle.std.specs.Prelude.{◌≡◌, ◌≢◌, ℕ, ◌+◌, ◌<◌, ◌≤◌, List, [], ◌∷◌, ◌++◌, length, map, drop, replicate, Option, Some, None, unwrap_or, slice_get, slice_set, Result, Ok, Err, IfSome}
 use Rattle.callorder.specs.Programs.{MpiProgram}
 use Rattle.candidates.specs.Pairs.{pairs_of}

@@ -4,7 +4,7 @@
 //!
 //! Workers, nodes and places of lines count from 0, variables and clauses from 1; the lines of the
 //! log are numbered after the formula's clauses. `specs/States.antt` says what each call is
-//! answered, and what it makes of the pool.
+//! answered, and `specs/Calls.antt` what it makes of the pool.
 #![tactic(auto)]
 
 mod assembly;
