@@ -1,6 +1,6 @@
 //! What is read of a pool.
 
-ghost use Rattle.std.specs.Prelude.{◌≡◌, ◌↔◌, ◌<◌, length, IfOk, IsTrue, IsSome, Err};
+ghost use Rattle.std.specs.Prelude.{◌≡◌, ◌↔◌, ◌<◌, ℕ, length, IfOk, IsTrue, IsSome, Err};
 ghost use Rattle.std.specs.Arc.{arc_value};
 ghost use Rattle.trees.specs.Trees.{HasNoRoom, path_at};
 ghost use Rattle.prooflog.specs.declared.refutation.Version.TheVariants.{One};
