@@ -8,7 +8,7 @@ use Rattle.pages.proofs.Joined.{slice_get-front, slice_get-back}
 use Rattle.refutations.specs.Proofs.{ProofLine}
 use Rattle.semantics.specs.declared.state.Step.{Step}
 use Rattle.pool.specs.declared.entry.Operation.{Operation}
-use Rattle.pool.specs.declared.entry.Operation.TheVariants.{Publish, Fetch}
+use Rattle.pool.specs.declared.entry.Operation.TheVariants.{Publish, Fetch, Close, Split, Found}
 use Rattle.pool.specs.declared.entry.LoggedCall.{LoggedCall}
 use Rattle.pool.specs.Moves.{ToldStands}
 use Rattle.pool.specs.Growth.{first_place, Tells, IsFetchAfter, LogsGrow, BasesRise, RunsLoseNothing}
@@ -22,6 +22,9 @@ same_held h = (refl, refl, [], sym (append-nil h.log))
 
 pub grows_once : (h : PoolState) (deed : Operation) (lines : List ProofLine) (steps : List Step) → Grows h (after_deed h deed lines steps)
 grows_once h (Publish count (Ok base)) lines steps = (refl, refl, lines, refl)
+grows_once h (Close leaf number (Ok _)) lines steps = same_held h
+grows_once h (Split leaf variable (Ok nodes)) lines steps = same_held h
+grows_once h (Found count (Ok _)) lines steps = same_held h
 grows_once h deed lines steps = same_held h
 
 pub grows : (h : PoolState) (items : List LoggedCall) → Grows h (after_all h items)
