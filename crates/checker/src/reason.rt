@@ -80,14 +80,21 @@ pub enum NoRun {
     NotASchedule,
 }
 
+/// Want of memory is told as what it is, and each other fault under its reason.
+macro_rules! told_as {
+    ($fault:ident, $faults:ident, $reason:ident) => {
+        match $fault {
+            $faults::Memory => Reason::Memory,
+            other => Reason::$reason(other),
+        }
+    };
+}
+
 impl From<ReadFault> for Reason {
     ghost from_gives = { λ fault reason. reason ≡ read_reason fault };
 
     fn from(fault: ReadFault) -> Reason {
-        match fault {
-            ReadFault::Memory => Reason::Memory,
-            fault => Reason::Read(fault),
-        }
+        told_as!(fault, ReadFault, Read)
     }
 }
 
@@ -95,10 +102,7 @@ impl From<ResolveFault> for Reason {
     ghost from_gives = { λ fault reason. reason ≡ resolve_reason fault };
 
     fn from(fault: ResolveFault) -> Reason {
-        match fault {
-            ResolveFault::Memory => Reason::Memory,
-            fault => Reason::Resolve(fault),
-        }
+        told_as!(fault, ResolveFault, Resolve)
     }
 }
 
@@ -106,10 +110,7 @@ impl From<EvidenceFault> for Reason {
     ghost from_gives = { λ fault reason. reason ≡ evidence_reason fault };
 
     fn from(fault: EvidenceFault) -> Reason {
-        match fault {
-            EvidenceFault::Memory => Reason::Memory,
-            fault => Reason::Evidence(fault),
-        }
+        told_as!(fault, EvidenceFault, Evidence)
     }
 }
 
@@ -117,10 +118,7 @@ impl From<PairFault> for Reason {
     ghost from_gives = { λ fault reason. reason ≡ pair_reason fault };
 
     fn from(fault: PairFault) -> Reason {
-        match fault {
-            PairFault::Memory => Reason::Memory,
-            fault => Reason::Pairs(fault),
-        }
+        told_as!(fault, PairFault, Pairs)
     }
 }
 
@@ -128,10 +126,7 @@ impl From<EncodeFault> for Reason {
     ghost from_gives = { λ fault reason. reason ≡ encode_reason fault };
 
     fn from(fault: EncodeFault) -> Reason {
-        match fault {
-            EncodeFault::Memory => Reason::Memory,
-            fault => Reason::Encode(fault),
-        }
+        told_as!(fault, EncodeFault, Encode)
     }
 }
 
@@ -139,10 +134,7 @@ impl From<TreeFault> for Reason {
     ghost from_gives = { λ fault reason. reason ≡ tree_reason fault };
 
     fn from(fault: TreeFault) -> Reason {
-        match fault {
-            TreeFault::Memory => Reason::Memory,
-            fault => Reason::Tree(fault),
-        }
+        told_as!(fault, TreeFault, Tree)
     }
 }
 

@@ -19,7 +19,8 @@ use Rattle.trees.specs.declared.tree.NodeKind.TheVariants.{Leaf}
 use Rattle.trees.specs.Laws.{AreLeavesRefuted}
 use Rattle.trees.specs.Trees.{TreeNode, TreeState, IsGrown, IsBelow, AreLeavesNumbered, path_at}
 use Rattle.trees.proofs.Splits.{kind_within, closed_refute, splits_sound}
-use Rattle.pool.specs.States.{PoolState, IsSound, IsOpen, IsTreeOf}
+use Rattle.pool.specs.Evidence.{IsTreeOf}
+use Rattle.pool.specs.States.{PoolState, IsSound, IsOpen}
 use Rattle.pool.proofs.Sizes.{few_nodes, shallow_below}
 
 number_named : (clauses : List (List Literal)) (n : ℕ) (clause : List Literal) → length clauses ≤ 2147483647 → clause_numbered clauses n ≡ Some clause → is_number n ≡ true

@@ -1,6 +1,6 @@
 -- A pool's log only grows, and the program and its formula stay. So what was told once stands there
 -- for each later call.
-use Rattle.std.proofs.Common.{◌≡◌, ℕ, zero, suc, ◌+◌, ◌-◌, ◌<◌, ◌≤◌, List, [], ◌∷◌, ◌++◌, length, drop, Option, Some, None, slice_get, Ok, Err, refl, sym, ap, ◌∙◌, subst, append_assoc, append-nil, arith}
+use Rattle.std.proofs.Common.{◌≡◌, ℕ, zero, suc, ◌+◌, ◌-◌, ◌<◌, ◌≤◌, List, [], ◌∷◌, ◌++◌, length, drop, Option, Some, None, slice_get, Ok, refl, sym, ap, ◌∙◌, subst, append_assoc, append-nil, arith}
 use Rattle.std.proofs.lemmas.List.{length-append}
 use Rattle.std.proofs.lemmas.Option.{slice_get_within}
 use Rattle.clauses.specs.Clauses.{Conjunction}
@@ -8,7 +8,7 @@ use Rattle.pages.proofs.Joined.{slice_get-front, slice_get-back}
 use Rattle.refutations.specs.Proofs.{ProofLine}
 use Rattle.semantics.specs.declared.state.Step.{Step}
 use Rattle.pool.specs.declared.entry.Operation.{Operation}
-use Rattle.pool.specs.declared.entry.Operation.TheVariants.{Publish, Fetch, Close, Split, Found, Leave}
+use Rattle.pool.specs.declared.entry.Operation.TheVariants.{Publish, Fetch, Close, Split, Found}
 use Rattle.pool.specs.declared.entry.LoggedCall.{LoggedCall}
 use Rattle.pool.specs.Moves.{ToldStands}
 use Rattle.pool.specs.Growth.{first_place, Tells, IsFetchAfter, LogsGrow, BasesRise, RunsLoseNothing}
@@ -22,15 +22,10 @@ same_held h = (refl, refl, [], sym (append-nil h.log))
 
 pub grows_once : (h : PoolState) (deed : Operation) (lines : List ProofLine) (steps : List Step) → Grows h (after_deed h deed lines steps)
 grows_once h (Publish count (Ok base)) lines steps = (refl, refl, lines, refl)
-grows_once h (Publish count (Err fault)) lines steps = same_held h
-grows_once h (Fetch from reply) lines steps = same_held h
 grows_once h (Close leaf number (Ok _)) lines steps = same_held h
-grows_once h (Close leaf number (Err fault)) lines steps = same_held h
 grows_once h (Split leaf variable (Ok nodes)) lines steps = same_held h
-grows_once h (Split leaf variable (Err fault)) lines steps = same_held h
 grows_once h (Found count (Ok _)) lines steps = same_held h
-grows_once h (Found count (Err fault)) lines steps = same_held h
-grows_once h (Leave why) lines steps = same_held h
+grows_once h deed lines steps = same_held h
 
 pub grows : (h : PoolState) (items : List LoggedCall) → Grows h (after_all h items)
 grows h [] = same_held h
@@ -113,16 +108,11 @@ stands_after formula h (Publish count (Ok base)) lines steps first place line sa
     let told : base - (length formula.clauses + 1) ≡ first = cc in
     let at : place ≡ length h.log + (place - first) = omega (arith, told, clauses, reply.1, past) in
     ap (slice_get (h.log ++ lines)) at ∙ slice_get-back h.log lines (place - first) ∙ there
-stands_after formula h (Publish count (Err fault)) lines steps first place line same reply begins past there = no_place first begins
 stands_after formula h (Fetch from (Ok count)) lines steps first place line same reply begins past there =
     let told : first ≡ from = cc in
-    let lines_are : lines ≡ drop first h.log = reply.1 ∙ ap (λ n. drop n h.log) (sym told) in
+    let lines_are : lines ≡ drop first h.log = reply.0.1 ∙ ap (λ n. drop n h.log) (sym told) in
     sym (drop_at first place h.log past) ∙ ap (λ (l : List ProofLine). slice_get l (place - first)) (sym lines_are) ∙ there
-stands_after formula h (Fetch from (Err fault)) lines steps first place line same reply begins past there = no_place first begins
-stands_after formula h (Close leaf number given) lines steps first place line same reply begins past there = no_place first begins
-stands_after formula h (Split leaf variable given) lines steps first place line same reply begins past there = no_place first begins
-stands_after formula h (Found count given) lines steps first place line same reply begins past there = no_place first begins
-stands_after formula h (Leave why) lines steps first place line same reply begins past there = no_place first begins
+stands_after formula h deed lines steps first place line same reply begins past there = no_place first begins
 
 -- what stands in the log a fetch from there or before tells
 pub told_now : (formula : Conjunction) (h : PoolState) (item : LoggedCall) (place from : ℕ) (line : ProofLine) → IsStep h item → slice_get h.log place ≡ Some line → IsFetchAfter from item → from ≤ place → Tells formula item place line
@@ -132,7 +122,7 @@ told_now formula h item place from line step stands is past =
       first = from;
       begins = ap (first_place formula) is.1;
       past = past;
-      there = ap (λ (l : List ProofLine). slice_get l (place - from)) reply.1 ∙ drop_at from place h.log past ∙ stands;
+      there = ap (λ (l : List ProofLine). slice_get l (place - from)) reply.0.1 ∙ drop_at from place h.log past ∙ stands;
     }
 
 told_later : (formula : Conjunction) (h : PoolState) (items : List LoggedCall) (j : ℕ) (later : LoggedCall) (place from : ℕ) (line : ProofLine) → IsRun h items → slice_get items j ≡ Some later

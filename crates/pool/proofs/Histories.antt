@@ -1,5 +1,5 @@
 -- Sound pools stay sound, cover, and refute where they are closed.
-use Rattle.std.proofs.Common.{List, [], ◌∷◌, Option, Some, None, Ok, Err, IfSome, refl, arith}
+use Rattle.std.proofs.Common.{List, [], ◌∷◌, Option, Some, None, Ok, IfSome, unwrap_or, refl, arith}
 use Rattle.semantics.specs.declared.state.Step.{Step}
 use Rattle.semantics.specs.Machine.{IsStuckRun}
 use Rattle.callorder.specs.Programs.{MpiProgram}
@@ -10,24 +10,20 @@ use Rattle.trees.specs.Preorders.{tree_below}
 use Rattle.trees.proofs.Splits.{one_leaf_for_each}
 use Rattle.trees.proofs.Written.{root_hangs}
 use Rattle.pool.specs.declared.entry.Operation.{Operation}
-use Rattle.pool.specs.declared.entry.Operation.TheVariants.{Publish, Fetch, Close, Split, Found, Leave}
+use Rattle.pool.specs.declared.entry.Operation.TheVariants.{Publish, Close, Split, Found, Leave}
 use Rattle.pool.specs.Laws.{LeavesCover, ClosedPoolsRefute, RunsStaySound}
-use Rattle.pool.specs.States.{PoolState, IsSound, first_of, IsReply, after_deed, after}
+use Rattle.pool.specs.States.{PoolState, IsSound, IsReply, after_deed, after}
 use Rattle.pool.proofs.Assembling.{accepts, all_refuted}
-use Rattle.pool.proofs.Soundness.{sound_publish, sound_close, sound_split}
+use Rattle.pool.proofs.Soundness.{sound_with, sound_publish, sound_close, sound_split}
 
-first_stuck : (program : MpiProgram) (schedule : Option (List Step)) (steps : List Step) → IfSome schedule (IsStuckRun program) → IsStuckRun program steps → IsStuckRun program (first_of schedule steps)
+first_stuck : (program : MpiProgram) (schedule : Option (List Step)) (steps : List Step) → IfSome schedule (IsStuckRun program) → IsStuckRun program steps → IsStuckRun program (unwrap_or schedule steps)
 first_stuck program None steps kept stuck = stuck
 first_stuck program (Some first) steps kept stuck = kept
 
 sound_after : (h : PoolState) (deed : Operation) (lines : List ProofLine) (steps : List Step) → IsSound h → IsReply h deed lines steps → IsSound (after_deed h deed lines steps)
 sound_after h (Publish count (Ok base)) lines steps s r = sound_publish h lines _ refl s r.2 (omega (arith, r.0, r.3))
-sound_after h (Publish count (Err fault)) lines steps s r = s
-sound_after h (Fetch from reply) lines steps s r = s
-sound_after h (Close leaf number (Ok _)) lines steps s r = sound_close h leaf number s r.1
-sound_after h (Close leaf number (Err fault)) lines steps s r = s
-sound_after h (Split leaf variable (Ok nodes)) lines steps s r = sound_split h leaf variable s r.0.0 r.3.0 r.3.1 r.2
-sound_after h (Split leaf variable (Err fault)) lines steps s r = s
+sound_after h (Close leaf number (Ok _)) lines steps s r = sound_close h leaf number s r.0.1
+sound_after h (Split leaf variable (Ok nodes)) lines steps s r = sound_split h leaf variable s r.0.0.0 r.0.3.0 r.0.3.1 r.0.2
 sound_after h (Found count (Ok _)) lines steps s r =
     record {
       encoded = s.encoded;
@@ -39,18 +35,8 @@ sound_after h (Found count (Ok _)) lines steps s r =
       closed = s.closed;
       stuck = first_stuck h.program h.schedule steps s.stuck r.0;
     }
-sound_after h (Found count (Err fault)) lines steps s r = s
-sound_after h (Leave why) lines steps s r =
-    record {
-      encoded = s.encoded;
-      few_lines = s.few_lines;
-      grown = s.grown;
-      variables = s.variables;
-      many = s.many;
-      derived = s.derived;
-      closed = s.closed;
-      stuck = s.stuck;
-    }
+sound_after h (Leave why) lines steps s r = sound_with h _ s
+sound_after h deed lines steps s r = s
 
 pub stay_sound : RunsStaySound
 stay_sound h [] s run = s

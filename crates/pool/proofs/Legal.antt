@@ -7,17 +7,21 @@ use Rattle.pool.specs.declared.events.Event.TheVariants.{Publish, Fetch, Close, 
 use Rattle.pool.specs.declared.events.Reply.{Reply}
 use Rattle.pool.specs.declared.events.Reply.TheVariants as reply
 use Rattle.pool.specs.Laws.{RunsAreLegal}
+use Rattle.pool.specs.Calls.{after_call}
 use Rattle.pool.specs.Runs.{IsAnswered, after_event, AreAnswered}
 use Rattle.pool.specs.States.{PoolWithHistory, IsStep, IsRun, after_all, opening, noted, publish_item, fetch_item, close_item, split_item, found_item, leave_item}
-use Rattle.pool.proofs.Calls.{publish_step, publish_noted, fetch_step, fetch_noted, close_step, close_noted, split_step, split_noted, found_step, found_noted}
+use Rattle.pool.proofs.Calls.{step_noted, publish_step, fetch_step, found_step}
+
+noted_as : (k : PoolWithHistory) (item : LoggedCall) → IsStep k.held item → (found : LoggedCall) × IsStep k.held found × (after_call k item ≡ noted k found)
+noted_as k item step = (item, step, step_noted k item step)
 
 -- a call that is answered so is a step of its item
 step_of : (k : PoolWithHistory) (event : Event) (given : Reply) → IsAnswered k.held event given → (item : LoggedCall) × IsStep k.held item × (after_event k event given ≡ noted k item)
-step_of k (Publish worker batch) (reply.Publish given) is = (publish_item worker batch.lines.items given, publish_step k.held worker batch.lines.items given is.1 is.0, publish_noted k worker batch.lines.items given is.1)
-step_of k (Fetch worker from) (reply.Fetch given) is = (fetch_item worker from given, fetch_step k.held worker from given is.1 is.0, fetch_noted k worker from given is.1)
-step_of k (Close worker leaf number) (reply.Close given) is = (close_item worker leaf number given, close_step k.held worker leaf number given is.1 is.0, close_noted k worker leaf number given is.1)
-step_of k (Split worker leaf variable) (reply.Split given) is = (split_item worker leaf variable given, split_step k.held worker leaf variable given is.1 is.0, split_noted k worker leaf variable given is.1)
-step_of k (Found worker steps) (reply.Found given) is = (found_item worker steps.items given, found_step k.held worker steps.items given is.1 is.0, found_noted k worker steps.items given is.1)
+step_of k (Publish worker batch) (reply.Publish given) is = noted_as k (publish_item worker batch.lines.items given) (publish_step k.held worker batch.lines.items given is.1 is.0)
+step_of k (Fetch worker from) (reply.Fetch given) is = noted_as k (fetch_item worker from given) (fetch_step k.held worker from given is.1 is.0)
+step_of k (Close worker leaf number) (reply.Close given) is = noted_as k (close_item worker leaf number given) is
+step_of k (Split worker leaf variable) (reply.Split given) is = noted_as k (split_item worker leaf variable given) is
+step_of k (Found worker steps) (reply.Found given) is = noted_as k (found_item worker steps.items given) (found_step k.held worker steps.items given is.1 is.0)
 step_of k (Leave worker why) reply.Leave is = (leave_item worker why, tt, refl)
 step_of k event given is = absurd is
 

@@ -1,9 +1,9 @@
 -- What stays in a pool's log, and where in it the lines of a call stand.
-use Rattle.std.specs.Prelude.{◌≡◌, ℕ, ◌+◌, ◌-◌, ◌<◌, ◌≤◌, List, ◌++◌, length, Option, Some, None, slice_get, Ok, Err}
+use Rattle.std.specs.Prelude.{◌≡◌, ℕ, ◌+◌, ◌-◌, ◌<◌, ◌≤◌, List, ◌++◌, length, Option, Some, None, slice_get, Ok}
 use Rattle.clauses.specs.Clauses.{Conjunction}
 use Rattle.refutations.specs.Proofs.{ProofLine}
 use Rattle.pool.specs.declared.entry.Operation.{Operation}
-use Rattle.pool.specs.declared.entry.Operation.TheVariants.{Publish, Fetch, Close, Split, Found, Leave}
+use Rattle.pool.specs.declared.entry.Operation.TheVariants.{Publish, Fetch}
 use Rattle.pool.specs.declared.entry.LoggedCall.{LoggedCall}
 use Rattle.pool.specs.States.{PoolState, IsRun, after_all}
 
@@ -11,13 +11,8 @@ use Rattle.pool.specs.States.{PoolState, IsRun, after_all}
 -- accepted fetch answered
 abbrev pub first_place : Conjunction → Operation → Option ℕ
 first_place formula (Publish count (Ok base)) = Some (base - (length formula.clauses + 1))
-first_place formula (Publish count (Err fault)) = None
 first_place formula (Fetch from (Ok count)) = Some from
-first_place formula (Fetch from (Err fault)) = None
-first_place formula (Close leaf number reply) = None
-first_place formula (Split leaf variable reply) = None
-first_place formula (Found count reply) = None
-first_place formula (Leave why) = None
+first_place formula deed = None
 
 -- by this call the line with this place in the log was published or told
 pub record Tells (formula : Conjunction) (item : LoggedCall) (place : ℕ) (line : ProofLine) : Type 0 where

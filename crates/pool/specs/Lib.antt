@@ -1,5 +1,7 @@
 pub mod Batches
+pub mod Calls
 pub mod Counts
+pub mod Evidence
 pub mod Growth
 pub mod Laws
 pub mod Ledgers

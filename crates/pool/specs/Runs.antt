@@ -11,7 +11,8 @@ use Rattle.pool.specs.declared.events.Event.{Event}
 use Rattle.pool.specs.declared.events.Event.TheVariants.{Publish, Fetch, Close, Split, Found, Leave}
 use Rattle.pool.specs.declared.events.Reply.{Reply}
 use Rattle.pool.specs.declared.events.Reply.TheVariants as reply
-use Rattle.pool.specs.States.{PoolState, PoolWithHistory, opening, noted, leave_item, IsPublished, published, IsFetched, fetched, IsClosed, closed, IsSplit, after_split, IsFound, after_found}
+use Rattle.pool.specs.Calls.{published, fetched, closed, after_split, after_found}
+use Rattle.pool.specs.States.{PoolState, PoolWithHistory, opening, noted, leave_item, IsPublished, IsFetched, IsClosed, IsSplit, IsFound}
 
 -- the call may be answered so at this point, and the answer is not want of memory
 abbrev pub IsAnswered : PoolState → Event → Reply → Type 0

@@ -5,7 +5,7 @@ ghost use Rattle.semantics.specs.Machine.{IsStuckRun};
 ghost use Rattle.refutations.specs.Derivations.{clauses_before};
 ghost use Rattle.refutations.specs.Refutations.{AreDerived, Accepts};
 ghost use Rattle.trees.specs.Laws.{AreLeavesRefuted};
-ghost use Rattle.pool.specs.States.{IsTreeOf};
+ghost use Rattle.pool.specs.Evidence.{IsTreeOf};
 
 use callorder::Program;
 use clauses::Formula;

@@ -1,50 +1,32 @@
-//! The pool, and its calls.
+//! The pool, and the calls that change it.
 
-ghost use Rattle.std.specs.Prelude.{◌≡◌, ◌↔◌, ◌≤◌, ◌<◌, ◌+◌, ◌-◌, ◌++◌, ◌∷◌, [], None, Some, ℕ, length, map, replicate, IfOk, IfErr, IfSome, OnOk, OnErr, IsTrue, IsSome, IsOk, Err};
+ghost use Rattle.std.specs.Prelude.{◌≡◌, ◌↔◌, ◌≤◌, ◌+◌, ◌-◌, ◌++◌, ◌∷◌, [], Some, length, replicate, unwrap_or, IfOk, IfSome, OnOk, OnErr, IsTrue, IsOk};
 ghost use Rattle.std.specs.Option.{option_map};
 ghost use Rattle.std.specs.Arc.{arc_value};
-ghost use Rattle.trees.specs.Trees.{HasNoRoom, IsLeaf, path_at, split_at};
-ghost use Rattle.prooflog.specs.declared.refutation.Version.TheVariants.{One};
+ghost use Rattle.trees.specs.Trees.{HasNoRoom, IsLeaf, split_at};
 ghost use Rattle.pool.specs.Counts.{open_count};
-ghost use Rattle.pool.specs.Reasons.{IsSmallest};
-ghost use Rattle.pool.specs.States.{opening, noted, with_places, next_number, first_of, leave_item, IsOpen, IsClosedBy, IsVariable, IsPublished, published, IsFetched, fetched, IsClosed, closed, IsSplit, after_split, IsFound, after_found, IsTreeOf, IsAssembled, IsUndecided, IsSound};
-ghost use Rattle.pool.specs.Refusals.{IsSplitFault};
+ghost use Rattle.pool.specs.Calls.{published, fetched, closed, after_split, after_found};
+ghost use Rattle.pool.specs.States.{opening, noted, with_places, next_number, leave_item, IsPublished, IsFetched, IsClosed, IsSplit, IsFound};
 ghost use Rattle.pool.specs.Moves.{AreOfBatch};
 ghost use Rattle.pool.specs.Replies.{resolved_lines, DeriveAfter};
-ghost use Rattle.refutations.specs.Refutations.{Accepts};
 ghost use Rattle.semantics.specs.Machine.{IsStuckRun};
 
-use crate::assembly::{AssembleFault, lines_of, refutation_by, refutation_of, schedule_of_run};
 use crate::derived::DerivedLines;
-use crate::entry::{
-    CloseFault, Entry, FetchFault, FoundFault, Operation, PathFault, PublishFault, SplitFault,
-};
+use crate::entry::{CloseFault, FetchFault, FoundFault, Operation, PublishFault, SplitFault};
 use crate::extend::extend;
 use crate::ledger::Ledger;
 use crate::why::Why;
 use batches::Batch;
 use callorder::Program;
-use clauses::{Formula, Lit};
+use clauses::Formula;
 use encode::Encoded;
 use pages::{Lines, Log};
-use prooflog::{Evidence, Refutation};
-use refutations::{PartialAssignment, clause_at, refutes};
+use refutations::PartialAssignment;
 use semantics::{End, ReplayFault, Step, replay};
 use std::alloc::{AllocError, Global};
 use std::marker::Model;
 use std::sync::Arc;
-use trees::{GREATEST_DEPTH, MOST_NODES, Tree};
-
-/// How far the search is.
-#[derive(Clone, Copy, Debug, PartialEq, Eq)]
-pub struct Status {
-    /// Whether a schedule was found.
-    pub is_found: bool,
-    /// How many leaves of the tree are open.
-    pub open_leaves: u32,
-    /// The smallest reason for which a worker left so far.
-    pub why: Option<Why>,
-}
+use trees::Tree;
 
 /// What the workers of a search over one program share. Each line of its log derives from the
 /// formula and the lines before it, each closed leaf is refuted by its clause, and a schedule that
@@ -52,14 +34,14 @@ pub struct Status {
 /// in the history, in order, but for those that were refused for want of memory.
 #[derive(Drop)]
 pub struct Pool {
-    encoded: Arc<Encoded>,
-    tree: Tree,
-    closed: Vec<u32>,
-    open_leaves: u32,
-    log: Log,
-    known: PartialAssignment,
-    schedule: Option<Vec<Step>>,
-    ledger: Ledger,
+    pub(crate) encoded: Arc<Encoded>,
+    pub(crate) tree: Tree,
+    pub(crate) closed: Vec<u32>,
+    pub(crate) open_leaves: u32,
+    pub(crate) log: Log,
+    pub(crate) known: PartialAssignment,
+    pub(crate) schedule: Option<Vec<Step>>,
+    pub(crate) ledger: Ledger,
 }
 
 impl Model for Pool {
@@ -134,7 +116,7 @@ fn ends_stuck(alloc: Global, program: &Program, steps: &[Step]) -> Result<bool, 
 
 /// The first schedule stays.
 fn keep_first(schedule: &mut Option<Vec<Step>>, steps: Vec<Step>)
-    ensures { option_map (λ s. s.items) schedule.new ≡ Some (first_of (option_map (λ s. s.items) schedule.old) steps.items) }
+    ensures { option_map (λ s. s.items) schedule.new ≡ Some (unwrap_or (option_map (λ s. s.items) schedule.old) steps.items) }
 {
     if schedule.is_none() {
         *schedule = Some(steps);
@@ -198,177 +180,6 @@ impl Pool {
         }
     }
 
-    /// The program.
-    pub fn program(&self) -> &Program
-        ensures { result.now ≡ self.now.held.program }
-    {
-        self.encoded.program()
-    }
-
-    /// The formula of the program.
-    pub fn formula(&self) -> &Formula
-        ensures { result.now ≡ self.now.held.formula }
-    {
-        self.encoded.formula()
-    }
-
-    /// The lines so far.
-    pub fn log(&self) -> &Log
-        ensures { result.now ≡ self.now.held.log }
-    {
-        &self.log
-    }
-
-    /// The program with its formula, for whoever reads it while others have the pool. It isn't
-    /// copied. The only error is want of memory.
-    pub fn lend_encoded(&self) -> Result<Arc<Encoded>, AllocError>
-        ensures program { IfOk result (λ lent. (arc_value lent).program ≡ self.now.held.program) }
-        ensures formula { IfOk result (λ lent. (arc_value lent).formula ≡ self.now.held.formula) }
-    {
-        let lent = Arc::try_clone(&self.encoded)?;
-        Ok(lent)
-    }
-
-    /// The calls so far, in order, but for those that were answered with want of memory.
-    pub fn history(&self) -> &[Entry]
-        ensures calls { result.now ≡ self.now.history }
-        ensures sound { IsSound self.now.held }
-    {
-        self.ledger.history()
-    }
-
-    fn is_open(&self, leaf: u32) -> bool
-        ensures open { IsTrue result ↔ IsOpen self.now.held leaf }
-        ensures within { IsTrue result → leaf < length self.now.held.tree.nodes }
-    {
-        match self.closed.get(leaf as usize) {
-            Some(0) => self.tree.is_leaf(leaf),
-            _ => false,
-        }
-    }
-
-    fn is_closed_by(&self, leaf: u32, number: u32) -> bool
-        requires { leaf < length self.now.held.tree.nodes }
-        ensures { IsTrue result ↔ IsClosedBy self.now.held leaf number }
-    {
-        match clause_at(self.encoded.formula(), &self.log, number) {
-            Some(literals) => refutes(self.tree.path(leaf), literals),
-            None => false,
-        }
-    }
-
-    fn has_no_room(&self, leaf: u32) -> bool
-        requires { leaf < length self.now.held.tree.nodes }
-        ensures { IsTrue result ↔ HasNoRoom self.now.held.tree.nodes leaf }
-    {
-        self.tree.len() + 2 > MOST_NODES || self.tree.path(leaf).len() + 1 > GREATEST_DEPTH
-    }
-
-    fn is_variable(&self, variable: u32) -> bool
-        ensures { IsTrue result ↔ IsVariable self.now.held variable }
-    {
-        1 <= variable && variable <= self.encoded.formula().variables()
-    }
-
-    fn next_number(&self) -> u32
-        ensures { result ≡ next_number self.now.held }
-    {
-        let clauses = self.encoded.formula().clauses();
-        (clauses.len() + self.log.len() + 1) as u32
-    }
-
-    /// How far the search is. Takes no memory, and no time by the number of leaves.
-    pub fn status(&self) -> Status
-        ensures found { IsTrue result.is_found ↔ IsSome self.now.held.schedule }
-        ensures open { result.open_leaves ≡ open_count self.now.held.tree.nodes self.now.held.closed }
-        ensures why { IsSmallest self.now.held.reasons result.why }
-    {
-        Status {
-            is_found: self.schedule.is_some(),
-            open_leaves: self.open_leaves,
-            why: self.ledger.why(),
-        }
-    }
-
-    /// The literals from an open leaf up to the root.
-    pub fn path(&self, alloc: Global, leaf: u32) -> Result<Vec<Lit>, PathFault>
-        ensures path { IfOk result (λ path. path.items ≡ path_at self.now.held.tree.nodes leaf) }
-        ensures open { IfOk result (λ _. IsOpen self.now.held leaf) }
-        ensures not_open { result ≡ Err PathFault.NotOpen ↔ (IsOpen self.now.held leaf → ⊥) }
-    {
-        if !self.is_open(leaf) {
-            return Err(PathFault::NotOpen);
-        }
-        match Vec::from_slice(alloc, self.tree.path(leaf)) {
-            Ok(path) => Ok(path),
-            Err(AllocError) => Err(PathFault::Memory),
-        }
-    }
-
-    /// The schedule that was found, or else the refutation of the formula by all lines of the log
-    /// and the tree with the clauses that close its leaves, which there is where all leaves are
-    /// closed.
-    pub fn assemble(&self, alloc: Global) -> Result<Evidence, AssembleFault>
-        ensures evidence { IfOk result (λ evidence. IsAssembled self.now.held evidence) }
-        ensures open { result ≡ Err AssembleFault.Open ↔ IsUndecided self.now.held }
-    {
-        if let Some(steps) = &self.schedule {
-            return match Vec::from_slice(alloc, steps) {
-                Ok(steps) => Ok(Evidence::Schedule(schedule_of_run(self.program(), steps))),
-                Err(AllocError) => Err(AssembleFault::Memory),
-            };
-        }
-        if self.open_leaves > 0 {
-            return Err(AssembleFault::Open);
-        }
-        match self.refutation(alloc) {
-            Ok(refutation) => Ok(Evidence::Refutation(refutation)),
-            Err(AllocError) => Err(AssembleFault::Memory),
-        }
-    }
-
-    fn refutation(&self, alloc: Global) -> Result<Refutation, AllocError>
-        requires { (leaf : ℕ) → IsOpen self.now.held leaf → ⊥ }
-        ensures version { IfOk result (λ claim. claim.version ≡ One) }
-        ensures variables { IfOk result (λ claim. claim.variables ≡ self.now.held.formula.variables) }
-        ensures clauses { IfOk result (λ claim. claim.clauses ≡ length self.now.held.formula.clauses) }
-        ensures lines { IfOk result (λ claim. claim.lines ≡ self.now.held.log) }
-        ensures tree { IfOk result (λ claim. IsTreeOf self.now.held.tree.nodes self.now.held.closed claim.nodes) }
-        ensures accepted { IfOk result (λ claim. Accepts self.now.held.formula claim.lines claim.nodes) }
-    {
-        let lines = lines_of(alloc, &self.log)?;
-        let formula = self.encoded.formula();
-        refutation_of(alloc, formula, lines, &self.tree, self.closed.as_slice())
-    }
-
-    /// The same evidence of a pool that isn't needed any more: the lines of the log are moved where
-    /// nobody else has them.
-    pub fn into_evidence(self, alloc: Global) -> Result<Evidence, AssembleFault>
-        ensures evidence { IfOk result (λ evidence. IsAssembled self.held evidence) }
-        ensures open { result ≡ Err AssembleFault.Open ↔ IsUndecided self.held }
-    {
-        let Pool {
-            encoded,
-            tree,
-            closed,
-            open_leaves,
-            log,
-            schedule,
-            ..
-        } = self;
-        if let Some(steps) = schedule {
-            let schedule = schedule_of_run(encoded.program(), steps);
-            return Ok(Evidence::Schedule(schedule));
-        }
-        if open_leaves > 0 {
-            return Err(AssembleFault::Open);
-        }
-        match refutation_by(alloc, encoded.formula(), log, &tree, closed.as_slice()) {
-            Ok(moved) => Ok(Evidence::Refutation(moved)),
-            Err(AllocError) => Err(AssembleFault::Memory),
-        }
-    }
-
     /// Appends the lines of a batch to the log, each `Own` hint as the number of the batch's line
     /// at that place, and answers the number of the first line; for an empty batch, that of the
     /// next line. The check of the lines takes no time by the size of the formula or the log. A
@@ -422,20 +233,19 @@ impl Pool {
             derived,
         ) {
             Ok(()) => {
-                self.ledger
-                    .note(worker, Operation::Publish(count, Ok(base)));
-                Ok(base)
+                let deed = Operation::Publish(count, Ok(base));
+                self.ledger.answer(worker, deed, Ok(base))
             }
             Err(PublishFault::Memory) => Err(PublishFault::Memory),
             Err(PublishFault::NotDerived(place)) => {
                 let reply = Err(PublishFault::NotDerived(place));
-                self.ledger.note(worker, Operation::Publish(count, reply));
-                Err(PublishFault::NotDerived(place))
+                let deed = Operation::Publish(count, reply);
+                self.ledger.answer(worker, deed, reply)
             }
             Err(PublishFault::Full) => {
                 let reply = Err(PublishFault::Full);
-                self.ledger.note(worker, Operation::Publish(count, reply));
-                Err(PublishFault::Full)
+                let deed = Operation::Publish(count, reply);
+                self.ledger.answer(worker, deed, reply)
             }
         }
     }
@@ -450,16 +260,15 @@ impl Pool {
             return Err(FetchFault::Memory);
         }
         if self.log.len() < from {
-            let reply = Err(FetchFault::PastEnd);
-            self.ledger.note(worker, Operation::Fetch(from, reply));
-            return Err(FetchFault::PastEnd);
+            let fault = FetchFault::PastEnd;
+            let deed = Operation::Fetch(from, Err(fault));
+            return self.ledger.answer(worker, deed, Err(fault));
         }
         let Ok(lines) = self.log.after(alloc, from) else {
             return Err(FetchFault::Memory);
         };
-        self.ledger
-            .note(worker, Operation::Fetch(from, Ok(lines.len())));
-        Ok(lines)
+        let deed = Operation::Fetch(from, Ok(lines.len()));
+        self.ledger.answer(worker, deed, Ok(lines))
     }
 
     /// Closes an open leaf by the clause or line of this number, all of whose literals are
@@ -475,37 +284,18 @@ impl Pool {
         }
         if !self.is_open(leaf) {
             let reply = Err(CloseFault::NotOpen);
-            self.ledger
-                .note(worker, Operation::Close(leaf, number, reply));
-            return Err(CloseFault::NotOpen);
+            let deed = Operation::Close(leaf, number, reply);
+            return self.ledger.answer(worker, deed, reply);
         }
         if !self.is_closed_by(leaf, number) {
             let reply = Err(CloseFault::NotRefuted);
-            self.ledger
-                .note(worker, Operation::Close(leaf, number, reply));
-            return Err(CloseFault::NotRefuted);
+            let deed = Operation::Close(leaf, number, reply);
+            return self.ledger.answer(worker, deed, reply);
         }
         self.closed[leaf as usize] = number;
         self.open_leaves -= 1;
-        self.ledger
-            .note(worker, Operation::Close(leaf, number, Ok(())));
-        Ok(())
-    }
-
-    /// Why a leaf isn't split on a variable, want of memory aside.
-    fn split_fault(&self, leaf: u32, variable: u32) -> Option<SplitFault>
-        ensures { IsSplitFault self.now.held leaf variable result }
-    {
-        if !self.is_open(leaf) {
-            return Some(SplitFault::NotOpen);
-        }
-        if self.has_no_room(leaf) {
-            return Some(SplitFault::Full);
-        }
-        if !self.is_variable(variable) {
-            return Some(SplitFault::NoVariable);
-        }
-        None
+        let deed = Operation::Close(leaf, number, Ok(()));
+        self.ledger.answer(worker, deed, Ok(()))
     }
 
     /// Splits an open leaf on a variable of the formula, from 1, and answers the numbers of the two
@@ -529,8 +319,7 @@ impl Pool {
             None => {}
             Some(fault) => {
                 let deed = Operation::Split(leaf, variable, Err(fault));
-                self.ledger.note(worker, deed);
-                return Err(fault);
+                return self.ledger.answer(worker, deed, Err(fault));
             }
         }
         let Ok(below) = split_open(alloc, &mut self.tree, &mut self.closed, leaf, variable) else {
@@ -538,8 +327,7 @@ impl Pool {
         };
         self.open_leaves += 1;
         let deed = Operation::Split(leaf, variable, Ok(below));
-        self.ledger.note(worker, deed);
-        Ok(below)
+        self.ledger.answer(worker, deed, Ok(below))
     }
 
     /// Notes why a worker leaves, which is `None` where it is done. May want memory, as each call
@@ -583,13 +371,13 @@ impl Pool {
         match ends_stuck(alloc, self.encoded.program(), &steps) {
             Ok(true) => {
                 keep_first(&mut self.schedule, steps);
-                self.ledger.note(worker, Operation::Found(count, Ok(())));
-                Ok(())
+                let deed = Operation::Found(count, Ok(()));
+                self.ledger.answer(worker, deed, Ok(()))
             }
             Ok(false) => {
                 let reply = Err(FoundFault::NotStuck);
-                self.ledger.note(worker, Operation::Found(count, reply));
-                Err(FoundFault::NotStuck)
+                let deed = Operation::Found(count, reply);
+                self.ledger.answer(worker, deed, reply)
             }
             Err(AllocError) => Err(FoundFault::Memory),
         }

@@ -67,13 +67,25 @@ impl Ledger {
     }
 
     /// Notes a call, for which there is room.
-    pub(crate) fn note(&mut self, worker: u32, deed: Operation)
+    fn note(&mut self, worker: u32, deed: Operation)
         requires { FitsCall self.old }
         ensures history { self.new.history ≡ self.old.history ++ (record { worker = worker; deed = deed }) ∷ [] }
         ensures reasons { self.new.reasons ≡ self.old.reasons }
         ensures places { self.new.places ≡ self.old.places }
     {
         self.history.push_reserved(Entry { worker, deed });
+    }
+
+    /// Notes a call, for which there is room, and hands back its reply.
+    pub(crate) fn answer<A>(&mut self, worker: u32, deed: Operation, reply: A) -> A
+        requires { FitsCall self.old }
+        ensures reply { result ≡ reply }
+        ensures history { self.new.history ≡ self.old.history ++ (record { worker = worker; deed = deed }) ∷ [] }
+        ensures reasons { self.new.reasons ≡ self.old.reasons }
+        ensures places { self.new.places ≡ self.old.places }
+    {
+        self.note(worker, deed);
+        reply
     }
 
     /// Adds a reason, so that the places that are kept stay free.

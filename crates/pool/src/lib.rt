@@ -4,7 +4,7 @@
 //!
 //! Workers, nodes and places of lines count from 0, variables and clauses from 1; the lines of the
 //! log are numbered after the formula's clauses. `specs/States.antt` says what each call is
-//! answered, and what it makes of the pool.
+//! answered, and `specs/Calls.antt` what it makes of the pool.
 #![tactic(auto)]
 
 mod assembly;
@@ -16,6 +16,7 @@ mod keep;
 mod known;
 mod laws;
 mod ledger;
+mod reading;
 mod share;
 mod why;
 
@@ -27,11 +28,12 @@ pub use entry::{
 };
 pub use events::{Event, Reply, run};
 pub use extend::MOST_LINES;
-pub use keep::{Pool, Status};
+pub use keep::Pool;
 pub use known::derived_lines;
 pub use laws::{
     bases_rise, batches_move, closed_pools_refute, leaves_cover, logs_grow, runs_are_legal,
     runs_lose_nothing, runs_stay_sound, told_stands,
 };
+pub use reading::Status;
 pub use share::Share;
 pub use why::{Why, smaller};

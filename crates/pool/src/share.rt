@@ -2,7 +2,7 @@
 
 use crate::assembly::AssembleFault;
 use crate::entry::{CloseFault, FetchFault, FoundFault, PathFault, PublishFault, SplitFault};
-use crate::keep::Status;
+use crate::reading::Status;
 use crate::why::Why;
 use batches::Batch;
 use clauses::Lit;

@@ -15,7 +15,8 @@ use Rattle.checker.proofs.Shorter.{refuted_trimmed}
 use Rattle.checker.specs.Headline.{IsNeverStuck}
 use Rattle.checker.specs.Verdicts.{IsRefutedBy, Refutes, HasFormula}
 use Rattle.checker.proofs.Headlines.{refuted_are_never_stuck}
-use Rattle.pool.specs.States.{PoolState, IsAssembled}
+use Rattle.pool.specs.Evidence.{IsAssembled}
+use Rattle.pool.specs.States.{PoolState}
 use Rattle.prover.specs.declared.answer.Answer.{Answer}
 use Rattle.prover.specs.declared.answer.Answer.TheVariants as answers
 use Rattle.prover.specs.Answers.{CanFinish, FinishesIfUnknown}

@@ -6,7 +6,7 @@ ghost use Rattle.callorder.specs.Resolving.{IsTextOf};
 ghost use Rattle.checker.specs.Verdicts.{HasFormula};
 ghost use Rattle.prover.specs.Answers.{Answers, FinishesIfUnknown, HasNoFormulaText};
 ghost use Rattle.formula.specs.Numbering.{formula_of};
-ghost use Rattle.pool.specs.States.{IsUndecided};
+ghost use Rattle.pool.specs.Evidence.{IsUndecided};
 ghost use Rattle.prover.specs.Searches.{HasFinishedRun, IsEvidenceOn, IsOver, IsUnknownFor, unnoted};
 
 use crate::answer::Answer;

@@ -14,7 +14,7 @@ use Rattle.refutations.specs.Refutations.{AreDerived}
 use Rattle.semantics.specs.declared.state.Step.{Step}
 use Rattle.semantics.specs.Machine.{IsStuckRun}
 use Rattle.pool.specs.declared.entry.Operation.{Operation}
-use Rattle.pool.specs.declared.entry.Operation.TheVariants.{Publish, Fetch, Close, Split, Found, Leave}
+use Rattle.pool.specs.declared.entry.Operation.TheVariants.{Publish, Fetch}
 use Rattle.pool.specs.declared.entry.LoggedCall.{LoggedCall}
 use Rattle.pool.specs.declared.entry.PublishFault.{PublishFault}
 use Rattle.pool.specs.declared.entry.PublishFault.TheVariants.{NotDerived}
@@ -32,13 +32,8 @@ use Rattle.sharedpool.proofs.Legal.{chair, holds_over}
 
 held_now : (h : PoolState) (deed : Operation) (lines more log : List ProofLine) (steps : List Step) → IsReply h deed lines steps → log ≡ (after_deed h deed lines steps).log ++ more → HoldsAt h.formula log deed lines
 held_now h (Publish count (Ok base)) lines more log steps reply is = (h.log, more, is ∙ append_assoc h.log lines more, reply.1)
-held_now h (Publish count (Err fault)) lines more log steps reply is = tt
-held_now h (Fetch from (Ok count)) lines more log steps reply is = (more, ap (drop from) is ∙ drop-append-le from h.log more reply.0 ∙ ap (λ l. l ++ more) (sym reply.1))
-held_now h (Fetch from (Err fault)) lines more log steps reply is = tt
-held_now h (Close leaf number reply') lines more log steps reply is = tt
-held_now h (Split leaf variable reply') lines more log steps reply is = tt
-held_now h (Found count reply') lines more log steps reply is = tt
-held_now h (Leave why) lines more log steps reply is = tt
+held_now h (Fetch from (Ok count)) lines more log steps reply is = (more, ap (drop from) is ∙ drop-append-le from h.log more reply.0.0 ∙ ap (λ l. l ++ more) (sym reply.0.1))
+held_now h deed lines more log steps reply is = tt
 
 all_held : (h : PoolState) (items : List LoggedCall) → IsRun h items → AllHeld h.formula (after_all h items).log items
 all_held h [] run = tt

@@ -7,12 +7,14 @@ use Rattle.atomic_table.specs.Seated.{TableId}
 use Rattle.crossbeam_utils.specs.Seq.{cell_view}
 use Rattle.pool.specs.declared.entry.Entry.{Entry}
 use Rattle.pool.specs.declared.entry.LoggedCall.{LoggedCall}
+use Rattle.pool.specs.Calls.{after_call}
 use Rattle.pool.specs.States.{PoolState, PoolWithHistory, after, after_all, noted, with_places, IsStep, IsRun, IsLegal}
 use Rattle.sharedpool.specs.declared.room.View.{View}
 use Rattle.sharedpool.specs.Leaves.{leavers}
 use Rattle.sharedpool.specs.Views.{knower, taker, sitting, items_of}
 use Rattle.sharedpool.specs.Seats.{Token, Chair, Shared, IsSeat, IsLocked, AreReady, AreMatched, AreNoted, HoldsOver, told}
 use Rattle.sharedpool.proofs.Places.{leavers_more}
+use Rattle.pool.proofs.Calls.{step_noted}
 
 -- ---- runs
 
@@ -78,11 +80,11 @@ locked_with table opening old new workers keeper later seat after item places wa
       places = subst (λ (k : PoolWithHistory). workers ≤ k.places + leavers workers (cell_view later).all) (sym grew) (subst (λ (l : List LoggedCall). workers ≤ places + leavers workers l) (sym all) kept);
     }
 
--- the same where no place is taken
+-- the same of a call that takes no place, and isn't answered with want of memory
 pub locked_more : (table : TableId) (opening : PoolState) (old new : PoolWithHistory) (workers : ℕ) (keeper later seat after : Token) (item : LoggedCall)
-    → IsLocked table opening old workers keeper → AreNoted keeper later seat after item → new ≡ noted old item → IsStep old.held item → IsLocked table opening new workers later
+    → IsLocked table opening old workers keeper → AreNoted keeper later seat after item → new ≡ after_call old item → IsStep old.held item → IsLocked table opening new workers later
 locked_more table opening old new workers keeper later seat after item was noted_as grew step =
-    locked_with table opening old new workers keeper later seat after item old.places was noted_as grew step
+    locked_with table opening old new workers keeper later seat after item old.places was noted_as (grew ∙ step_noted old item step) step
     (omega (arith, was.places, leavers_more workers (cell_view keeper).all item))
 
 -- the lock's value and a seat after their lists were compared

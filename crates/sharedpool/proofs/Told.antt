@@ -40,28 +40,20 @@ told_more f mine more view told place line there =
     (t.0, t.1, slice_get-front mine more t.0 (slice_get_within mine t.0 t.1 t.2) ∙ t.2, t.3)
 
 pub told_published : (f : Conjunction) (seat : Chair) (batch : List BatchLine) (reply : Result ℕ PublishFault) (view : List ProofLine) → IsTold f seat.mine view → IsTold f (told_publish seat batch reply).mine view
-told_published f seat batch (Ok base) view told = told_more f seat.mine _ view told
 told_published f seat batch (Err publish.Memory) view told = told
-told_published f seat batch (Err (publish.NotDerived place)) view told = told_more f seat.mine _ view told
-told_published f seat batch (Err publish.Full) view told = told_more f seat.mine _ view told
+told_published f seat batch reply view told = told_more f seat.mine _ view told
 
 pub told_closed : (f : Conjunction) (seat : Chair) (leaf number : ℕ) (reply : Result (Unit {0}) CloseFault) (view : List ProofLine) → IsTold f seat.mine view → IsTold f (told_close seat leaf number reply).mine view
-told_closed f seat leaf number (Ok _) view told = told_more f seat.mine _ view told
 told_closed f seat leaf number (Err close.Memory) view told = told
-told_closed f seat leaf number (Err close.NotOpen) view told = told_more f seat.mine _ view told
-told_closed f seat leaf number (Err close.NotRefuted) view told = told_more f seat.mine _ view told
+told_closed f seat leaf number reply view told = told_more f seat.mine _ view told
 
 pub told_parted : (f : Conjunction) (seat : Chair) (leaf variable : ℕ) (reply : Result (ℕ × ℕ) SplitFault) (view : List ProofLine) → IsTold f seat.mine view → IsTold f (told_split seat leaf variable reply).mine view
-told_parted f seat leaf variable (Ok nodes) view told = told_more f seat.mine _ view told
 told_parted f seat leaf variable (Err split.Memory) view told = told
-told_parted f seat leaf variable (Err split.NotOpen) view told = told_more f seat.mine _ view told
-told_parted f seat leaf variable (Err split.Full) view told = told_more f seat.mine _ view told
-told_parted f seat leaf variable (Err split.NoVariable) view told = told_more f seat.mine _ view told
+told_parted f seat leaf variable reply view told = told_more f seat.mine _ view told
 
 pub told_stuck : (f : Conjunction) (seat : Chair) (steps : List Step) (reply : Result (Unit {0}) FoundFault) (view : List ProofLine) → IsTold f seat.mine view → IsTold f (told_found seat steps reply).mine view
-told_stuck f seat steps (Ok _) view told = told_more f seat.mine _ view told
 told_stuck f seat steps (Err found.Memory) view told = told
-told_stuck f seat steps (Err found.NotStuck) view told = told_more f seat.mine _ view told
+told_stuck f seat steps reply view told = told_more f seat.mine _ view told
 
 pub told_left : (f : Conjunction) (seat after : Chair) (why : Option Why) {E : Type 0} (reply : Result (Unit {0}) E) (view : List ProofLine) → OnOk reply (after ≡ told_leave seat why) → OnErr reply (after ≡ seat)
     → IsTold f seat.mine view → IsTold f after.mine view
@@ -128,9 +120,8 @@ told_on f mine worker from lines view told low place line there =
     (cases_lt place from)
 
 told_still : (f : Conjunction) (seat : Chair) (from : ℕ) (reply : Result (List ProofLine) FetchFault) (view : List ProofLine) → IsTold f seat.mine view → IsTold f (told_fetch seat from reply).mine view
-told_still f seat from (Ok lines) view told = told_more f seat.mine _ view told
 told_still f seat from (Err fetch.Memory) view told = told
-told_still f seat from (Err fetch.PastEnd) view told = told_more f seat.mine _ view told
+told_still f seat from reply view told = told_more f seat.mine _ view told
 
 -- what a seat was told after a fetch
 pub told_fetched : (f : Conjunction) (seat : Chair) (from : ℕ) (reply : Result (List ProofLine) FetchFault) (view after : List ProofLine) → IsTold f seat.mine view → GoesOn view from reply after → IsTold f (told_fetch seat from reply).mine after

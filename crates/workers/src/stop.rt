@@ -24,6 +24,18 @@ pub(crate) struct Stop {
     pub(crate) why: Why,
 }
 
+/// A stop for one of these reasons, and for any other fault since something is left open.
+macro_rules! stop_for {
+    ($fault:ident, $($told:path => $why:path),+) => {
+        Stop {
+            why: match $fault {
+                $($told => $why,)+
+                _ => Why::Left,
+            },
+        }
+    };
+}
+
 impl From<AllocError> for Stop {
     ghost from_gives = { λ _ stop. stop.why ≡ why.Memory };
 
@@ -36,12 +48,7 @@ impl From<PublishFault> for Stop {
     ghost from_gives = { λ fault stop. IsReason (fault ≡ publish.Memory) (fault ≡ publish.Full) stop.why };
 
     fn from(fault: PublishFault) -> Stop {
-        let why = match fault {
-            PublishFault::Memory => Why::Memory,
-            PublishFault::Full => Why::Full,
-            PublishFault::NotDerived(_) => Why::Left,
-        };
-        Stop { why }
+        stop_for!(fault, PublishFault::Memory => Why::Memory, PublishFault::Full => Why::Full)
     }
 }
 
@@ -49,11 +56,7 @@ impl From<FetchFault> for Stop {
     ghost from_gives = { λ fault stop. IsReason (fault ≡ fetch.Memory) ⊥ stop.why };
 
     fn from(fault: FetchFault) -> Stop {
-        let why = match fault {
-            FetchFault::Memory => Why::Memory,
-            FetchFault::PastEnd => Why::Left,
-        };
-        Stop { why }
+        stop_for!(fault, FetchFault::Memory => Why::Memory)
     }
 }
 
@@ -61,12 +64,7 @@ impl From<CloseFault> for Stop {
     ghost from_gives = { λ fault stop. IsReason (fault ≡ close.Memory) ⊥ stop.why };
 
     fn from(fault: CloseFault) -> Stop {
-        let why = match fault {
-            CloseFault::Memory => Why::Memory,
-            CloseFault::NotOpen => Why::Left,
-            CloseFault::NotRefuted => Why::Left,
-        };
-        Stop { why }
+        stop_for!(fault, CloseFault::Memory => Why::Memory)
     }
 }
 
@@ -74,13 +72,7 @@ impl From<SplitFault> for Stop {
     ghost from_gives = { λ fault stop. IsReason (fault ≡ split.Memory) ⊥ stop.why };
 
     fn from(fault: SplitFault) -> Stop {
-        let why = match fault {
-            SplitFault::Memory => Why::Memory,
-            SplitFault::NotOpen => Why::Left,
-            SplitFault::Full => Why::Left,
-            SplitFault::NoVariable => Why::Left,
-        };
-        Stop { why }
+        stop_for!(fault, SplitFault::Memory => Why::Memory)
     }
 }
 
@@ -88,11 +80,7 @@ impl From<FoundFault> for Stop {
     ghost from_gives = { λ fault stop. IsReason (fault ≡ found.Memory) ⊥ stop.why };
 
     fn from(fault: FoundFault) -> Stop {
-        let why = match fault {
-            FoundFault::Memory => Why::Memory,
-            FoundFault::NotStuck => Why::Left,
-        };
-        Stop { why }
+        stop_for!(fault, FoundFault::Memory => Why::Memory)
     }
 }
 
@@ -100,11 +88,7 @@ impl From<PathFault> for Stop {
     ghost from_gives = { λ fault stop. IsReason (fault ≡ path.Memory) ⊥ stop.why };
 
     fn from(fault: PathFault) -> Stop {
-        let why = match fault {
-            PathFault::Memory => Why::Memory,
-            PathFault::NotOpen => Why::Left,
-        };
-        Stop { why }
+        stop_for!(fault, PathFault::Memory => Why::Memory)
     }
 }
 
@@ -112,12 +96,7 @@ impl From<SolveFault> for Stop {
     ghost from_gives = { λ fault stop. IsReason (fault ≡ solve.Memory) ⊥ stop.why };
 
     fn from(fault: SolveFault) -> Stop {
-        let why = match fault {
-            SolveFault::Memory => Why::Memory,
-            SolveFault::Spent => Why::Left,
-            SolveFault::Foreign => Why::Left,
-        };
-        Stop { why }
+        stop_for!(fault, SolveFault::Memory => Why::Memory)
     }
 }
 
@@ -125,10 +104,6 @@ impl From<ExtractFault> for Stop {
     ghost from_gives = { λ fault stop. IsReason (fault ≡ extract_faults.Memory) ⊥ stop.why };
 
     fn from(fault: ExtractFault) -> Stop {
-        let why = match fault {
-            ExtractFault::Memory => Why::Memory,
-            ExtractFault::NoSchedule => Why::Left,
-        };
-        Stop { why }
+        stop_for!(fault, ExtractFault::Memory => Why::Memory)
     }
 }

@@ -1,6 +1,7 @@
 use Rattle.std.proofs.Common.{refl, sym, subst, arith}
 use Rattle.std.specs.Option.{IsNone}
-use Rattle.pool.specs.States.{PoolWithHistory, IsOpen, IsUndecided}
+use Rattle.pool.specs.Evidence.{IsUndecided}
+use Rattle.pool.specs.States.{PoolWithHistory, IsOpen}
 use Rattle.pool.proofs.Assembling.{none_mapped}
 use Rattle.pool.proofs.OpenLeaves.{open_counts, some_open}
 use Rattle.pool.proofs.keep.Pool.assemble.Goals as goal

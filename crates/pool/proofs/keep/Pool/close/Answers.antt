@@ -13,7 +13,7 @@ invariant_of-self-4 c =
     let is = c.is_open.ensures.open.0 c.if-not-is_open.false in
     let refuted = c.is_closed_by.ensures.0 c.if-not-is_closed_by.false in
     let counted = count_closed c.self.inside.tree.nodes c.self.inside.closed.items c.args.leaf c.args.number is.0 is.1 (not_zero _ _ c.args.number refuted) in (
-      sound_with _ c.note-2.new.self.reasons (sound_close _ c.args.leaf c.args.number c.self.invariant.0 refuted),
+      sound_with _ c.answer-2.new.self.reasons (sound_close _ c.args.leaf c.args.number c.self.invariant.0 refuted),
       omega (arith, c.self.invariant.1, counted),
       c.self.invariant.2,
     )

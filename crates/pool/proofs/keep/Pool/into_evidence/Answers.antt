@@ -3,7 +3,8 @@ use Rattle.std.specs.Arc.{arc_value}
 use Rattle.clauses.specs.Clauses.{Conjunction}
 use Rattle.refutations.specs.Refutations.{Accepts, AreDerived}
 use Rattle.encode.specs.Encodings.{EncodedProgram}
-use Rattle.pool.specs.States.{PoolWithHistory, IsOpen, IsRefutationOf, IsTreeOf, IsUndecided}
+use Rattle.pool.specs.Evidence.{IsRefutationOf, IsTreeOf, IsUndecided}
+use Rattle.pool.specs.States.{PoolWithHistory, IsOpen}
 use Rattle.pool.proofs.Assembling.{all_refuted, none_mapped, refuted_as}
 use Rattle.pool.proofs.OpenLeaves.{open_counts, some_open}
 use Rattle.pool.proofs.keep.Pool.into_evidence.Goals as goal

@@ -7,7 +7,8 @@ use Rattle.refutations.specs.Refutations.{AreDerived}
 use Rattle.prooflog.specs.Refutations.{ClaimedRefutation}
 use Rattle.encode.specs.Encodings.{EncodedProgram}
 use Rattle.trees.specs.Laws.{AreLeavesRefuted}
-use Rattle.pool.specs.States.{PoolWithHistory, IsOpen, IsTreeOf}
+use Rattle.pool.specs.Evidence.{IsTreeOf}
+use Rattle.pool.specs.States.{PoolWithHistory, IsOpen}
 use Rattle.pool.proofs.Assembling.{all_refuted, refuted_as}
 use Rattle.pool.proofs.keep.Pool.refutation.Goals as goal
 

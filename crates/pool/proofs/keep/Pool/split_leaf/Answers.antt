@@ -24,7 +24,7 @@ invariant_of-self-3 c =
     ∙ ap (open_count (split_at tree.nodes c.args.leaf c.args.variable)) new_closed
     ∙ counted
     in (
-      sound_with _ c.note-2.new.self.reasons (sound_split_to _ c.args.leaf c.args.variable c.split_open.new.tree c.split_open.new.closed.items new_tree new_closed sound),
+      sound_with _ c.answer-2.new.self.reasons (sound_split_to _ c.args.leaf c.args.variable c.split_open.new.tree c.split_open.new.closed.items new_tree new_closed sound),
       omega (arith, c.self.invariant.1, count),
       c.self.invariant.2,
     )

@@ -1,6 +1,5 @@
-use Rattle.std.proofs.Common.{◌≡◌, Err, ◌∙◌, refl, rules}
-use Rattle.pool.specs.declared.entry.FetchFault.TheVariants.{Memory}
-use Rattle.pool.proofs.Calls.{fetch_noted, fetch_step}
+use Rattle.std.proofs.Common.{refl, rules}
+use Rattle.pool.proofs.Calls.{fetch_step}
 use Rattle.sharedpool.proofs.Legal.{ready, locked_more}
 use Rattle.sharedpool.proofs.locked.Locked.fetch.Goals as goal
 
@@ -9,11 +8,9 @@ note-requires g c = ready _ _ _ _ _ _ _ _ _ c.requires c.self.invariant c.seat.i
 
 pub invariant_of-self-2 : goal.invariant_of-self-2
 invariant_of-self-2 g c =
-    let answered : c.fetch-reply.result ≡ Err Memory → ⊥ = λ e. search rules in
     let reply = c.fetch-reply.ensures in
-    locked_more _ _ _ _ _ _ _ _ _ _ c.self.invariant c.note.ensures
-    (reply.pool ∙ fetch_noted c.self.inside.pool c.seat.inside.worker c.args.from c.fetch-reply.result answered)
-    (fetch_step c.self.inside.pool.held c.seat.inside.worker c.args.from c.fetch-reply.result answered reply.reply)
+    locked_more _ _ _ _ _ _ _ _ _ _ c.self.invariant c.note.ensures reply.pool
+    (fetch_step c.self.inside.pool.held c.seat.inside.worker c.args.from c.fetch-reply.result (λ e. search rules) reply.reply)
 
 pub returns-clause-seat : goal.returns-clause-seat
 returns-clause-seat g c = search rules

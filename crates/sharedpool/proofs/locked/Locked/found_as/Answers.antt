@@ -1,7 +1,7 @@
-use Rattle.std.proofs.Common.{◌≡◌, Err, ◌∙◌, refl, ap, subst, rules}
-use Rattle.pool.specs.declared.entry.FoundFault.TheVariants.{Memory}
-use Rattle.pool.specs.States.{after_found, IsFound}
-use Rattle.pool.proofs.Calls.{found_noted, found_step}
+use Rattle.std.proofs.Common.{◌∙◌, refl, ap, subst, rules}
+use Rattle.pool.specs.Calls.{after_found}
+use Rattle.pool.specs.States.{IsFound}
+use Rattle.pool.proofs.Calls.{found_step}
 use Rattle.sharedpool.proofs.Legal.{ready, locked_more}
 use Rattle.sharedpool.proofs.locked.Locked.found_as.Goals as goal
 
@@ -10,14 +10,13 @@ note-requires g c = ready _ _ _ _ _ _ _ _ _ c.requires.cell c.self.invariant c.s
 
 pub invariant_of-self-2 : goal.invariant_of-self-2
 invariant_of-self-2 g c =
-    let answered : c.found-reply.result ≡ Err Memory → ⊥ = λ e. search rules in
     let reply = c.found-reply.ensures in
     let h = c.self.inside.pool in
     let worker = c.seat.inside.worker in
     let result = c.found-reply.result in
     locked_more _ _ _ _ _ _ _ _ _ _ c.self.invariant c.note.ensures
-    (reply.pool ∙ ap (λ steps. after_found h worker steps result) c.requires.steps ∙ found_noted h worker g.S.StepsName.steps result answered)
-    (found_step h.held worker g.S.StepsName.steps result answered (subst (λ steps. IsFound h.held steps result) c.requires.steps reply.reply))
+    (reply.pool ∙ ap (λ steps. after_found h worker steps result) c.requires.steps)
+    (found_step h.held worker g.S.StepsName.steps result (λ e. search rules) (subst (λ steps. IsFound h.held steps result) c.requires.steps reply.reply))
 
 pub returns-clause-seat : goal.returns-clause-seat
 returns-clause-seat g c = search rules

@@ -1,11 +1,10 @@
-use Rattle.std.proofs.Common.{◌≡◌, Err, ◌∙◌, ap, sym, refl, subst, rules}
-use Rattle.pool.specs.declared.entry.PublishFault.TheVariants.{Memory}
+use Rattle.std.proofs.Common.{◌∙◌, ap, sym, refl, subst, rules}
 use Rattle.sharedpool.specs.Views.{items_of}
 use Rattle.sharedpool.specs.Seats.{Chair, Shared, IsRefusedOver}
 use Rattle.sharedpool.proofs.Growth.{refused_call}
 use Rattle.sharedpool.proofs.Told.{derived_behind}
 use Rattle.pool.proofs.Renumbered.{some_so}
-use Rattle.pool.proofs.Calls.{publish_noted, publish_step}
+use Rattle.pool.proofs.Calls.{publish_step}
 use Rattle.sharedpool.proofs.Legal.{ready, locked_more}
 use Rattle.sharedpool.proofs.locked.Locked.publish.Goals as goal
 
@@ -14,11 +13,9 @@ note-requires g c = ready _ _ _ _ _ _ _ _ _ c.requires.room c.self.invariant c.s
 
 pub invariant_of-self-2 : goal.invariant_of-self-2
 invariant_of-self-2 g c =
-    let answered : c.publish_as-reply.result ≡ Err Memory → ⊥ = λ e. search rules in
     let reply = c.publish_as-reply.ensures in
-    locked_more _ _ _ _ _ _ _ _ _ _ c.self.invariant c.note.ensures
-    (reply.pool ∙ publish_noted c.self.inside.pool c.seat.inside.worker c.args.batch.now.lines.items c.publish_as-reply.result answered)
-    (publish_step c.self.inside.pool.held c.seat.inside.worker c.args.batch.now.lines.items c.publish_as-reply.result answered reply.reply)
+    locked_more _ _ _ _ _ _ _ _ _ _ c.self.invariant c.note.ensures reply.pool
+    (publish_step c.self.inside.pool.held c.seat.inside.worker c.args.batch.now.lines.items c.publish_as-reply.result (λ e. search rules) reply.reply)
 
 pub returns-clause-not_derived : goal.returns-clause-not_derived
 returns-clause-not_derived g c place is =

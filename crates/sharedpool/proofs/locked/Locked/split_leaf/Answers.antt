@@ -1,6 +1,4 @@
-use Rattle.std.proofs.Common.{◌≡◌, Err, ◌∙◌, refl, rules}
-use Rattle.pool.specs.declared.entry.SplitFault.TheVariants.{Memory}
-use Rattle.pool.proofs.Calls.{split_noted, split_step}
+use Rattle.std.proofs.Common.{refl, rules}
 use Rattle.sharedpool.proofs.Legal.{ready, locked_more}
 use Rattle.sharedpool.proofs.locked.Locked.split_leaf.Goals as goal
 
@@ -9,11 +7,8 @@ note-requires g c = ready _ _ _ _ _ _ _ _ _ c.requires c.self.invariant c.seat.i
 
 pub invariant_of-self-2 : goal.invariant_of-self-2
 invariant_of-self-2 g c =
-    let answered : c.split_leaf-reply.result ≡ Err Memory → ⊥ = λ e. search rules in
     let reply = c.split_leaf-reply.ensures in
-    locked_more _ _ _ _ _ _ _ _ _ _ c.self.invariant c.note.ensures
-    (reply.pool ∙ split_noted c.self.inside.pool c.seat.inside.worker c.args.leaf c.args.variable c.split_leaf-reply.result answered)
-    (split_step c.self.inside.pool.held c.seat.inside.worker c.args.leaf c.args.variable c.split_leaf-reply.result answered reply.reply)
+    locked_more _ _ _ _ _ _ _ _ _ _ c.self.invariant c.note.ensures reply.pool (reply.reply, λ e. search rules)
 
 pub returns-clause-seat : goal.returns-clause-seat
 returns-clause-seat g c = search rules
