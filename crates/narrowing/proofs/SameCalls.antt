@@ -1,5 +1,5 @@
 -- Calls that compare as equal are the same.
-use Rattle.std.proofs.Common.{rules, ◌≡◌, true, Option, Some, None, ap, refl}
+use Rattle.std.proofs.Common.{rules, ◌≡◌, true, Option, Some, None, ap, refl, ℕ}
 use Rattle.std.specs.Prelude.{◌↔◌}
 use Rattle.std.specs.Option.{option_eq}
 use Rattle.callorder.specs.contracts.calls.CallPartialEq.TheImpl as calls
@@ -8,7 +8,7 @@ use Rattle.callorder.specs.declared.calls.Call.{Call}
 use Rattle.callorder.specs.declared.calls.Kind.{Kind}
 use Rattle.callorder.specs.declared.calls.Kind.TheVariants.{Send, Receive, MatchedProbe, Probe, MatchedReceive, Wait}
 
-same_kind : (x y : Kind) → kinds.eq-value.it x y ≡ true → x ≡ y
+same_kind : (x y : Kind ℕ) → kinds.eq-value.it x y ≡ true → x ≡ y
 same_kind (Send mode blocking message) (Send mode' blocking' message') e = search rules
 same_kind (Receive blocking pattern) (Receive blocking' pattern') e = search rules
 same_kind (MatchedProbe pattern receive) (MatchedProbe pattern' receive') e = search rules

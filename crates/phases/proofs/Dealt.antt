@@ -121,7 +121,7 @@ stands_below p at call place stands = slice_get_within p.calls at (moved_call (a
 
 -- ---- calls that move
 
-lowered_moved : (n : ℕ) (k : Kind) → lowered_kind n (moved_kind n k) ≡ k
+lowered_moved : (n : ℕ) (k : Kind ℕ) → lowered_kind n (moved_kind n k) ≡ k
 lowered_moved n (Send mode blocking message) = refl
 lowered_moved n (Receive blocking pattern) = refl
 lowered_moved n (MatchedProbe pattern receive) = ap (λ (z : ℕ). MatchedProbe pattern z) (let e : (receive + n) - n ≡ receive = omega arith in e)
@@ -129,7 +129,7 @@ lowered_moved n (Probe pattern) = refl
 lowered_moved n (MatchedReceive blocking) = refl
 lowered_moved n (Wait operation) = ap (λ (z : ℕ). Wait z) (let e : (operation + n) - n ≡ operation = omega arith in e)
 
-abbrev of_kind : ℕ → Kind → Call
+abbrev of_kind : ℕ → Kind ℕ → Call
 of_kind rank kind = record { rank = rank; kind = kind }
 
 same_before : (n : ℕ) (x y : Call) → moved_call n x ≡ moved_call n y → x ≡ y
@@ -138,7 +138,7 @@ same_before n x y e =
     let kind : x.kind ≡ y.kind = sym (lowered_moved n x.kind) ∙ ap (λ (z : Call). lowered_kind n z.kind) e ∙ lowered_moved n y.kind in
     ap (λ (r : ℕ). of_kind r x.kind) rank ∙ ap (of_kind y.rank) kind
 
-moved_kind_twice : (n m : ℕ) (k : Kind) → moved_kind n (moved_kind m k) ≡ moved_kind (n + m) k
+moved_kind_twice : (n m : ℕ) (k : Kind ℕ) → moved_kind n (moved_kind m k) ≡ moved_kind (n + m) k
 moved_kind_twice n m (Send mode blocking message) = refl
 moved_kind_twice n m (Receive blocking pattern) = refl
 moved_kind_twice n m (MatchedProbe pattern receive) = ap (λ (z : ℕ). MatchedProbe pattern z) (let e : (receive + m) + n ≡ receive + (n + m) = omega arith in e)
@@ -373,7 +373,7 @@ none_yet p next is_p none =
       at = omega (arith, none_lower 0 0 p.calls (rises_of p is_p) (omega arith));
     }
 
-unmoved_kind : (k : Kind) → moved_kind 0 k ≡ k
+unmoved_kind : (k : Kind ℕ) → moved_kind 0 k ≡ k
 unmoved_kind (Send mode blocking message) = refl
 unmoved_kind (Receive blocking pattern) = refl
 unmoved_kind (MatchedProbe pattern receive) = ap (λ (z : ℕ). MatchedProbe pattern z) (let e : receive + 0 ≡ receive = omega arith in e)
@@ -398,7 +398,7 @@ all_left p next place is_p are =
         let none : 0 ≡ get_or next call.rank 0 - first_call p call.rank = omega (arith, e) in
         let same : c ≡ c + 0 = omega arith in
         subst (λ (z : ℕ). call_at p (c + z) ≡ Some (moved_call z call)) none
-        (ap (call_at p) (sym same) ∙ there ∙ ap (λ (k : Kind). Some (of_kind call.rank k)) (sym (unmoved_kind call.kind)))
+        (ap (call_at p) (sym same) ∙ there ∙ ap (λ (k : Kind ℕ). Some (of_kind call.rank k)) (sym (unmoved_kind call.kind)))
 
 pub none_left : (p q : MpiProgram) (next : List ℕ) → IsRest p next q → ((rank : ℕ) → rank < p.ranks → is_of_rank (call_at p (get_or next rank 0)) rank ≡ false) → q.calls ≡ []
 none_left p q next rest off = by q.calls refl

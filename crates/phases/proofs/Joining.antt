@@ -240,11 +240,11 @@ join_in_order first second one two =
 -- ---- what is joined is well formed
 
 -- a name moves with its call
-abbrev pub MovesNames : (Kind → Option ℕ) → Type 0
-MovesNames names = (d : ℕ) (k : Kind) → names (moved_kind d k) ≡ option_map (λ o. o + d) (names k)
+abbrev pub MovesNames : (Kind ℕ → Option ℕ) → Type 0
+MovesNames names = (d : ℕ) (k : Kind ℕ) → names (moved_kind d k) ≡ option_map (λ o. o + d) (names k)
 
-abbrev pub KeepsTest : (Kind → Bool) → Type 0
-KeepsTest test = (d : ℕ) (k : Kind) → test (moved_kind d k) ≡ test k
+abbrev pub KeepsTest : (Kind ℕ → Bool) → Type 0
+KeepsTest test = (d : ℕ) (k : Kind ℕ) → test (moved_kind d k) ≡ test k
 
 pub operation_moves : MovesNames operation_of
 operation_moves d (Send mode blocking message) = refl
@@ -293,7 +293,7 @@ module _ (p q : MpiProgram) (moved : ℕ → ℕ) (part : IsPart p q moved) wher
         source = subst (λ (z : Option Pattern). IfSome z (λ pattern. IfSome pattern.source (λ rank. rank < q.ranks))) (sym (pattern_moved (moved w.call.rank) w.call.kind)) h.source;
       }))
 
-  module _ (names : Kind → Option ℕ) (test : Kind → Bool) (moves : MovesNames names) (keeps : KeepsTest test) (pairing : IsPairing q.calls names test) where
+  module _ (names : Kind ℕ → Option ℕ) (test : Kind ℕ → Bool) (moves : MovesNames names) (keeps : KeepsTest test) (pairing : IsPairing q.calls names test) where
     -- what a call of the part names in the whole
     pub record Named (c o : ℕ) : Type 0 where
       pub place : ℕ
@@ -350,7 +350,7 @@ module _ (p first second : MpiProgram) (order : InOrder p) (one : IsWellFormed f
   cut : IsCut p (cut_between first second)
   cut = is_cut p first second order one two joined
 
-  pairing_of : (names : Kind → Option ℕ) (test : Kind → Bool) → MovesNames names → KeepsTest test → IsPairing first.calls names test → IsPairing second.calls names test → IsPairing p.calls names test
+  pairing_of : (names : Kind ℕ → Option ℕ) (test : Kind ℕ → Bool) → MovesNames names → KeepsTest test → IsPairing first.calls names test → IsPairing second.calls names test → IsPairing p.calls names test
   pairing_of names test moves keeps pair pair' =
       record {
         named = λ c o call there e. elim (cut.each c call there) [

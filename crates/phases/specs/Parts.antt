@@ -18,7 +18,7 @@ pub record IsWellFormed (p : MpiProgram) : Type 0 where
 
 -- what a call does where all calls of its rank stand so many places further on: the calls that it
 -- names stand there too
-abbrev pub moved_kind : ℕ → Kind → Kind
+abbrev pub moved_kind : ℕ → Kind ℕ → Kind ℕ
 moved_kind by (Send mode blocking message) = Send mode blocking message
 moved_kind by (Receive blocking pattern) = Receive blocking pattern
 moved_kind by (MatchedProbe pattern receive) = MatchedProbe pattern (receive + by)

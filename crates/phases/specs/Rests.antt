@@ -15,7 +15,7 @@ abbrev pub IsFront : MpiProgram → MpiProgram → Type 0
 IsFront q d = IsPart q d (λ rank. first_call q rank - first_call d rank)
 
 -- what a call does where all calls of its rank stand so many places further in front
-abbrev pub lowered_kind : ℕ → Kind → Kind
+abbrev pub lowered_kind : ℕ → Kind ℕ → Kind ℕ
 lowered_kind by (Send mode blocking message) = Send mode blocking message
 lowered_kind by (Receive blocking pattern) = Receive blocking pattern
 lowered_kind by (MatchedProbe pattern receive) = MatchedProbe pattern (receive - by)

@@ -95,7 +95,7 @@ CallBeforeHasReturned =
     → IsTrue (are_of_one_rank p call (call + 1)) → IsTrue (is_returned p (after_all (opening p) (take place steps)) call)
 
 -- a blocking receive or a matched probe
-abbrev pub is_blocking_taker : Kind → Bool
+abbrev pub is_blocking_taker : Kind ℕ → Bool
 is_blocking_taker (Send mode blocking message) = false
 is_blocking_taker (Receive blocking pattern) = blocking
 is_blocking_taker (MatchedProbe pattern receive) = true
