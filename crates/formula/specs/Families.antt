@@ -35,13 +35,7 @@ is_finder p c = is_finder_call (call_at p c)
 -- a send in standard mode
 abbrev pub is_standard_kind : Kind ℕ → Bool
 is_standard_kind (Send Standard blocking message) = true
-is_standard_kind (Send Synchronous blocking message) = false
-is_standard_kind (Send Buffered blocking message) = false
-is_standard_kind (Receive blocking pattern) = false
-is_standard_kind (MatchedProbe pattern receive) = false
-is_standard_kind (Probe pattern) = false
-is_standard_kind (MatchedReceive blocking) = false
-is_standard_kind (Wait operation) = false
+is_standard_kind other = false
 
 -- the call exists and is a send in standard mode
 abbrev pub is_standard_call : Option Call → Bool
