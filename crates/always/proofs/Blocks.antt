@@ -44,12 +44,9 @@ fetches_next p m n None next h = absurd (cc)
 fetches_next p m n (Some call) next h = by call.kind h
   where
     by : (k : Kind ℕ) → fetches p m k ≡ true → fetches p n k ≡ true
-    by (Send mode blocking message) h = absurd (cc)
     by (Receive blocking pattern) h = refl
     by (MatchedProbe pattern receive) h = issued_by_next p m n receive next h
-    by (Probe pattern) h = absurd (cc)
-    by (MatchedReceive blocking) h = absurd (cc)
-    by (Wait operation) h = absurd (cc)
+    by kind h = absurd (cc)
 
 some_choice : (q : Policy) (k : Kind ℕ) → (b : Bool) × (may_be q k b ≡ true)
 some_choice Any (Send Standard blocking message) = (true, refl)
@@ -141,12 +138,10 @@ prompt_fetches p n y order ended prompt finder issued matched = go (call_at p y)
         ]
 
     kinds : (call : Call) (k : Kind ℕ) → call_at p y ≡ Some call → call.kind ≡ k → is_some (pattern_of k) ≡ true → fetches p n k ≡ true
-    kinds call (Send mode blocking message) is kind h = absurd (cc)
     kinds call (Receive blocking pattern) is kind h = refl
     kinds call (MatchedProbe pattern q) is kind h = handle call pattern q is kind
     kinds call (Probe pattern) is kind h = absurd (let on : is_probe p y ≡ true = ap (kind_holds is_probe_kind) is ∙ ap is_probe_kind kind in let off = prompt.taker in cc)
-    kinds call (MatchedReceive blocking) is kind h = absurd (cc)
-    kinds call (Wait operation) is kind h = absurd (cc)
+    kinds call other is kind h = absurd (cc)
 
     go : (o : Option Call) → call_at p y ≡ o → is_finder_call o ≡ true → kind_holds (fetches p n) o ≡ true
     go None is h = absurd (cc)

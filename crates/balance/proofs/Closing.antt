@@ -7,7 +7,7 @@ use Rattle.std.proofs.lemmas.Option.{slice_get_within, get_or_from_slice_get}
 use Rattle.calltext.proofs.Conjunctions.{and_true, and_both}
 use Rattle.callorder.specs.declared.calls.Call.{Call}
 use Rattle.callorder.specs.declared.calls.Kind.{Kind}
-use Rattle.callorder.specs.declared.calls.Kind.TheVariants.{Send, Receive, MatchedProbe, Probe, MatchedReceive, Wait}
+use Rattle.callorder.specs.declared.calls.Kind.TheVariants.{Send, Receive, MatchedProbe}
 use Rattle.callorder.specs.declared.calls.Message.{Message}
 use Rattle.callorder.specs.declared.calls.Pattern.{Pattern}
 use Rattle.callorder.specs.Calls.{message_of, pattern_of, is_probe_kind, covers, fits_between, both_hold, fits}
@@ -25,20 +25,13 @@ any_there test p c call there on =
 
 pub no_message : (k : Kind ℕ) → is_some (pattern_of k) ≡ true → message_of k ≡ None
 no_message (Send mode blocking message) h = absurd (cc)
-no_message (Receive blocking pattern) h = refl
-no_message (MatchedProbe pattern receive) h = refl
-no_message (Probe pattern) h = refl
-no_message (MatchedReceive blocking) h = refl
-no_message (Wait operation) h = refl
+no_message kind h = refl
 
 -- what is taken has a pattern, and is no probe
 pub taker_kind : (k : Kind ℕ) → is_some (if is_probe_kind k then None else pattern_of k) ≡ true → (is_some (pattern_of k) ≡ true) × (is_probe_kind k ≡ false)
-taker_kind (Send mode blocking message) h = absurd (cc)
 taker_kind (Receive blocking pattern) h = (refl, refl)
 taker_kind (MatchedProbe pattern receive) h = (refl, refl)
-taker_kind (Probe pattern) h = absurd (cc)
-taker_kind (MatchedReceive blocking) h = absurd (cc)
-taker_kind (Wait operation) h = absurd (cc)
+taker_kind kind h = absurd (cc)
 
 taken_is : (call : Call) (pattern : Pattern) → pattern_of call.kind ≡ Some pattern → is_probe_kind call.kind ≡ false → taken_by call ≡ Some pattern
 taken_is call pattern is off =

@@ -9,7 +9,7 @@ use Rattle.calltext.proofs.Conjunctions.{and_true}
 use Rattle.callorder.proofs.Lookups.{slice_get-none_past}
 use Rattle.callorder.specs.declared.calls.Call.{Call}
 use Rattle.callorder.specs.declared.calls.Kind.{Kind}
-use Rattle.callorder.specs.declared.calls.Kind.TheVariants.{Send, Receive, MatchedProbe, Probe, MatchedReceive, Wait}
+use Rattle.callorder.specs.declared.calls.Kind.TheVariants.{Send}
 use Rattle.callorder.specs.declared.calls.Message.{Message}
 use Rattle.callorder.specs.declared.calls.Pattern.{Pattern}
 use Rattle.callorder.specs.Calls.{message_of, pattern_of, fits_between, both_hold, fits, is_probe_kind}
@@ -81,11 +81,7 @@ has_pattern r d (Some a) (Some b) h = (refl, refl)
 
 no_send : (k : Kind ℕ) → is_some (pattern_of k) ≡ true → is_some (message_of k) ≡ false
 no_send (Send mode blocking message) h = absurd (cc)
-no_send (Receive blocking pattern) h = refl
-no_send (MatchedProbe pattern receive) h = refl
-no_send (Probe pattern) h = refl
-no_send (MatchedReceive blocking) h = refl
-no_send (Wait operation) h = refl
+no_send kind h = refl
 
 fit_kinds : (x y : Option Call) → both_hold fits x y ≡ true → (is_send_call x ≡ true) × (is_send_call y ≡ false)
 fit_kinds None y h = absurd (cc)

@@ -117,24 +117,16 @@ returned_finder p m c finder taker matched = by (call_at p c) refl finder taker
     by (Some call) there finder taker = returned_finder_kind p m c call call.kind there refl finder taker matched
 
 receive_done_kind : (p : MpiProgram) (m : Configuration) (c : ℕ) (k : Kind ℕ) → is_receive_kind k ≡ true → is_matched m c ≡ true → is_done_kind p m c k ≡ true
-receive_done_kind p m c (Send mode blocking message) is matched = absurd (cc)
 receive_done_kind p m c (Receive blocking pattern) is matched = matched
-receive_done_kind p m c (MatchedProbe pattern receive) is matched = absurd (cc)
-receive_done_kind p m c (Probe pattern) is matched = absurd (cc)
-receive_done_kind p m c (MatchedReceive blocking) is matched = absurd (cc)
-receive_done_kind p m c (Wait operation) is matched = absurd (cc)
+receive_done_kind p m c kind is matched = absurd (cc)
 
 receive_done : (p : MpiProgram) (m : Configuration) (c : ℕ) (o : Option Call) → is_receive_call o ≡ true → is_matched m c ≡ true → kind_holds (is_done_kind p m c) o ≡ true
 receive_done p m c None is matched = absurd (cc)
 receive_done p m c (Some call) is matched = receive_done_kind p m c call.kind is matched
 
 receive_finds_kind : (k : Kind ℕ) → is_receive_kind k ≡ true → is_some (pattern_of k) ≡ true
-receive_finds_kind (Send mode blocking message) is = absurd (cc)
 receive_finds_kind (Receive blocking pattern) is = refl
-receive_finds_kind (MatchedProbe pattern receive) is = absurd (cc)
-receive_finds_kind (Probe pattern) is = absurd (cc)
-receive_finds_kind (MatchedReceive blocking) is = absurd (cc)
-receive_finds_kind (Wait operation) is = absurd (cc)
+receive_finds_kind kind is = absurd (cc)
 
 receive_finds : (o : Option Call) → is_receive_call o ≡ true → is_finder_call o ≡ true
 receive_finds None is = absurd (cc)

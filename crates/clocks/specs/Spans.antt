@@ -18,11 +18,8 @@ is_buffered_mode Buffered = true
 -- receive on a handle
 abbrev pub is_done_at_once_kind : Kind ℕ → Bool
 is_done_at_once_kind (Send mode blocking message) = is_buffered_mode mode
-is_done_at_once_kind (Receive blocking pattern) = false
-is_done_at_once_kind (MatchedProbe pattern receive) = false
-is_done_at_once_kind (Probe pattern) = false
 is_done_at_once_kind (MatchedReceive blocking) = true
-is_done_at_once_kind (Wait operation) = false
+is_done_at_once_kind kind = false
 
 abbrev pub is_done_at_once_call : Option Call → Bool
 is_done_at_once_call None = false
@@ -47,12 +44,8 @@ abbrev pub returns_at_once : MpiProgram → ℕ → Bool
 returns_at_once p c = returns_at_once_call p (call_at p c)
 
 abbrev pub is_receive_kind : Kind ℕ → Bool
-is_receive_kind (Send mode blocking message) = false
 is_receive_kind (Receive blocking pattern) = true
-is_receive_kind (MatchedProbe pattern receive) = false
-is_receive_kind (Probe pattern) = false
-is_receive_kind (MatchedReceive blocking) = false
-is_receive_kind (Wait operation) = false
+is_receive_kind kind = false
 
 abbrev pub is_receive_call : Option Call → Bool
 is_receive_call None = false

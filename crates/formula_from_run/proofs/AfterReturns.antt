@@ -70,10 +70,7 @@ fetch_earlier p steps send i order run f = by_call (call_at p f.taker) f.fetches
     by_kind : (k : Kind ℕ) → fetches p (after_all (opening p) (take i steps)) k ≡ true → clock_from p (opening p) steps (event_of_fetch (receive_of k) f.taker) < i
     by_kind (Receive blocking pattern) h = omega (arith, f.pair.clock, f.before)
     by_kind (MatchedProbe pattern receive) h = issued_clock p steps receive i order run h
-    by_kind (Probe pattern) h = absurd (cc)
-    by_kind (Send mode blocking message) h = absurd (cc)
-    by_kind (MatchedReceive blocking) h = absurd (cc)
-    by_kind (Wait operation) h = absurd (cc)
+    by_kind kind h = absurd (cc)
 
     by_call : (x : Option Call) → kind_holds (fetches p (after_all (opening p) (take i steps))) x ≡ true → clock_from p (opening p) steps (event_of_fetch (receive_of_call x) f.taker) < i
     by_call None h = absurd (cc)

@@ -42,9 +42,7 @@ fetches_unless p steps (Some y) (Some x) fit taker = by_kind x.kind refl
     by_kind (Receive blocking pattern) e = inl refl
     by_kind (MatchedProbe pattern receive) e = issued_or_not receive (is_issued p (after_all (opening p) steps) receive) refl
     by_kind (Probe pattern) e = absurd (let yes : is_probe_kind x.kind ≡ true = ap is_probe_kind e in cc)
-    by_kind (Send mode blocking message) e = absurd (no_pattern x (Some y) (rw e refl) fit)
-    by_kind (MatchedReceive blocking) e = absurd (no_pattern x (Some y) (rw e refl) fit)
-    by_kind (Wait operation) e = absurd (no_pattern x (Some y) (rw e refl) fit)
+    by_kind kind e = absurd (no_pattern x (Some y) (rw e refl) fit)
 
 module _ (p : MpiProgram) (steps : List Step) (c : ℕ) (x : Statement) (run : IsRun p (opening p) steps) where
   fetched_holds : (send : ℕ) → ((world_of p steps).has (issued c) ≡ true → is_fetched p (after_all (opening p) steps) send ≡ true → is_right (world_of p steps) x ≡ true) → clauses_hold (world_of p steps) (where_fetched p c send x) ≡ true

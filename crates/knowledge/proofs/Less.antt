@@ -45,12 +45,8 @@ receive_less a b f w None h = h
 receive_less a b f w (Some call) h = by call.kind h
   where
     by : (k : Kind ℕ) → tells_receive_kind a k f ≡ true → tells_receive_kind b k f ≡ true
-    by (Send mode blocking message) h = h
-    by (Receive blocking pattern) h = h
     by (MatchedProbe pattern receive) h = w receive h
-    by (Probe pattern) h = h
-    by (MatchedReceive blocking) h = h
-    by (Wait operation) h = h
+    by kind h = h
 
 fetch_less : (p : MpiProgram) (e : Configuration) (a b : Table) (f : ℕ) → Within f a b → (o : Option ℕ) → tells_fetch_by p e a o f ≡ true → tells_fetch_by p e b o f ≡ true
 fetch_less p e a b f w None h = h

@@ -6,7 +6,7 @@ use Rattle.callorder.specs.declared.calls.Call.{Call}
 use Rattle.callorder.specs.declared.calls.Message.{Message}
 use Rattle.callorder.specs.declared.calls.Pattern.{Pattern}
 use Rattle.callorder.specs.declared.calls.Kind.{Kind}
-use Rattle.callorder.specs.declared.calls.Kind.TheVariants.{Send, Receive, MatchedProbe, Probe, MatchedReceive, Wait}
+use Rattle.callorder.specs.declared.calls.Kind.TheVariants.{Wait}
 use Rattle.callorder.specs.Calls.{message_of, pattern_of, covers, fits_between, both_hold, fits}
 use Rattle.callorder.specs.Programs.{MpiProgram, call_at, are_fit, are_of_one_rank}
 use Rattle.races.proofs.Steps.{one_rank_made}
@@ -88,12 +88,8 @@ same_at p c a b one other = same_call a b (sym one ∙ other)
 
 -- no call is both a send and a finder
 both : (kind : Kind ℕ) (message : Message) (pattern : Pattern) → message_of kind ≡ Some message → pattern_of kind ≡ Some pattern → ⊥
-both (Send mode blocking own) message pattern e f = absurd (cc)
-both (Receive blocking own) message pattern e f = absurd (cc)
-both (MatchedProbe own receive) message pattern e f = absurd (cc)
-both (Probe own) message pattern e f = absurd (cc)
-both (MatchedReceive blocking) message pattern e f = absurd (cc)
 both (Wait operation) message pattern e f = absurd (cc)
+both kind message pattern e f = absurd (cc)
 
 -- what fits a call isn't what that call fits
 pub not_both : (p : MpiProgram) (c x y : ℕ) → are_fit p c x ≡ true → are_fit p y c ≡ true → ⊥

@@ -29,28 +29,16 @@ use Rattle.narrowing.proofs.Alike.{same_call, same_issued, same_of_rank, same_on
 -- ---- kinds
 
 probe_kept : (s t : ℕ) (k : Kind ℕ) → is_probe_kind (narrowed_kind (taken.Message s t) k) ≡ is_probe_kind k
-probe_kept s t (Send mode blocking message) = refl
-probe_kept s t (Receive blocking pattern) = refl
-probe_kept s t (MatchedProbe pattern receive) = refl
-probe_kept s t (Probe pattern) = refl
-probe_kept s t (MatchedReceive blocking) = refl
 probe_kept s t (Wait operation) = refl
+probe_kept s t kind = refl
 
 message_kept : (s t : ℕ) (k : Kind ℕ) → message_of (narrowed_kind (taken.Message s t) k) ≡ message_of k
-message_kept s t (Send mode blocking message) = refl
-message_kept s t (Receive blocking pattern) = refl
-message_kept s t (MatchedProbe pattern receive) = refl
-message_kept s t (Probe pattern) = refl
-message_kept s t (MatchedReceive blocking) = refl
 message_kept s t (Wait operation) = refl
+message_kept s t kind = refl
 
 may_be_kept : (s t : ℕ) (policy : Policy) (k : Kind ℕ) (b : Bool) → may_be policy (narrowed_kind (taken.Message s t) k) b ≡ may_be policy k b
-may_be_kept s t policy (Send mode blocking message) b = refl
-may_be_kept s t policy (Receive blocking pattern) b = refl
-may_be_kept s t policy (MatchedProbe pattern receive) b = refl
-may_be_kept s t policy (Probe pattern) b = refl
-may_be_kept s t policy (MatchedReceive blocking) b = refl
 may_be_kept s t policy (Wait operation) b = refl
+may_be_kept s t policy kind b = refl
 
 -- ---- what fits
 
@@ -77,22 +65,18 @@ fits_so r q s t message pattern rank tag h =
 -- what fits the narrowed call fits the call
 between : (r q s t : ℕ) (message : Option Message) (k : Kind ℕ) → fits_between r message q (pattern_of (narrowed_kind (taken.Message s t) k)) ≡ true → fits_between r message q (pattern_of k) ≡ true
 between r q s t None k h = h
-between r q s t (Some message) (Send mode blocking sent) h = h
 between r q s t (Some message) (Receive blocking pattern) h = fits_less r q s t message pattern h
 between r q s t (Some message) (MatchedProbe pattern receive) h = fits_less r q s t message pattern h
 between r q s t (Some message) (Probe pattern) h = fits_less r q s t message pattern h
-between r q s t (Some message) (MatchedReceive blocking) h = h
-between r q s t (Some message) (Wait operation) h = h
+between r q s t (Some message) kind h = h
 
 -- a message of this rank with this tag that fits the call fits the narrowed one
 between_so : (r q s t : ℕ) (message : Option Message) (k : Kind ℕ) → option_map (λ (x : Message). taken.Message r x.tag) message ≡ Some (taken.Message s t) → fits_between r message q (pattern_of k) ≡ true → fits_between r message q (pattern_of (narrowed_kind (taken.Message s t) k)) ≡ true
 between_so r q s t None k way h = absurd (cc)
-between_so r q s t (Some message) (Send mode blocking sent) way h = h
 between_so r q s t (Some message) (Receive blocking pattern) way h = fits_so r q s t message pattern (cc) (cc) h
 between_so r q s t (Some message) (MatchedProbe pattern receive) way h = fits_so r q s t message pattern (cc) (cc) h
 between_so r q s t (Some message) (Probe pattern) way h = fits_so r q s t message pattern (cc) (cc) h
-between_so r q s t (Some message) (MatchedReceive blocking) way h = h
-between_so r q s t (Some message) (Wait operation) way h = h
+between_so r q s t (Some message) kind way h = h
 
 send_kept : (s t : ℕ) (y : Option Call) (call : Call) → both_hold fits (Some (narrowed_call (taken.Message s t) call)) y ≡ both_hold fits (Some call) y
 send_kept s t None call = refl
@@ -154,20 +138,12 @@ fetches_same p q c s t n m None = refl
 fetches_same p q c s t n m (Some call) = at call.kind
   where
     at : (k : Kind ℕ) → fetches q m k ≡ fetches p m k
-    at (Send mode blocking message) = refl
-    at (Receive blocking pattern) = refl
     at (MatchedProbe pattern receive) = same_is_issued p q c s t n m receive
-    at (Probe pattern) = refl
-    at (MatchedReceive blocking) = refl
-    at (Wait operation) = refl
+    at kind = refl
 
 fetches_kept : (s t : ℕ) (p : MpiProgram) (m : Configuration) (k : Kind ℕ) → fetches p m (narrowed_kind (taken.Message s t) k) ≡ fetches p m k
-fetches_kept s t p m (Send mode blocking message) = refl
-fetches_kept s t p m (Receive blocking pattern) = refl
-fetches_kept s t p m (MatchedProbe pattern receive) = refl
-fetches_kept s t p m (Probe pattern) = refl
-fetches_kept s t p m (MatchedReceive blocking) = refl
 fetches_kept s t p m (Wait operation) = refl
+fetches_kept s t p m kind = refl
 
 same_fetched : (p q : MpiProgram) (c s t : ℕ) → Both p q c s t → (m : Configuration) (d : ℕ) → is_fetched q m d ≡ is_fetched p m d
 same_fetched p q c s t n m d = at (partner_of m d)
@@ -187,12 +163,8 @@ done_same p q c s t n m d (MatchedReceive blocking) = refl
 done_same p q c s t n m d (Wait operation) = refl
 
 done_kept : (s t : ℕ) (p : MpiProgram) (m : Configuration) (d : ℕ) (k : Kind ℕ) → is_done_kind p m d (narrowed_kind (taken.Message s t) k) ≡ is_done_kind p m d k
-done_kept s t p m d (Send mode blocking message) = refl
-done_kept s t p m d (Receive blocking pattern) = refl
-done_kept s t p m d (MatchedProbe pattern receive) = refl
-done_kept s t p m d (Probe pattern) = refl
-done_kept s t p m d (MatchedReceive blocking) = refl
 done_kept s t p m d (Wait operation) = refl
+done_kept s t p m d kind = refl
 
 same_done : (p q : MpiProgram) (c s t : ℕ) → Both p q c s t → (m : Configuration) (d : ℕ) → is_done q m d ≡ is_done p m d
 same_done p q c s t n m d = at (call_at q d) ∙ same_call Bool (kind_holds (is_done_kind p m d)) p q c (taken.Message s t) n.narrowed (λ call. done_kept s t p m d call.kind) d
@@ -210,12 +182,8 @@ returned_same p q c s t n m d (MatchedReceive blocking) = refl
 returned_same p q c s t n m d (Wait operation) = same_done p q c s t n m operation
 
 returned_kept : (s t : ℕ) (p : MpiProgram) (m : Configuration) (d : ℕ) (k : Kind ℕ) → is_returned_kind p m d (narrowed_kind (taken.Message s t) k) ≡ is_returned_kind p m d k
-returned_kept s t p m d (Send mode blocking message) = refl
-returned_kept s t p m d (Receive blocking pattern) = refl
-returned_kept s t p m d (MatchedProbe pattern receive) = refl
-returned_kept s t p m d (Probe pattern) = refl
-returned_kept s t p m d (MatchedReceive blocking) = refl
 returned_kept s t p m d (Wait operation) = refl
+returned_kept s t p m d kind = refl
 
 same_returned : (p q : MpiProgram) (c s t : ℕ) → Both p q c s t → (m : Configuration) (d : ℕ) → is_returned q m d ≡ is_returned p m d
 same_returned p q c s t n m d = at (call_at q d) ∙ same_call Bool (kind_holds (is_returned_kind p m d)) p q c (taken.Message s t) n.narrowed (λ call. returned_kept s t p m d call.kind) d

@@ -174,12 +174,8 @@ like_fetches p q c b n m k like None = refl
 like_fetches p q c b n m k like (Some call) = at call.kind
   where
     at : (kind : Kind ℕ) → fetches q k kind ≡ fetches p m kind
-    at (Send mode blocking message) = refl
-    at (Receive blocking pattern) = refl
     at (MatchedProbe pattern receive) = like_issued p q c b n m k like receive
-    at (Probe pattern) = refl
-    at (MatchedReceive blocking) = refl
-    at (Wait operation) = refl
+    at kind = refl
 
 like_fetched : (p q : MpiProgram) (c : ℕ) (b : Bool) → Both p q c b → (m k : Configuration) → IsLike c m k → (d : ℕ) → is_fetched q k d ≡ is_fetched p m d
 like_fetched p q c b n m k like d = ap (holds_of (fetches_partner q k)) (like_partner c m k like d) ∙ at (partner_of m d)

@@ -65,20 +65,16 @@ reached_goes_on p m reached never =
 -- ---- finders
 
 finder_of : (k : Kind ℕ) (h : Pattern) → pattern_of k ≡ Some h → IsFinder k
-finder_of (Send mode blocking message) h e = absurd (cc)
 finder_of (Receive blocking pattern) h e = tt
 finder_of (MatchedProbe pattern receive) h e = tt
 finder_of (Probe pattern) h e = tt
-finder_of (MatchedReceive blocking) h e = absurd (cc)
-finder_of (Wait operation) h e = absurd (cc)
+finder_of kind h e = absurd (cc)
 
 finder_moved : (d : ℕ) (k : Kind ℕ) → IsFinder k → IsFinder (moved_kind d k)
-finder_moved d (Send mode blocking message) f = absurd f
 finder_moved d (Receive blocking pattern) f = tt
 finder_moved d (MatchedProbe pattern receive) f = tt
 finder_moved d (Probe pattern) f = tt
-finder_moved d (MatchedReceive blocking) f = absurd f
-finder_moved d (Wait operation) f = absurd f
+finder_moved d kind f = absurd f
 
 -- what a part's call needs it needs in the whole
 needs_moved : (p q : MpiProgram) (moved : ℕ → ℕ) → IsPart p q moved → (d c o : ℕ) (k : Kind ℕ) → ((other : Call) → call_at q o ≡ Some other → moved other.rank ≡ d) → Needs q c k o → Needs p (c + d) (moved_kind d k) (o + d)

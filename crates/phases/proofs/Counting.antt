@@ -8,7 +8,7 @@ use Rattle.std.proofs.lemmas.Option.{same_Some, slice_get_within}
 use Rattle.calltext.proofs.Conjunctions.{and_true, and_both}
 use Rattle.callorder.specs.declared.calls.Call.{Call}
 use Rattle.callorder.specs.declared.calls.Kind.{Kind}
-use Rattle.callorder.specs.declared.calls.Kind.TheVariants.{Send, Receive, MatchedProbe, Probe, MatchedReceive, Wait}
+use Rattle.callorder.specs.declared.calls.Kind.TheVariants.{Wait}
 use Rattle.callorder.specs.declared.calls.Message.{Message}
 use Rattle.callorder.specs.declared.calls.Pattern.{Pattern}
 use Rattle.callorder.specs.Calls.{message_of, pattern_of, is_probe_kind, fits_between, covers, both_hold, fits}
@@ -146,12 +146,8 @@ fit_parts p s t a b at_s at_t fit =
 
 -- no call is both
 pub no_both : (k : Kind ℕ) (g : Message) (h : Pattern) → message_of k ≡ Some g → pattern_of k ≡ Some h → ⊥
-no_both (Send mode blocking message) g h e f = cc
-no_both (Receive blocking pattern) g h e f = cc
-no_both (MatchedProbe pattern receive) g h e f = cc
-no_both (Probe pattern) g h e f = cc
-no_both (MatchedReceive blocking) g h e f = cc
 no_both (Wait operation) g h e f = cc
+no_both kind g h e f = cc
 
 pub send_has : (r c : ℕ) (o : Option Message) → goes_to r c o ≡ true → (g : Message) × (o ≡ Some g) × (g.destination ≡ r) × (g.communicator ≡ c)
 send_has r c None e = absurd (cc)

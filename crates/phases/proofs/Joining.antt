@@ -8,7 +8,7 @@ use Rattle.std.proofs.lemmas.List.Sums.{sum_by-cons}
 use Rattle.std.proofs.lemmas.Option.{same_Some}
 use Rattle.callorder.specs.declared.calls.Call.{Call}
 use Rattle.callorder.specs.declared.calls.Kind.{Kind}
-use Rattle.callorder.specs.declared.calls.Kind.TheVariants.{Send, Receive, MatchedProbe, Probe, MatchedReceive, Wait}
+use Rattle.callorder.specs.declared.calls.Kind.TheVariants.{Wait}
 use Rattle.callorder.specs.declared.calls.Message.{Message}
 use Rattle.callorder.specs.declared.calls.Pattern.{Pattern}
 use Rattle.callorder.specs.Calls.{operation_of, is_start, receive_of, is_matched_receive}
@@ -247,36 +247,20 @@ abbrev pub KeepsTest : (Kind ℕ → Bool) → Type 0
 KeepsTest test = (d : ℕ) (k : Kind ℕ) → test (moved_kind d k) ≡ test k
 
 pub operation_moves : MovesNames operation_of
-operation_moves d (Send mode blocking message) = refl
-operation_moves d (Receive blocking pattern) = refl
-operation_moves d (MatchedProbe pattern receive) = refl
-operation_moves d (Probe pattern) = refl
-operation_moves d (MatchedReceive blocking) = refl
 operation_moves d (Wait operation) = refl
+operation_moves d kind = refl
 
 pub receive_moves : MovesNames receive_of
-receive_moves d (Send mode blocking message) = refl
-receive_moves d (Receive blocking pattern) = refl
-receive_moves d (MatchedProbe pattern receive) = refl
-receive_moves d (Probe pattern) = refl
-receive_moves d (MatchedReceive blocking) = refl
 receive_moves d (Wait operation) = refl
+receive_moves d kind = refl
 
 pub start_keeps : KeepsTest is_start
-start_keeps d (Send mode blocking message) = refl
-start_keeps d (Receive blocking pattern) = refl
-start_keeps d (MatchedProbe pattern receive) = refl
-start_keeps d (Probe pattern) = refl
-start_keeps d (MatchedReceive blocking) = refl
 start_keeps d (Wait operation) = refl
+start_keeps d kind = refl
 
 pub matched_receive_keeps : KeepsTest is_matched_receive
-matched_receive_keeps d (Send mode blocking message) = refl
-matched_receive_keeps d (Receive blocking pattern) = refl
-matched_receive_keeps d (MatchedProbe pattern receive) = refl
-matched_receive_keeps d (Probe pattern) = refl
-matched_receive_keeps d (MatchedReceive blocking) = refl
 matched_receive_keeps d (Wait operation) = refl
+matched_receive_keeps d kind = refl
 
 pub name_from : (o : Option ℕ) (d k : ℕ) → option_map (λ z. z + d) o ≡ Some k → (j : ℕ) × (o ≡ Some j) × (k ≡ j + d)
 name_from None d k e = absurd (cc)

@@ -88,28 +88,16 @@ issue_made p m r b c call next there own before may =
 -- ---- a moved call does the same
 
 pub message_moved : (d : ℕ) (k : Kind ℕ) → message_of (moved_kind d k) ≡ message_of k
-message_moved d (Send mode blocking message) = refl
-message_moved d (Receive blocking pattern) = refl
-message_moved d (MatchedProbe pattern receive) = refl
-message_moved d (Probe pattern) = refl
-message_moved d (MatchedReceive blocking) = refl
 message_moved d (Wait operation) = refl
+message_moved d kind = refl
 
 pub pattern_moved : (d : ℕ) (k : Kind ℕ) → pattern_of (moved_kind d k) ≡ pattern_of k
-pattern_moved d (Send mode blocking message) = refl
-pattern_moved d (Receive blocking pattern) = refl
-pattern_moved d (MatchedProbe pattern receive) = refl
-pattern_moved d (Probe pattern) = refl
-pattern_moved d (MatchedReceive blocking) = refl
 pattern_moved d (Wait operation) = refl
+pattern_moved d kind = refl
 
 probe_moved_kind : (d : ℕ) (k : Kind ℕ) → is_probe_kind (moved_kind d k) ≡ is_probe_kind k
-probe_moved_kind d (Send mode blocking message) = refl
-probe_moved_kind d (Receive blocking pattern) = refl
-probe_moved_kind d (MatchedProbe pattern receive) = refl
-probe_moved_kind d (Probe pattern) = refl
-probe_moved_kind d (MatchedReceive blocking) = refl
 probe_moved_kind d (Wait operation) = refl
+probe_moved_kind d kind = refl
 
 pub may_be_moved : (policy : Policy) (d : ℕ) (k : Kind ℕ) (b : Bool) → may_be policy (moved_kind d k) b ≡ may_be policy k b
 may_be_moved policy d (Send mode blocking message) b = refl
@@ -248,12 +236,8 @@ module _ (p q : MpiProgram) (moved : ℕ → ℕ) (part : IsPart p q moved) wher
         subst (λ (z : ℕ). is_issued p m (o + moved z) ≡ is_issued q n o) other.2 (seen.issued o other.0 other.1)
 
     fetches_moved : (d : ℕ) (k : Kind ℕ) → ((o : ℕ) → receive_of k ≡ Some o → is_issued p m (o + d) ≡ is_issued q n o) → fetches p m (moved_kind d k) ≡ fetches q n k
-    fetches_moved d (Send mode blocking message) h = refl
-    fetches_moved d (Receive blocking pattern) h = refl
     fetches_moved d (MatchedProbe pattern receive) h = h receive refl
-    fetches_moved d (Probe pattern) h = refl
-    fetches_moved d (MatchedReceive blocking) h = refl
-    fetches_moved d (Wait operation) h = refl
+    fetches_moved d kind h = refl
 
     fetches_same : (a b : Option ℕ) → SamePartner q moved a b → holds_of (fetches_partner p m) a ≡ holds_of (fetches_partner q n) b
     fetches_same None None s = refl

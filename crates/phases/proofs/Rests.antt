@@ -6,7 +6,7 @@ use Rattle.std.proofs.lemmas.Option.{same_Some}
 use Rattle.calltext.proofs.Conjunctions.{and_both}
 use Rattle.callorder.specs.declared.calls.Call.{Call}
 use Rattle.callorder.specs.declared.calls.Kind.{Kind}
-use Rattle.callorder.specs.declared.calls.Kind.TheVariants.{Send, Receive, MatchedProbe, Probe, MatchedReceive, Wait}
+use Rattle.callorder.specs.declared.calls.Kind.TheVariants.{MatchedProbe, Wait}
 use Rattle.callorder.specs.declared.calls.Message.{Message}
 use Rattle.callorder.specs.declared.calls.Pattern.{Pattern}
 use Rattle.callorder.specs.Calls.{operation_of, is_start, receive_of, is_matched_receive}
@@ -26,12 +26,9 @@ use Rattle.phases.proofs.Dropping.{Fits, fits, drop_lower, drop_rises, drop_plac
 
 -- a lowered call is moved back where the calls that it names aren't in front
 raised_kind : (b : ℕ) (k : Kind ℕ) → ((o : ℕ) → operation_of k ≡ Some o → b ≤ o) → ((o : ℕ) → receive_of k ≡ Some o → b ≤ o) → moved_kind b (lowered_kind b k) ≡ k
-raised_kind b (Send mode blocking message) high_o high_r = refl
-raised_kind b (Receive blocking pattern) high_o high_r = refl
 raised_kind b (MatchedProbe pattern receive) high_o high_r = ap (λ (z : ℕ). MatchedProbe pattern z) (let h = high_r receive refl in let e : (receive - b) + b ≡ receive = omega (arith, h) in e)
-raised_kind b (Probe pattern) high_o high_r = refl
-raised_kind b (MatchedReceive blocking) high_o high_r = refl
 raised_kind b (Wait operation) high_o high_r = ap (λ (z : ℕ). Wait z) (let h = high_o operation refl in let e : (operation - b) + b ≡ operation = omega (arith, h) in e)
+raised_kind b kind high_o high_r = refl
 
 module _ (q d : MpiProgram) (is_q : IsWellFormed q) (is_d : IsWellFormed d) (front : IsFront q d) where
   -- ---- how many calls of each rank are in front

@@ -88,12 +88,9 @@ here own pattern a e =
     (and_both (own == a.rank) (pattern.communicator == a.communicator) (eq-eqb own a.rank (ap (λ (z : Address). z.rank) s)) (eq-eqb pattern.communicator a.communicator (ap (λ (z : Address). z.communicator) s))) refl
 
 takes_here : (own : ℕ) (kind : Kind ℕ) (a : Address) → address_sent own kind (message_of kind) ≡ Some a → is_some (message_of kind) ≡ false → (goes_to a.rank a.communicator (message_of kind) ≡ false) × (takes_at a.rank a.communicator own kind ≡ true)
-takes_here own (Send mode blocking message) a e off = absurd (cc)
 takes_here own (Receive blocking pattern) a e off = (refl, here own pattern a e)
 takes_here own (MatchedProbe pattern receive) a e off = (refl, here own pattern a e)
-takes_here own (Probe pattern) a e off = absurd (cc)
-takes_here own (MatchedReceive blocking) a e off = absurd (cc)
-takes_here own (Wait operation) a e off = absurd (cc)
+takes_here own kind a e off = absurd (cc)
 
 -- a taker of this pattern is at no other address
 not_here : (own : ℕ) (pattern : Pattern) (a : Address) → (Some (address_at pattern.communicator own) ≡ Some a → ⊥) → ((own == a.rank && pattern.communicator == a.communicator) && true) ≡ false

@@ -25,12 +25,10 @@ use Rattle.phases.proofs.Parts.{rank_is, before_to, IssueParts, issue_parts, of_
 -- ---- what a call waits for
 
 done_kind : (p : MpiProgram) (m : Configuration) (c : ℕ) (k : Kind ℕ) → IsFinder k → is_done_kind p m c k ≡ is_matched m c
-done_kind p m c (Send mode blocking message) f = absurd f
 done_kind p m c (Receive blocking pattern) f = refl
 done_kind p m c (MatchedProbe pattern receive) f = refl
 done_kind p m c (Probe pattern) f = refl
-done_kind p m c (MatchedReceive blocking) f = absurd f
-done_kind p m c (Wait operation) f = absurd f
+done_kind p m c kind f = absurd f
 
 done_finder : (p : MpiProgram) (m : Configuration) (c : ℕ) (call : Call) → call_at p c ≡ Some call → IsFinder call.kind → is_done p m c ≡ is_matched m c
 done_finder p m c call there f = ap (kind_holds (is_done_kind p m c)) there ∙ done_kind p m c call.kind f
@@ -179,12 +177,8 @@ waiter p is f call there finder = by call.kind refl
         }
       where
         waits : (c : ℕ) (k : Kind ℕ) → operation_of k ≡ Some f → Needs p c k f
-        waits c (Send mode blocking message) e = absurd (cc)
-        waits c (Receive blocking pattern) e = absurd (cc)
-        waits c (MatchedProbe pattern receive) e = absurd (cc)
-        waits c (Probe pattern) e = absurd (cc)
-        waits c (MatchedReceive blocking) e = absurd (cc)
         waits c (Wait operation) e = (sym (same_Some operation f e), call, there, finder)
+        waits c kind e = absurd (cc)
     by (MatchedProbe pattern receive) e = record { place = f; call = call; there = there; own = refl; needs = subst (λ (z : Kind ℕ). Needs p f z f) (sym e) refl }
     by (Probe pattern) e = record { place = f; call = call; there = there; own = refl; needs = subst (λ (z : Kind ℕ). Needs p f z f) (sym e) refl }
     by (MatchedReceive blocking) e = absurd (subst IsFinder e finder)

@@ -205,24 +205,16 @@ returned_taker p m c (MatchedReceive blocking) b h done = absurd (cc)
 returned_taker p m c (Wait operation) b h done = absurd (cc)
 
 no_send : (r q : ℕ) (k : Kind ℕ) (pattern : Option Pattern) → is_blocking_taker k ≡ true → fits_between r (message_of k) q pattern ≡ true → ⊥
-no_send r q (Send mode blocking message) pattern b h = cc
-no_send r q (Receive blocking pattern') pattern b h = cc
-no_send r q (MatchedProbe pattern' receive) pattern b h = cc
-no_send r q (Probe pattern') pattern b h = cc
-no_send r q (MatchedReceive blocking) pattern b h = cc
 no_send r q (Wait operation) pattern b h = cc
+no_send r q kind pattern b h = cc
 
 no_send_call : (x : Call) (y : Option Call) → is_blocking_taker x.kind ≡ true → both_hold fits (Some x) y ≡ true → ⊥
 no_send_call x None b h = cc
 no_send_call x (Some y) b h = no_send x.rank y.rank x.kind (pattern_of y.kind) b h
 
 blocking_no_probe : (k : Kind ℕ) → is_blocking_taker k ≡ true → is_probe_kind k ≡ false
-blocking_no_probe (Send mode blocking message) b = refl
-blocking_no_probe (Receive blocking pattern) b = refl
-blocking_no_probe (MatchedProbe pattern receive) b = refl
 blocking_no_probe (Probe pattern) b = absurd (cc)
-blocking_no_probe (MatchedReceive blocking) b = refl
-blocking_no_probe (Wait operation) b = refl
+blocking_no_probe kind b = refl
 
 pub blocking_takers_match_first : BlockingTakersMatchFirst
 blocking_takers_match_first p steps i c call run w there taker same =

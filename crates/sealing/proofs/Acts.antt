@@ -110,11 +110,7 @@ side_of_send h call e =
 
 no_message : (kind : Kind ℕ) (pattern : Pattern) → pattern_of kind ≡ Some pattern → message_of kind ≡ None
 no_message (Send mode blocking message) pattern e = absurd (cc)
-no_message (Receive blocking q) pattern e = refl
-no_message (MatchedProbe q receive) pattern e = refl
-no_message (Probe q) pattern e = refl
-no_message (MatchedReceive blocking) pattern e = refl
-no_message (Wait operation) pattern e = refl
+no_message kind pattern e = refl
 
 abbrev wanted_with : ℕ → Pattern → Wanted
 wanted_with rank pattern = record { source = pattern.source; destination = rank; tag = pattern.tag; communicator = pattern.communicator }

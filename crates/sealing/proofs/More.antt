@@ -42,12 +42,8 @@ module _ (p : MpiProgram) (m e : Configuration) (a b : Table) (f : ℕ) (within 
       (at_more (partner_of m t) (partner_of e t) (within t))) h
 
   receive_kind_more : (k : Kind ℕ) → tells_receive_kind a k f ≡ true → tells_receive_kind b k f ≡ true
-  receive_kind_more (Send mode blocking message) h = h
-  receive_kind_more (Receive blocking pattern) h = h
   receive_kind_more (MatchedProbe pattern receive) h = less receive h
-  receive_kind_more (Probe pattern) h = h
-  receive_kind_more (MatchedReceive blocking) h = h
-  receive_kind_more (Wait operation) h = h
+  receive_kind_more kind h = h
 
   receive_more : (o : Option Call) → tells_receive a o f ≡ true → tells_receive b o f ≡ true
   receive_more None h = h

@@ -9,7 +9,7 @@ use Rattle.std.proofs.lemmas.List.Quantifiers.{all_pairs_push}
 use Rattle.calltext.specs.declared.limits.Limits.{Limits}
 use Rattle.callorder.specs.declared.calls.Call.{Call}
 use Rattle.callorder.specs.declared.calls.Kind.{Kind}
-use Rattle.callorder.specs.declared.calls.Kind.TheVariants.{Send, Receive, MatchedProbe, Probe, MatchedReceive, Wait}
+use Rattle.callorder.specs.declared.calls.Kind.TheVariants.{Send}
 use Rattle.callorder.specs.declared.calls.Message.{Message}
 use Rattle.callorder.specs.declared.calls.Pattern.{Pattern}
 use Rattle.callorder.specs.Calls.{message_of, pattern_of, covers, fits_between, both_hold, holds_of, fits}
@@ -96,19 +96,11 @@ sent_by sender taker s (Some message) pattern from fit =
 
 kind_has_one : (kind : Kind ℕ) (message : Message) → message_of kind ≡ Some message → pattern_of kind ≡ None
 kind_has_one (Send mode blocking own) message some = refl
-kind_has_one (Receive blocking pattern) message some = absurd (none-some message some)
-kind_has_one (MatchedProbe pattern receive) message some = absurd (none-some message some)
-kind_has_one (Probe pattern) message some = absurd (none-some message some)
-kind_has_one (MatchedReceive blocking) message some = absurd (none-some message some)
-kind_has_one (Wait operation) message some = absurd (none-some message some)
+kind_has_one kind message some = absurd (none-some message some)
 
 kind_looks : (kind : Kind ℕ) (pattern : Pattern) → pattern_of kind ≡ Some pattern → message_of kind ≡ None
 kind_looks (Send mode blocking own) pattern some = absurd (none-some pattern some)
-kind_looks (Receive blocking own) pattern some = refl
-kind_looks (MatchedProbe own receive) pattern some = refl
-kind_looks (Probe own) pattern some = refl
-kind_looks (MatchedReceive blocking) pattern some = refl
-kind_looks (Wait operation) pattern some = refl
+kind_looks kind pattern some = refl
 
 -- what fits with a call of the program, by both calls
 fit_parts : (p : MpiProgram) (c e rank : ℕ) (known : Call) → call_at p c ≡ Some known → IsTrue (fits_with p c e) → IsTrue (is_of_rank (call_at p e) rank)

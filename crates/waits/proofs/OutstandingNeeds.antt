@@ -74,12 +74,10 @@ abbrev HasReceive : MpiProgram → Configuration → Option ℕ → Type 0
 HasReceive p m found = (receive : ℕ) × (found ≡ Some receive) × (is_issued p m receive ≡ false)
 
 receive_awaited : (p : MpiProgram) (m : Configuration) (sender taker : ℕ) (message : Option Message) (kind : Kind ℕ) → fits_between sender message taker (pattern_of kind) ≡ true → is_probe_kind kind ≡ false → fetches p m kind ≡ false → HasReceive p m (receive_of kind)
-receive_awaited p m sender taker message (Send mode blocking own) fit no_probe unfetched = absurd (no_pattern sender taker message fit)
 receive_awaited p m sender taker message (Receive blocking pattern) fit no_probe unfetched = absurd (true≢false unfetched)
 receive_awaited p m sender taker message (MatchedProbe pattern receive) fit no_probe unfetched = (receive, refl, unfetched)
 receive_awaited p m sender taker message (Probe pattern) fit no_probe unfetched = absurd (true≢false no_probe)
-receive_awaited p m sender taker message (MatchedReceive blocking) fit no_probe unfetched = absurd (no_pattern sender taker message fit)
-receive_awaited p m sender taker message (Wait operation) fit no_probe unfetched = absurd (no_pattern sender taker message fit)
+receive_awaited p m sender taker message kind fit no_probe unfetched = absurd (no_pattern sender taker message fit)
 
 receive_of_taker : (p : MpiProgram) (m : Configuration) (send : Call) (taker : Option Call) → both_hold fits (Some send) taker ≡ true → kind_holds is_probe_kind taker ≡ false → kind_holds (fetches p m) taker ≡ false → HasReceive p m (option_and_then (λ call. receive_of call.kind) taker)
 receive_of_taker p m send None fit no_probe unfetched = absurd (true≢false (sym fit))
@@ -146,10 +144,8 @@ undone p m call known there pending =
     by_kind : (kind : Kind ℕ) → is_returned_kind p m call kind ≡ false → is_done p m (unwrap_or (operation_of kind) call) ≡ false
     by_kind (Send mode blocking message) unreturned = (or_parts _ _ unreturned).1
     by_kind (Receive blocking pattern) unreturned = (or_parts _ _ unreturned).1
-    by_kind (MatchedProbe pattern receive) unreturned = unreturned
-    by_kind (Probe pattern) unreturned = unreturned
     by_kind (MatchedReceive blocking) unreturned = absurd (true≢false unreturned)
-    by_kind (Wait operation) unreturned = unreturned
+    by_kind kind unreturned = unreturned
 
 operation_there : (l : Limits) (p : MpiProgram) (call : ℕ) (known : Call) → IsProgramWithin l p → call_at p call ≡ Some known → (operation : Call) × (call_at p (operation_of_call p call) ≡ Some operation)
 operation_there l p call known is there = by_operation (operation_of known.kind) refl
