@@ -5,6 +5,7 @@ use Rattle.std.proofs.lemmas.Option.{slice_get_within, slice_get-get_or}
 use Rattle.calltext.proofs.Conjunctions.{and_true, and_both}
 use Rattle.callorder.specs.declared.calls.Call.{Call}
 use Rattle.callorder.specs.Programs.{MpiProgram, call_at, is_of_rank}
+use Rattle.callorder.specs.Calls.{holds_of}
 use Rattle.semantics.specs.declared.state.Step.{Step}
 use Rattle.semantics.specs.declared.state.Step.TheVariants.{Issue, Match, See}
 use Rattle.semantics.specs.Machine.{Configuration, opening, after, after_all, IsEnabled, IsRun, IsStuckRun, may_be, can_issue, can_issue_next, can_issue_call, has_next, is_rank_finished, has_returned_before}
@@ -34,9 +35,9 @@ issued_there p m e r b kept kept_e ended behind can w =
           let same : slice_index e.next r ≡ w.place = omega (arith, not_below, behind.next r, next_is p m r w) in
           let there : slice_get e.next r ≡ Some w.place = slice_get-get_or e.next r 0 within_e ∙ ap Some same in
           let back : has_returned_before p e r w.place ≡ true = behind.returned r w.place (returned_first p m r b can w) in
-          let all : can_issue_call p e r b w.place (Some w.call) ≡ true =
+          let all : holds_of (can_issue_call p e r b w.place) (Some w.call) ≡ true =
           and_both (w.call.rank == r && has_returned_before p e r w.place) (may_be p.policy w.call.kind b) (and_both (w.call.rank == r) (has_returned_before p e r w.place) (eq-eqb w.call.rank r w.own) back) (allowed p m r b can w) in
-          absurd (ended (Issue r b) (subst (λ (z : Option ℕ). can_issue_next p e r b z ≡ true) (sym there) (subst (λ (z : Option Call). can_issue_call p e r b w.place z ≡ true) (sym w.there) all)))
+          absurd (ended (Issue r b) (subst (λ (z : Option ℕ). holds_of (can_issue_next p e r b) z ≡ true) (sym there) (subst (λ (z : Option Call). holds_of (can_issue_call p e r b w.place) z ≡ true) (sym w.there) all)))
     ]
 
 -- behind an issue each rank has gone no farther than where nothing is enabled

@@ -12,12 +12,12 @@ use Rattle.callorder.proofs.Lookups.{slice_get-none_past}
 use Rattle.callorder.specs.declared.calls.Call.{Call}
 use Rattle.callorder.specs.declared.calls.Kind.{Kind}
 use Rattle.callorder.specs.declared.calls.Kind.TheVariants.{Send, Receive, MatchedProbe, Probe, MatchedReceive, Wait}
-use Rattle.callorder.specs.Programs.{is_probe_call, MpiProgram, call_at, is_of_rank, are_fit, is_probe, takes, are_of_one_rank}
+use Rattle.callorder.specs.Programs.{MpiProgram, call_at, is_of_rank, are_fit, is_probe, takes, are_of_one_rank, kind_holds}
 use Rattle.callorder.specs.declared.calls.Pattern.{Pattern}
-use Rattle.callorder.specs.Calls.{pattern_of, receive_of, is_probe_kind}
+use Rattle.callorder.specs.Calls.{pattern_of, receive_of, is_probe_kind, holds_of, fits}
 use Rattle.semantics.specs.declared.state.Step.{Step}
 use Rattle.semantics.specs.declared.state.Step.TheVariants.{Issue, Match, See}
-use Rattle.semantics.specs.Machine.{is_returned_call, is_returned_kind, is_done_call, is_done_kind, Configuration, opening, after, after_all, IsEnabled, IsRun, IsStuckRun, CanFind, is_issued, is_matched, partner_of, fetches, fetches_call, fetches_partner, is_fetched, is_returned, may_be, can_issue_next, can_issue_call, has_returned_before}
+use Rattle.semantics.specs.Machine.{is_returned_kind, is_done_kind, Configuration, opening, after, after_all, IsEnabled, IsRun, IsStuckRun, CanFind, is_issued, is_matched, partner_of, fetches, fetches_partner, is_fetched, is_returned, may_be, can_issue_next, can_issue_call, has_returned_before}
 use Rattle.run_laws.specs.Laws.{IsInRankOrder}
 use Rattle.run_laws.proofs.Matched.{no_send_is_taker}
 use Rattle.races.specs.Tells.{Table, IsJustified}
@@ -39,19 +39,16 @@ use Rattle.always.proofs.Ordered.{no_open_pair, earlier_taker}
 
 -- ---- what is fetched
 
-fetches_next : (p : MpiProgram) (m n : Configuration) (o : Option Call) → ((r : ℕ) → slice_index m.next r ≤ slice_index n.next r) → fetches_call p m o ≡ true → fetches_call p n o ≡ true
+fetches_next : (p : MpiProgram) (m n : Configuration) (o : Option Call) → ((r : ℕ) → slice_index m.next r ≤ slice_index n.next r) → kind_holds (fetches p m) o ≡ true → kind_holds (fetches p n) o ≡ true
 fetches_next p m n None next h = absurd (cc)
 fetches_next p m n (Some call) next h = by call.kind h
   where
-    by : (k : Kind) → fetches p m k ≡ true → fetches p n k ≡ true
-    by (Send mode blocking message) h = absurd (cc)
+    by : (k : Kind ℕ) → fetches p m k ≡ true → fetches p n k ≡ true
     by (Receive blocking pattern) h = refl
     by (MatchedProbe pattern receive) h = issued_by_next p m n receive next h
-    by (Probe pattern) h = absurd (cc)
-    by (MatchedReceive blocking) h = absurd (cc)
-    by (Wait operation) h = absurd (cc)
+    by kind h = absurd (cc)
 
-some_choice : (q : Policy) (k : Kind) → (b : Bool) × (may_be q k b ≡ true)
+some_choice : (q : Policy) (k : Kind ℕ) → (b : Bool) × (may_be q k b ≡ true)
 some_choice Any (Send Standard blocking message) = (true, refl)
 some_choice Never (Send Standard blocking message) = (false, refl)
 some_choice Always (Send Standard blocking message) = (true, refl)
@@ -91,18 +88,18 @@ no_next p n r c call stuck next there own returned =
     let place : slice_get n.next r ≡ Some (suc c) = slice_get-get_or n.next r 0 inside ∙ ap Some next in
     let choice = some_choice p.policy call.kind in
     let back : has_returned_before p n r (suc c) ≡ true = or_true_right (not (is_of_rank (call_at p c) r)) (is_returned p n c) returned in
-    let all : can_issue_call p n r choice.0 (suc c) (Some call) ≡ true =
+    let all : holds_of (can_issue_call p n r choice.0 (suc c)) (Some call) ≡ true =
     and_both (call.rank == r && has_returned_before p n r (suc c)) (may_be p.policy call.kind choice.0) (and_both (call.rank == r) (has_returned_before p n r (suc c)) (eq-eqb call.rank r own) back) choice.1 in
     stuck (Issue r choice.0)
-    (subst (λ (z : Option ℕ). can_issue_next p n r choice.0 z ≡ true) (sym place) (subst (λ (z : Option Call). can_issue_call p n r choice.0 (suc c) z ≡ true) (sym there) all))
+    (subst (λ (z : Option ℕ). holds_of (can_issue_next p n r choice.0) z ≡ true) (sym place) (subst (λ (z : Option Call). holds_of (can_issue_call p n r choice.0 (suc c)) z ≡ true) (sym there) all))
 
 -- a matched probe that has found has returned
 probe_back : (p : MpiProgram) (n : Configuration) (y q : ℕ) (call : Call) (pattern : Pattern) → call_at p y ≡ Some call → call.kind ≡ MatchedProbe pattern q → is_matched n y ≡ true → is_returned p n y ≡ true
 probe_back p n y q call pattern is kind matched =
-    ap (is_returned_call p n y) is ∙ ap (is_returned_kind p n y) kind ∙ ap (is_done_call p n y) is ∙ ap (is_done_kind p n y) kind ∙ matched
+    ap (kind_holds (is_returned_kind p n y)) is ∙ ap (is_returned_kind p n y) kind ∙ ap (kind_holds (is_done_kind p n y)) is ∙ ap (is_done_kind p n y) kind ∙ matched
 
 -- where all is stuck, what a prompt finder has found is fetched
-prompt_fetches : (p : MpiProgram) (n : Configuration) (y : ℕ) → IsInRankOrder p → HasEnded p n → IsPrompt p y → is_finder p y ≡ true → is_issued p n y ≡ true → is_matched n y ≡ true → fetches_call p n (call_at p y) ≡ true
+prompt_fetches : (p : MpiProgram) (n : Configuration) (y : ℕ) → IsInRankOrder p → HasEnded p n → IsPrompt p y → is_finder p y ≡ true → is_issued p n y ≡ true → is_matched n y ≡ true → kind_holds (fetches p n) (call_at p y) ≡ true
 prompt_fetches p n y order ended prompt finder issued matched = go (call_at p y) refl finder
   where
     next_one : (call : Call) (pattern : Pattern) (q : ℕ) → call_at p y ≡ Some call → call.kind ≡ MatchedProbe pattern q → (a b : Call) → call_at p y ≡ Some a → call_at p q ≡ Some b → a.rank ≡ b.rank → (nx : ℕ) → slice_index n.next a.rank ≡ nx → y < nx → nx ≤ q → ⊥
@@ -140,15 +137,13 @@ prompt_fetches p n y order ended prompt finder issued matched = go (call_at p y)
               absurd (next_one call pattern q is kind calls.0 calls.1 calls.2 calls.3 calls.4 (slice_index n.next calls.0.rank) refl below past)
         ]
 
-    kinds : (call : Call) (k : Kind) → call_at p y ≡ Some call → call.kind ≡ k → is_some (pattern_of k) ≡ true → fetches p n k ≡ true
-    kinds call (Send mode blocking message) is kind h = absurd (cc)
+    kinds : (call : Call) (k : Kind ℕ) → call_at p y ≡ Some call → call.kind ≡ k → is_some (pattern_of k) ≡ true → fetches p n k ≡ true
     kinds call (Receive blocking pattern) is kind h = refl
     kinds call (MatchedProbe pattern q) is kind h = handle call pattern q is kind
-    kinds call (Probe pattern) is kind h = absurd (let on : is_probe p y ≡ true = ap is_probe_call is ∙ ap is_probe_kind kind in let off = prompt.taker in cc)
-    kinds call (MatchedReceive blocking) is kind h = absurd (cc)
-    kinds call (Wait operation) is kind h = absurd (cc)
+    kinds call (Probe pattern) is kind h = absurd (let on : is_probe p y ≡ true = ap (kind_holds is_probe_kind) is ∙ ap is_probe_kind kind in let off = prompt.taker in cc)
+    kinds call other is kind h = absurd (cc)
 
-    go : (o : Option Call) → call_at p y ≡ o → is_finder_call o ≡ true → fetches_call p n o ≡ true
+    go : (o : Option Call) → call_at p y ≡ o → is_finder_call o ≡ true → kind_holds (fetches p n) o ≡ true
     go None is h = absurd (cc)
     go (Some call) is h = kinds call call.kind is refl h
 
@@ -175,9 +170,9 @@ fetched_like p block e Q m b kept like upto c h =
             | inl also ↦
                 let finder_u = fit_finder p c u.0 (takes_fit p c u.0 also) in
                 let finder_w = fit_finder p c w.0 (takes_fit p c w.0 taken) in
-                ap (fetches_partner p e) u.1 ∙
+                ap (holds_of (fetches_partner p e)) u.1 ∙
                 elim (cases_eq u.0 w.0) [
-                  | inl is ↦ ap (λ (z : ℕ). fetches_call p e (call_at p z)) is ∙ fetches_next p m e (call_at p w.0) upto w.2
+                  | inl is ↦ ap (λ (z : ℕ). kind_holds (fetches p e) (call_at p z)) is ∙ fetches_next p m e (call_at p w.0) upto w.2
                   | inr differ ↦ prompt_fetches p e u.0 b.order b.ended (fellows p block u.0 w.0 b.are finder_u finder_w (sym u.2) differ).first finder_u (b.kept_e.issued c u.0 u.1).1 (matched_from e u.0 c (b.kept_e.both c u.0 (takes_fit p c u.0 also) u.1))
                 ]
           ]

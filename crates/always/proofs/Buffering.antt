@@ -11,6 +11,7 @@ use Rattle.callorder.specs.declared.calls.Call.{Call}
 use Rattle.callorder.specs.declared.calls.Kind.{Kind}
 use Rattle.callorder.specs.declared.calls.Kind.TheVariants.{Send, Receive, MatchedProbe, Probe, MatchedReceive, Wait}
 use Rattle.callorder.specs.Programs.{MpiProgram, call_at}
+use Rattle.callorder.specs.Calls.{holds_of}
 use Rattle.semantics.specs.declared.state.Step.{Step}
 use Rattle.semantics.specs.declared.state.Step.TheVariants.{Issue, Match, See}
 use Rattle.semantics.specs.Machine.{Configuration, opening, after, after_all, IsEnabled, IsRun, is_buffered, is_issued, is_issued_call, may_be, can_issue, can_issue_next, can_issue_call, has_returned_before}
@@ -25,7 +26,7 @@ use Rattle.races.proofs.Passing.{kept_after, issued_call_before}
 abbrev pub AllBuffered : MpiProgram → Configuration → Type 0
 AllBuffered p m = (p.policy ≡ Never → ⊥) → (c : ℕ) → is_standard_call (call_at p c) ≡ true → is_issued p m c ≡ true → is_buffered m c ≡ true
 
-pub standard_may : (q : Policy) (k : Kind) → is_standard_kind k ≡ true → (q ≡ Never → ⊥) → may_be q k true ≡ true
+pub standard_may : (q : Policy) (k : Kind ℕ) → is_standard_kind k ≡ true → (q ≡ Never → ⊥) → may_be q k true ≡ true
 standard_may Any (Send Standard blocking message) h not_never = refl
 standard_may Never (Send Standard blocking message) h not_never = absurd (not_never refl)
 standard_may Always (Send Standard blocking message) h not_never = refl
@@ -42,19 +43,19 @@ pub issued_otherwise : (p : MpiProgram) (m : Configuration) (r : ℕ) (b d : Boo
 issued_otherwise p m r b d can w may =
     let back : has_returned_before p m r w.place ≡ true = returned_first p m r b can w in
     let own : (w.call.rank == r) ≡ true = eq-eqb w.call.rank r w.own in
-    let all : can_issue_call p m r d w.place (Some w.call) ≡ true =
+    let all : holds_of (can_issue_call p m r d w.place) (Some w.call) ≡ true =
     and_both (w.call.rank == r && has_returned_before p m r w.place) (may_be p.policy w.call.kind d) (and_both (w.call.rank == r) (has_returned_before p m r w.place) own back) may in
-    subst (λ (z : Option ℕ). can_issue_next p m r d z ≡ true) (sym w.next) (subst (λ (z : Option Call). can_issue_call p m r d w.place z ≡ true) (sym w.there) all)
+    subst (λ (z : Option ℕ). holds_of (can_issue_next p m r d) z ≡ true) (sym w.next) (subst (λ (z : Option Call). holds_of (can_issue_call p m r d w.place) z ≡ true) (sym w.there) all)
 
 buffered_step : (p : MpiProgram) (m : Configuration) (x : Step) → Kept p m → IsEnabled p m x → ((rank : ℕ) → x ≡ Issue rank false → IsEnabled p m (Issue rank true) → ⊥) → AllBuffered p m → AllBuffered p (after m x)
 buffered_step p m (Match s t) kept enabled choice all not_never c standard h = all not_never c standard (same (call_at p c) h)
   where
-    same : (o : Option Call) → is_issued_call (after m (Match s t)) c o ≡ true → is_issued_call m c o ≡ true
+    same : (o : Option Call) → holds_of (is_issued_call (after m (Match s t)) c) o ≡ true → holds_of (is_issued_call m c) o ≡ true
     same None h = h
     same (Some call) h = h
 buffered_step p m (See s f) kept enabled choice all not_never c standard h = all not_never c standard (same (call_at p c) h)
   where
-    same : (o : Option Call) → is_issued_call (after m (See s f)) c o ≡ true → is_issued_call m c o ≡ true
+    same : (o : Option Call) → holds_of (is_issued_call (after m (See s f)) c) o ≡ true → holds_of (is_issued_call m c) o ≡ true
     same None h = h
     same (Some call) h = h
 buffered_step p m (Issue r b) kept enabled choice all not_never c standard h =
@@ -83,10 +84,10 @@ buffered_all p m (x ∷ xs) kept run choice all =
 
 -- ---- where the policy leaves no choice, each run buffers all it may
 
-no_true : (k : Kind) → may_be Never k true ≡ true → ⊥
+no_true : (k : Kind ℕ) → may_be Never k true ≡ true → ⊥
 no_true k h = absurd (let off : true ≡ false = never_allowed k true h in cc)
 
-no_choice_kind : (q : Policy) (k : Kind) → (q ≡ Any → ⊥) → may_be q k false ≡ true → may_be q k true ≡ true → ⊥
+no_choice_kind : (q : Policy) (k : Kind ℕ) → (q ≡ Any → ⊥) → may_be q k false ≡ true → may_be q k true ≡ true → ⊥
 no_choice_kind Any k not_any off on = not_any refl
 no_choice_kind Never k not_any off on = no_true k on
 no_choice_kind Always k not_any off on =

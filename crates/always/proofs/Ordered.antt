@@ -8,8 +8,8 @@ use Rattle.calltext.specs.declared.call.Policy.TheVariants.{Any, Never, Always}
 use Rattle.callorder.specs.declared.calls.Call.{Call}
 use Rattle.callorder.specs.declared.calls.Message.{Message}
 use Rattle.callorder.specs.declared.calls.Pattern.{Pattern}
-use Rattle.callorder.specs.Calls.{message_of, pattern_of, fits_between, covers}
-use Rattle.callorder.specs.Programs.{MpiProgram, call_at, are_fit, fit_calls, is_probe, are_of_one_rank, are_of_one_rank_calls}
+use Rattle.callorder.specs.Calls.{message_of, pattern_of, fits_between, covers, both_hold, fits}
+use Rattle.callorder.specs.Programs.{MpiProgram, call_at, are_fit, is_probe, are_of_one_rank, have_one_rank}
 use Rattle.semantics.specs.declared.state.Step.{Step}
 use Rattle.semantics.specs.Machine.{Configuration, opening, after, after_all, IsEnabled, IsRun, CanFind, is_issued, is_matched, partner_of}
 use Rattle.run_laws.specs.Laws.{IsInRankOrder}
@@ -230,7 +230,7 @@ source_is r d (Some a) (Some b) named fit = of_source b.source refl
 one_source : (p : MpiProgram) (f s x : ℕ) → NamesSources p → are_fit p s f ≡ true → are_fit p x f ≡ true → are_of_one_rank p s x ≡ true
 one_source p f s x named a b = by (call_at p s) (call_at p x) (call_at p f) refl a b
   where
-    by : (o u v : Option Call) → call_at p f ≡ v → fit_calls o v ≡ true → fit_calls u v ≡ true → are_of_one_rank_calls o u ≡ true
+    by : (o u v : Option Call) → call_at p f ≡ v → both_hold fits o v ≡ true → both_hold fits u v ≡ true → both_hold have_one_rank o u ≡ true
     by None u v is a b = absurd (cc)
     by (Some o) None None is a b = absurd (cc)
     by (Some o) None (Some v) is a b = absurd (cc)

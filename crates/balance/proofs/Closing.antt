@@ -7,11 +7,11 @@ use Rattle.std.proofs.lemmas.Option.{slice_get_within, get_or_from_slice_get}
 use Rattle.calltext.proofs.Conjunctions.{and_true, and_both}
 use Rattle.callorder.specs.declared.calls.Call.{Call}
 use Rattle.callorder.specs.declared.calls.Kind.{Kind}
-use Rattle.callorder.specs.declared.calls.Kind.TheVariants.{Send, Receive, MatchedProbe, Probe, MatchedReceive, Wait}
+use Rattle.callorder.specs.declared.calls.Kind.TheVariants.{Send, Receive, MatchedProbe}
 use Rattle.callorder.specs.declared.calls.Message.{Message}
 use Rattle.callorder.specs.declared.calls.Pattern.{Pattern}
-use Rattle.callorder.specs.Calls.{message_of, pattern_of, is_probe_kind, covers, fits_between}
-use Rattle.callorder.specs.Programs.{MpiProgram, call_at, fit_calls, is_probe_call}
+use Rattle.callorder.specs.Calls.{message_of, pattern_of, is_probe_kind, covers, fits_between, both_hold, fits}
+use Rattle.callorder.specs.Programs.{MpiProgram, call_at, kind_holds}
 use Rattle.races.proofs.Kept.{takes_fit, takes_no_probe}
 use Rattle.balance.specs.declared.channels.Channel.{Channel}
 use Rattle.balance.specs.Balance.{taken_by, takes_any_source, takes_any_source_as, takes_any_tag, takes_any_tag_as, channel_to, channel_taken, channel_sent, channel_of, channel_of_call}
@@ -23,22 +23,15 @@ any_there test p c call there on =
 
 -- ---- the channel of a taker
 
-pub no_message : (k : Kind) → is_some (pattern_of k) ≡ true → message_of k ≡ None
+pub no_message : (k : Kind ℕ) → is_some (pattern_of k) ≡ true → message_of k ≡ None
 no_message (Send mode blocking message) h = absurd (cc)
-no_message (Receive blocking pattern) h = refl
-no_message (MatchedProbe pattern receive) h = refl
-no_message (Probe pattern) h = refl
-no_message (MatchedReceive blocking) h = refl
-no_message (Wait operation) h = refl
+no_message kind h = refl
 
 -- what is taken has a pattern, and is no probe
-pub taker_kind : (k : Kind) → is_some (if is_probe_kind k then None else pattern_of k) ≡ true → (is_some (pattern_of k) ≡ true) × (is_probe_kind k ≡ false)
-taker_kind (Send mode blocking message) h = absurd (cc)
+pub taker_kind : (k : Kind ℕ) → is_some (if is_probe_kind k then None else pattern_of k) ≡ true → (is_some (pattern_of k) ≡ true) × (is_probe_kind k ≡ false)
 taker_kind (Receive blocking pattern) h = (refl, refl)
 taker_kind (MatchedProbe pattern receive) h = (refl, refl)
-taker_kind (Probe pattern) h = absurd (cc)
-taker_kind (MatchedReceive blocking) h = absurd (cc)
-taker_kind (Wait operation) h = absurd (cc)
+taker_kind kind h = absurd (cc)
 
 taken_is : (call : Call) (pattern : Pattern) → pattern_of call.kind ≡ Some pattern → is_probe_kind call.kind ≡ false → taken_by call ≡ Some pattern
 taken_is call pattern is off =
@@ -100,7 +93,7 @@ channels_are_closed p send taker taken =
     at x y (Some a) None there is off fit = absurd (cc)
     at x y (Some a) (Some b) there is off fit = closed_calls p x y taker a b there is off fit
 
-    by : (x y : Option Call) → call_at p taker ≡ y → fit_calls x y ≡ true → is_probe_call y ≡ false → channel_of_call p x ≡ channel_of_call p y
+    by : (x y : Option Call) → call_at p taker ≡ y → both_hold fits x y ≡ true → kind_holds is_probe_kind y ≡ false → channel_of_call p x ≡ channel_of_call p y
     by None y there fit off = absurd (cc)
     by (Some x) None there fit off = absurd (cc)
     by (Some x) (Some y) there fit off = at x y (message_of x.kind) (pattern_of y.kind) there refl off fit

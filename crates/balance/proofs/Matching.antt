@@ -9,11 +9,11 @@ use Rattle.calltext.proofs.Conjunctions.{and_true}
 use Rattle.callorder.proofs.Lookups.{slice_get-none_past}
 use Rattle.callorder.specs.declared.calls.Call.{Call}
 use Rattle.callorder.specs.declared.calls.Kind.{Kind}
-use Rattle.callorder.specs.declared.calls.Kind.TheVariants.{Send, Receive, MatchedProbe, Probe, MatchedReceive, Wait}
+use Rattle.callorder.specs.declared.calls.Kind.TheVariants.{Send}
 use Rattle.callorder.specs.declared.calls.Message.{Message}
 use Rattle.callorder.specs.declared.calls.Pattern.{Pattern}
-use Rattle.callorder.specs.Calls.{message_of, pattern_of, fits_between}
-use Rattle.callorder.specs.Programs.{MpiProgram, call_at, is_of_rank, fit_calls, is_probe_call, are_fit, is_probe}
+use Rattle.callorder.specs.Calls.{message_of, pattern_of, fits_between, both_hold, fits, is_probe_kind}
+use Rattle.callorder.specs.Programs.{MpiProgram, call_at, is_of_rank, are_fit, is_probe, kind_holds}
 use Rattle.semantics.specs.declared.state.Step.{Step}
 use Rattle.semantics.specs.Machine.{Configuration, opening, after_all, first_call, IsFinishedRun, is_issued, is_matched, partner_of, has_next, has_returned_before}
 use Rattle.semantics.proofs.MachineLaws.{next_counts_issues}
@@ -79,15 +79,11 @@ has_pattern r d None b h = absurd (cc)
 has_pattern r d (Some a) None h = absurd (cc)
 has_pattern r d (Some a) (Some b) h = (refl, refl)
 
-no_send : (k : Kind) → is_some (pattern_of k) ≡ true → is_some (message_of k) ≡ false
+no_send : (k : Kind ℕ) → is_some (pattern_of k) ≡ true → is_some (message_of k) ≡ false
 no_send (Send mode blocking message) h = absurd (cc)
-no_send (Receive blocking pattern) h = refl
-no_send (MatchedProbe pattern receive) h = refl
-no_send (Probe pattern) h = refl
-no_send (MatchedReceive blocking) h = refl
-no_send (Wait operation) h = refl
+no_send kind h = refl
 
-fit_kinds : (x y : Option Call) → fit_calls x y ≡ true → (is_send_call x ≡ true) × (is_send_call y ≡ false)
+fit_kinds : (x y : Option Call) → both_hold fits x y ≡ true → (is_send_call x ≡ true) × (is_send_call y ≡ false)
 fit_kinds None y h = absurd (cc)
 fit_kinds (Some x) None h = absurd (cc)
 fit_kinds (Some x) (Some y) h =
@@ -119,7 +115,7 @@ is_taker p c channel h off = by (call_at p c) refl h off
     by None is h off = absurd (cc)
     by (Some call) is h off =
         let k = taker_kind call.kind (channel_of_taken p call.rank (taken_by call) channel (not_sent p call (message_of call.kind) channel off h)) in
-        record { call = call; there = is; pattern = k.0; probe = ap is_probe_call is ∙ k.1 }
+        record { call = call; there = is; pattern = k.0; probe = ap (kind_holds is_probe_kind) is ∙ k.1 }
 
 -- ---- a channel's takers each have a send of their own
 

@@ -9,7 +9,8 @@ use Rattle.std.proofs.lemmas.List.{get_or-replicate, get_or_past, length-replica
 use Rattle.std.proofs.lemmas.List.Quantifiers.{all_pairs_push}
 use Rattle.calltext.specs.Limits.{long}
 use Rattle.callorder.specs.declared.calls.Call.{Call}
-use Rattle.callorder.specs.Programs.{MpiProgram, IsProgramWithin, call_at, is_of_rank, are_of_one_rank, are_of_one_rank_calls}
+use Rattle.callorder.specs.Programs.{MpiProgram, IsProgramWithin, call_at, is_of_rank, are_of_one_rank, have_one_rank}
+use Rattle.callorder.specs.Calls.{both_hold}
 use Rattle.scene.specs.declared.acts.Act.{Act}
 use Rattle.scene.specs.declared.acts.Act.TheVariants.{Issue, Match, See}
 use Rattle.scene.specs.Labels.{Label}
@@ -111,7 +112,7 @@ at_row P rows r q new within here elsewhere =
 
 -- ---- calls of one rank
 
-one_rank : (one other : Option Call) (call : Call) → other ≡ Some call → are_of_one_rank_calls one other ≡ true → (k : Call) × (one ≡ Some k) × (k.rank ≡ call.rank)
+one_rank : (one other : Option Call) (call : Call) → other ≡ Some call → both_hold have_one_rank one other ≡ true → (k : Call) × (one ≡ Some k) × (k.rank ≡ call.rank)
 one_rank None other call is e = absurd (false≢true e)
 one_rank (Some k) other call is e =
     (k, refl, sym (eqb-true call.rank k.rank (ap (λ (o : Option Call). is_of_rank o k.rank) (sym is) ∙ e)))

@@ -68,7 +68,7 @@ title told = codes "<title>" ++ (told_words told ++ codes "</title>")
 -- ---- the box of an issue
 
 -- sends are blue, and paler where they are buffered; receives green; probes purple; waits grey
-abbrev pub colour_of_kind : Kind → Bool → List ℕ
+abbrev pub colour_of_kind : Kind ℕ → Bool → List ℕ
 colour_of_kind (Send Buffered blocking message) buffered = codes "#d6e4f2"
 colour_of_kind (Send Standard blocking message) buffered = if buffered then codes "#d6e4f2" else codes "#8fb8de"
 colour_of_kind (Send Synchronous blocking message) buffered = codes "#8fb8de"

@@ -22,7 +22,7 @@ sent_kind_leads p e c Buffered blocking message knows f h = h
 pub sent_leads : (p : MpiProgram) (e : Configuration) (c : ℕ) (call : Call) (mode : Mode) (blocking : Bool) (message : Message) → Some call ≡ call_at p c → call.kind ≡ Send mode blocking message → Leads (λ knows f. tells_sent p e knows c mode f) (λ knows f. tells_done p e knows c f)
 sent_leads p e c call mode blocking message there is =
     subst (λ (o : Option Call). Leads (λ knows f. tells_sent p e knows c mode f) (λ knows f. tells_done_call p e knows c o f)) there
-    (subst (λ (z : Kind). Leads (λ knows f. tells_sent p e knows c mode f) (λ knows f. tells_done_kind p e knows c z f)) (sym is) (sent_kind_leads p e c mode blocking message))
+    (subst (λ (z : Kind ℕ). Leads (λ knows f. tells_sent p e knows c mode f) (λ knows f. tells_done_kind p e knows c z f)) (sym is) (sent_kind_leads p e c mode blocking message))
 
 pub read_leads : (p : MpiProgram) (e : Configuration) (call before : ℕ) (found : Found) → suc before ≡ call → are_of_one_rank p before call ≡ true → Leads (λ knows f. tells_found e knows found f) (λ knows f. tells_return_call p e knows before (call_at p before) f) → Leads (λ knows f. tells_read e knows (record { before = Some before; found = found }) f) (λ knows f. tells_issue p e knows call f)
 read_leads p e call before found next one leads =

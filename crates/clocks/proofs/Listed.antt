@@ -7,8 +7,8 @@ use Rattle.calltext.proofs.Conjunctions.{and_true}
 use Rattle.callorder.specs.declared.calls.Call.{Call}
 use Rattle.callorder.specs.declared.calls.Message.{Message}
 use Rattle.callorder.specs.declared.calls.Pattern.{Pattern}
-use Rattle.callorder.specs.Calls.{message_of, pattern_of, covers, fits_between}
-use Rattle.callorder.specs.Programs.{MpiProgram, call_at, fit_calls, are_fit, are_of_one_rank, are_of_one_rank_calls}
+use Rattle.callorder.specs.Calls.{message_of, pattern_of, covers, fits_between, both_hold, fits}
+use Rattle.callorder.specs.Programs.{MpiProgram, call_at, are_fit, are_of_one_rank, have_one_rank}
 use Rattle.semantics.specs.Machine.{Configuration, partner_of}
 use Rattle.races.specs.Blocks.{Blocks}
 use Rattle.clocks.specs.declared.finders.Reach.{Reach}
@@ -19,15 +19,15 @@ use Rattle.clocks.proofs.Shown.{no_fellow, fits_within}
 
 -- ---- what no send races for
 
-fits_nothing : (o : Option Call) → fit_calls o None ≡ true → false ≡ true
+fits_nothing : (o : Option Call) → both_hold fits o None ≡ true → false ≡ true
 fits_nothing None fit = fit
 fits_nothing (Some o) fit = fit
 
 pub nothing_cannot_race : (p : MpiProgram) (block : Blocks) (f : ℕ) → call_at p f ≡ None → CannotRace p block f
 nothing_cannot_race p block f is own other mine fit which =
-    absurd (let never = fits_nothing (call_at p other) (subst (λ (o : Option Call). fit_calls (call_at p other) o ≡ true) is fit) in cc (never))
+    absurd (let never = fits_nothing (call_at p other) (subst (λ (o : Option Call). both_hold fits (call_at p other) o ≡ true) is fit) in cc (never))
 
-fits_no_finder : (o : Option Call) (call : Call) → pattern_of call.kind ≡ None → fit_calls o (Some call) ≡ true → false ≡ true
+fits_no_finder : (o : Option Call) (call : Call) → pattern_of call.kind ≡ None → both_hold fits o (Some call) ≡ true → false ≡ true
 fits_no_finder None call is fit = fit
 fits_no_finder (Some o) call is fit = by (message_of o.kind) (subst (λ (b : Option Pattern). fits_between o.rank (message_of o.kind) call.rank b ≡ true) is fit)
   where
@@ -37,7 +37,7 @@ fits_no_finder (Some o) call is fit = by (message_of o.kind) (subst (λ (b : Opt
 
 pub no_finder_cannot_race : (p : MpiProgram) (block : Blocks) (f : ℕ) (call : Call) → call_at p f ≡ Some call → pattern_of call.kind ≡ None → CannotRace p block f
 no_finder_cannot_race p block f call there is own other mine fit which =
-    absurd (let never = fits_no_finder (call_at p other) call is (subst (λ (o : Option Call). fit_calls (call_at p other) o ≡ true) there fit) in cc (never))
+    absurd (let never = fits_no_finder (call_at p other) call is (subst (λ (o : Option Call). both_hold fits (call_at p other) o ≡ true) there fit) in cc (never))
 
 -- a send that fits a finder which names its source is of that rank
 fits_source : (q u v : ℕ) (x : Option Message) (b : Pattern) → b.source ≡ Some q → fits_between u x v (Some b) ≡ true → u ≡ q
@@ -46,7 +46,7 @@ fits_source q u v (Some x) b e h =
     let covered : covers b.source u ≡ true = (and_true (x.destination == v && x.communicator == b.communicator) (covers b.source u) (and_true (x.destination == v && x.communicator == b.communicator && covers b.source u) (covers b.tag x.tag) h).0).1 in
     sym (eqb-true q u (subst (λ (z : Option ℕ). covers z u ≡ true) e covered))
 
-fit_one_rank : (o u : Option Call) (call : Call) (b : Pattern) (q : ℕ) → pattern_of call.kind ≡ Some b → b.source ≡ Some q → fit_calls o (Some call) ≡ true → fit_calls u (Some call) ≡ true → are_of_one_rank_calls o u ≡ true
+fit_one_rank : (o u : Option Call) (call : Call) (b : Pattern) (q : ℕ) → pattern_of call.kind ≡ Some b → b.source ≡ Some q → both_hold fits o (Some call) ≡ true → both_hold fits u (Some call) ≡ true → both_hold have_one_rank o u ≡ true
 fit_one_rank None u call b q is e one two = absurd (cc)
 fit_one_rank (Some o) None call b q is e one two = absurd (cc)
 fit_one_rank (Some o) (Some u) call b q is e one two =
@@ -56,7 +56,7 @@ fit_one_rank (Some o) (Some u) call b q is e one two =
 
 pub named_cannot_race : (p : MpiProgram) (block : Blocks) (f : ℕ) (call : Call) (b : Pattern) (q : ℕ) → AreSpans p block → call_at p f ≡ Some call → pattern_of call.kind ≡ Some b → b.source ≡ Some q → IsSingle block f → CannotRace p block f
 named_cannot_race p block f call b q spans there is e single own other mine fit (inl apart) =
-    absurd (let one = fit_one_rank (call_at p own) (call_at p other) call b q is e (subst (λ (o : Option Call). fit_calls (call_at p own) o ≡ true) there mine) (subst (λ (o : Option Call). fit_calls (call_at p other) o ≡ true) there fit) in cc (one, apart))
+    absurd (let one = fit_one_rank (call_at p own) (call_at p other) call b q is e (subst (λ (o : Option Call). both_hold fits (call_at p own) o ≡ true) there mine) (subst (λ (o : Option Call). both_hold fits (call_at p other) o ≡ true) there fit) in cc (one, apart))
 named_cannot_race p block f call b q spans there is e single own other mine fit (inr w) = no_fellow p block f spans single w
 
 -- ---- one call more

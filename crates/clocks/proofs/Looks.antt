@@ -5,7 +5,8 @@ use Rattle.std.proofs.lemmas.Option.{slice_get_within}
 use Rattle.calltext.proofs.Conjunctions.{and_both}
 use Rattle.calltext.specs.Limits.{long}
 use Rattle.callorder.specs.declared.calls.Call.{Call}
-use Rattle.callorder.specs.Programs.{MpiProgram, IsProgramWithin, call_at, fit_calls, are_fit, are_of_one_rank}
+use Rattle.callorder.specs.Programs.{MpiProgram, IsProgramWithin, call_at, are_fit, are_of_one_rank}
+use Rattle.callorder.specs.Calls.{both_hold, fits}
 use Rattle.semantics.specs.Machine.{Configuration, is_issued, partner_of}
 use Rattle.semantics.proofs.RankOrder.{one_rank_between}
 use Rattle.races.specs.Blocks.{Blocks, HasFellow}
@@ -89,7 +90,7 @@ all_later p block e sure base (suc bound) other is justified checked lt issued f
           (all_later p block e sure base bound w.earlier is justified checked (omega (arith, w.before, lt)) (issued_earlier p e w.earlier other w.before w.one issued) finder own found mine w.fit (apart_or p block own w.earlier other finder w.one apart) w.later)
     ]
 
-pub send_there : (o u : Option Call) → fit_calls o u ≡ true → (x : Call) × (o ≡ Some x)
+pub send_there : (o u : Option Call) → both_hold fits o u ≡ true → (x : Call) × (o ≡ Some x)
 send_there None u fit = absurd (cc)
 send_there (Some x) u fit = (x, refl)
 

@@ -6,8 +6,8 @@ use Rattle.callorder.specs.declared.calls.Call.{Call}
 use Rattle.callorder.specs.declared.calls.Kind.{Kind}
 use Rattle.callorder.specs.declared.calls.Kind.TheVariants.{Send, Receive, MatchedProbe, Probe, MatchedReceive, Wait}
 use Rattle.callorder.specs.Calls.{pattern_of, is_probe_kind}
-use Rattle.callorder.specs.Programs.{MpiProgram, call_at, are_of_one_rank, are_fit, is_probe_call, is_probe}
-use Rattle.semantics.specs.Machine.{Configuration, is_matched, is_returned, is_returned_call, is_returned_kind, is_done_call, is_done_kind}
+use Rattle.callorder.specs.Programs.{MpiProgram, call_at, are_of_one_rank, are_fit, is_probe, kind_holds}
+use Rattle.semantics.specs.Machine.{Configuration, is_matched, is_returned, is_returned_kind, is_done_kind}
 use Rattle.races.specs.Blocks.{Blocks, is_finder, is_finder_call}
 use Rattle.races.proofs.Steps.{one_rank, one_rank_made}
 use Rattle.clocks.specs.Spans.{is_done_at_once_call, is_done_at_once_kind, returns_at_once, returns_at_once_call, returns_at_once_kind, is_receive_kind, is_receive_call, IsMember, IsJoined, AreSpans, SpansAreBlocks}
@@ -67,7 +67,7 @@ last_member : (p : MpiProgram) (block : Blocks) (f g : ℕ) → AreSpans p block
 last_member p block f zero spans lt same = absurd (omega (arith, lt))
 last_member p block f (suc b) spans lt same = (chain p block f (suc b) b spans (omega (arith, lt)) (omega arith) same).0.next
 
-done_at_once_kind : (p : MpiProgram) (m : Configuration) (c : ℕ) (k : Kind) → is_done_at_once_kind k ≡ true → is_done_kind p m c k ≡ true
+done_at_once_kind : (p : MpiProgram) (m : Configuration) (c : ℕ) (k : Kind ℕ) → is_done_at_once_kind k ≡ true → is_done_kind p m c k ≡ true
 done_at_once_kind p m c (Send Standard blocking message) h = absurd (cc)
 done_at_once_kind p m c (Send Synchronous blocking message) h = absurd (cc)
 done_at_once_kind p m c (Send Buffered blocking message) h = refl
@@ -77,11 +77,11 @@ done_at_once_kind p m c (Probe pattern) h = absurd (cc)
 done_at_once_kind p m c (MatchedReceive blocking) h = refl
 done_at_once_kind p m c (Wait operation) h = absurd (cc)
 
-done_at_once : (p : MpiProgram) (m : Configuration) (c : ℕ) (o : Option Call) → is_done_at_once_call o ≡ true → is_done_call p m c o ≡ true
+done_at_once : (p : MpiProgram) (m : Configuration) (c : ℕ) (o : Option Call) → is_done_at_once_call o ≡ true → kind_holds (is_done_kind p m c) o ≡ true
 done_at_once p m c None h = absurd (cc)
 done_at_once p m c (Some call) h = done_at_once_kind p m c call.kind h
 
-returned_at_once_kind : (p : MpiProgram) (m : Configuration) (c : ℕ) (call : Call) (k : Kind) → call_at p c ≡ Some call → call.kind ≡ k → returns_at_once_kind p k ≡ true → is_returned_kind p m c k ≡ true
+returned_at_once_kind : (p : MpiProgram) (m : Configuration) (c : ℕ) (call : Call) (k : Kind ℕ) → call_at p c ≡ Some call → call.kind ≡ k → returns_at_once_kind p k ≡ true → is_returned_kind p m c k ≡ true
 returned_at_once_kind p m c call (Send mode false message) there is h = refl
 returned_at_once_kind p m c call (Send mode true message) there is h = done_at_once p m c (call_at p c) (ap is_done_at_once_call there ∙ ap is_done_at_once_kind is ∙ h)
 returned_at_once_kind p m c call (Receive false pattern) there is h = refl
@@ -95,15 +95,15 @@ returned_at_once_kind p m c call (Wait operation) there is h = done_at_once p m 
 pub returned_at_once : (p : MpiProgram) (m : Configuration) (c : ℕ) → returns_at_once p c ≡ true → is_returned p m c ≡ true
 returned_at_once p m c h = by (call_at p c) refl h
   where
-    by : (o : Option Call) → call_at p c ≡ o → returns_at_once_call p o ≡ true → is_returned_call p m c o ≡ true
+    by : (o : Option Call) → call_at p c ≡ o → returns_at_once_call p o ≡ true → kind_holds (is_returned_kind p m c) o ≡ true
     by None there h = absurd (cc)
     by (Some call) there h = returned_at_once_kind p m c call call.kind there refl h
 
-returned_finder_kind : (p : MpiProgram) (m : Configuration) (c : ℕ) (call : Call) (k : Kind) → call_at p c ≡ Some call → call.kind ≡ k → is_some (pattern_of k) ≡ true → is_probe_kind k ≡ false → is_matched m c ≡ true → is_returned_kind p m c k ≡ true
+returned_finder_kind : (p : MpiProgram) (m : Configuration) (c : ℕ) (call : Call) (k : Kind ℕ) → call_at p c ≡ Some call → call.kind ≡ k → is_some (pattern_of k) ≡ true → is_probe_kind k ≡ false → is_matched m c ≡ true → is_returned_kind p m c k ≡ true
 returned_finder_kind p m c call (Send mode blocking message) there is finder taker matched = absurd (cc)
 returned_finder_kind p m c call (Receive false pattern) there is finder taker matched = refl
-returned_finder_kind p m c call (Receive true pattern) there is finder taker matched = ap (is_done_call p m c) there ∙ ap (is_done_kind p m c) is ∙ matched
-returned_finder_kind p m c call (MatchedProbe pattern receive) there is finder taker matched = ap (is_done_call p m c) there ∙ ap (is_done_kind p m c) is ∙ matched
+returned_finder_kind p m c call (Receive true pattern) there is finder taker matched = ap (kind_holds (is_done_kind p m c)) there ∙ ap (is_done_kind p m c) is ∙ matched
+returned_finder_kind p m c call (MatchedProbe pattern receive) there is finder taker matched = ap (kind_holds (is_done_kind p m c)) there ∙ ap (is_done_kind p m c) is ∙ matched
 returned_finder_kind p m c call (Probe pattern) there is finder taker matched = absurd (cc)
 returned_finder_kind p m c call (MatchedReceive blocking) there is finder taker matched = absurd (cc)
 returned_finder_kind p m c call (Wait operation) there is finder taker matched = absurd (cc)
@@ -112,29 +112,21 @@ returned_finder_kind p m c call (Wait operation) there is finder taker matched =
 returned_finder : (p : MpiProgram) (m : Configuration) (c : ℕ) → is_finder p c ≡ true → is_probe p c ≡ false → is_matched m c ≡ true → is_returned p m c ≡ true
 returned_finder p m c finder taker matched = by (call_at p c) refl finder taker
   where
-    by : (o : Option Call) → call_at p c ≡ o → is_finder_call o ≡ true → is_probe_call o ≡ false → is_returned_call p m c o ≡ true
+    by : (o : Option Call) → call_at p c ≡ o → is_finder_call o ≡ true → kind_holds is_probe_kind o ≡ false → kind_holds (is_returned_kind p m c) o ≡ true
     by None there finder taker = absurd (cc)
     by (Some call) there finder taker = returned_finder_kind p m c call call.kind there refl finder taker matched
 
-receive_done_kind : (p : MpiProgram) (m : Configuration) (c : ℕ) (k : Kind) → is_receive_kind k ≡ true → is_matched m c ≡ true → is_done_kind p m c k ≡ true
-receive_done_kind p m c (Send mode blocking message) is matched = absurd (cc)
+receive_done_kind : (p : MpiProgram) (m : Configuration) (c : ℕ) (k : Kind ℕ) → is_receive_kind k ≡ true → is_matched m c ≡ true → is_done_kind p m c k ≡ true
 receive_done_kind p m c (Receive blocking pattern) is matched = matched
-receive_done_kind p m c (MatchedProbe pattern receive) is matched = absurd (cc)
-receive_done_kind p m c (Probe pattern) is matched = absurd (cc)
-receive_done_kind p m c (MatchedReceive blocking) is matched = absurd (cc)
-receive_done_kind p m c (Wait operation) is matched = absurd (cc)
+receive_done_kind p m c kind is matched = absurd (cc)
 
-receive_done : (p : MpiProgram) (m : Configuration) (c : ℕ) (o : Option Call) → is_receive_call o ≡ true → is_matched m c ≡ true → is_done_call p m c o ≡ true
+receive_done : (p : MpiProgram) (m : Configuration) (c : ℕ) (o : Option Call) → is_receive_call o ≡ true → is_matched m c ≡ true → kind_holds (is_done_kind p m c) o ≡ true
 receive_done p m c None is matched = absurd (cc)
 receive_done p m c (Some call) is matched = receive_done_kind p m c call.kind is matched
 
-receive_finds_kind : (k : Kind) → is_receive_kind k ≡ true → is_some (pattern_of k) ≡ true
-receive_finds_kind (Send mode blocking message) is = absurd (cc)
+receive_finds_kind : (k : Kind ℕ) → is_receive_kind k ≡ true → is_some (pattern_of k) ≡ true
 receive_finds_kind (Receive blocking pattern) is = refl
-receive_finds_kind (MatchedProbe pattern receive) is = absurd (cc)
-receive_finds_kind (Probe pattern) is = absurd (cc)
-receive_finds_kind (MatchedReceive blocking) is = absurd (cc)
-receive_finds_kind (Wait operation) is = absurd (cc)
+receive_finds_kind kind is = absurd (cc)
 
 receive_finds : (o : Option Call) → is_receive_call o ≡ true → is_finder_call o ≡ true
 receive_finds None is = absurd (cc)
@@ -147,7 +139,7 @@ member_returned p block m c member all =
       | inl finder ↦ returned_finder p m c finder (member.prompt finder).taker (all c finder refl (omega arith))
       | inr (inl once) ↦ returned_at_once p m c once
       | inr (inr w) ↦
-          ap (is_returned_call p m c) w.wait.there ∙ ap (is_returned_kind p m c) w.wait.waits
+          ap (kind_holds (is_returned_kind p m c)) w.wait.there ∙ ap (is_returned_kind p m c) w.wait.waits
           ∙ receive_done p m w.receive (call_at p w.receive) w.wait.receives (all w.receive (receive_finds (call_at p w.receive) w.wait.receives) w.within (let below = w.before in omega (arith, below)))
     ]
 

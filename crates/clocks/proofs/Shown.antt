@@ -5,7 +5,7 @@ use Rattle.semantics.proofs.Runs.{IsRun-at}
 use Rattle.std.proofs.lemmas.Bool.{cases_lt, eq-eqb, lt-ltb}
 use Rattle.calltext.specs.Limits.{long}
 use Rattle.callorder.specs.declared.calls.Call.{Call}
-use Rattle.callorder.specs.Programs.{are_of_one_rank, is_of_rank, MpiProgram, are_fit, IsProgramWithin, call_at, fit_calls}
+use Rattle.callorder.specs.Programs.{are_of_one_rank, is_of_rank, MpiProgram, are_fit, IsProgramWithin, call_at}
 use Rattle.semantics.specs.declared.state.Step.{Step}
 use Rattle.semantics.specs.Machine.{Configuration, first_call, opening, after_all, partner_of, is_issued, is_rank_finished, has_next, has_returned_before, IsEnabled, IsRun, IsFinishedRun, IsStuckRun}
 use Rattle.races.specs.Races.{BuffersNoneByChoice}
@@ -17,6 +17,7 @@ use Rattle.races.proofs.Passing.{kept_opening, part_all}
 use Rattle.races.proofs.Steps.{within_issued}
 use Rattle.calltext.proofs.Conjunctions.{and_true}
 use Rattle.callorder.proofs.Lookups.{slice_get-none_past}
+use Rattle.callorder.specs.Calls.{both_hold, fits}
 use Rattle.std.specs.List.{count_by}
 use Rattle.std.proofs.lemmas.List.Sums.{sum_by-cons}
 use Rattle.std.proofs.lemmas.List.FromFn.{get_or-map-range_with_len}
@@ -168,7 +169,7 @@ pub enabled_there : (p : MpiProgram) (steps : List Step) (i : ℕ) (d : Step) (m
 enabled_there p steps i d m within now run =
     subst (λ (z : Configuration). IsEnabled p z (get_or steps i d)) (sym now) (IsRun-at p (opening p) steps i (get_or steps i d) run (slice_get-get_or steps i d within))
 
-finder_there : (o u : Option Call) → fit_calls o u ≡ true → (x : Call) × (u ≡ Some x)
+finder_there : (o u : Option Call) → both_hold fits o u ≡ true → (x : Call) × (u ≡ Some x)
 finder_there None u fit = absurd (cc)
 finder_there (Some x) None fit = absurd (cc)
 finder_there (Some x) (Some y) fit = (y, refl)

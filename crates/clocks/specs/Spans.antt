@@ -16,13 +16,10 @@ is_buffered_mode Buffered = true
 
 -- an operation of this kind is done as soon as it is issued: a send in buffered mode, or the
 -- receive on a handle
-abbrev pub is_done_at_once_kind : Kind → Bool
+abbrev pub is_done_at_once_kind : Kind ℕ → Bool
 is_done_at_once_kind (Send mode blocking message) = is_buffered_mode mode
-is_done_at_once_kind (Receive blocking pattern) = false
-is_done_at_once_kind (MatchedProbe pattern receive) = false
-is_done_at_once_kind (Probe pattern) = false
 is_done_at_once_kind (MatchedReceive blocking) = true
-is_done_at_once_kind (Wait operation) = false
+is_done_at_once_kind kind = false
 
 abbrev pub is_done_at_once_call : Option Call → Bool
 is_done_at_once_call None = false
@@ -30,7 +27,7 @@ is_done_at_once_call (Some call) = is_done_at_once_kind call.kind
 
 -- A call of this kind returns at once, whatever happens: it is nonblocking, or a send in buffered
 -- mode, or the receive on a handle, or the wait for one of the last two.
-abbrev pub returns_at_once_kind : MpiProgram → Kind → Bool
+abbrev pub returns_at_once_kind : MpiProgram → Kind ℕ → Bool
 returns_at_once_kind p (Send mode blocking message) = not blocking || is_buffered_mode mode
 returns_at_once_kind p (Receive blocking pattern) = not blocking
 returns_at_once_kind p (MatchedProbe pattern receive) = false
@@ -46,13 +43,9 @@ returns_at_once_call p (Some call) = returns_at_once_kind p call.kind
 abbrev pub returns_at_once : MpiProgram → ℕ → Bool
 returns_at_once p c = returns_at_once_call p (call_at p c)
 
-abbrev pub is_receive_kind : Kind → Bool
-is_receive_kind (Send mode blocking message) = false
+abbrev pub is_receive_kind : Kind ℕ → Bool
 is_receive_kind (Receive blocking pattern) = true
-is_receive_kind (MatchedProbe pattern receive) = false
-is_receive_kind (Probe pattern) = false
-is_receive_kind (MatchedReceive blocking) = false
-is_receive_kind (Wait operation) = false
+is_receive_kind kind = false
 
 abbrev pub is_receive_call : Option Call → Bool
 is_receive_call None = false

@@ -5,8 +5,8 @@ use Rattle.calltext.proofs.Conjunctions.{and_true}
 use Rattle.callorder.specs.declared.calls.Call.{Call}
 use Rattle.callorder.specs.declared.calls.Message.{Message}
 use Rattle.callorder.specs.declared.calls.Pattern.{Pattern}
-use Rattle.callorder.specs.Calls.{covers, fits_between, message_of, pattern_of}
-use Rattle.callorder.specs.Programs.{MpiProgram, are_fit, are_of_one_rank, are_of_one_rank_calls, call_at, fit_calls, takes}
+use Rattle.callorder.specs.Calls.{covers, fits_between, message_of, pattern_of, both_hold, fits}
+use Rattle.callorder.specs.Programs.{MpiProgram, are_fit, are_of_one_rank, call_at, takes, have_one_rank}
 use Rattle.run_laws.proofs.Matched.{no_send_is_taker}
 use Rattle.races.proofs.Kept.{takes_fit}
 use Rattle.races.proofs.Steps.{same_some}
@@ -32,7 +32,7 @@ one_source m n r q t pattern f g named =
     by None named a b = absurd (cc)
     by (Some wanted) named a b = sym (eqb-true wanted r a) ∙ eqb-true wanted q b
 
-free_call : (x y z : Option Call) → fit_calls x z ≡ true → fit_calls y z ≡ true → are_of_one_rank_calls x y ≡ false → takes_any_source_call z ≡ true
+free_call : (x y z : Option Call) → both_hold fits x z ≡ true → both_hold fits y z ≡ true → both_hold have_one_rank x y ≡ false → takes_any_source_call z ≡ true
 free_call None y z f g apart = absurd (cc)
 free_call (Some x) None z f g apart = absurd (cc)
 free_call (Some x) (Some y) None f g apart = absurd (cc)
@@ -61,11 +61,11 @@ own_fits p finder own other fits (inr h) = h
 own_fits p finder own other fits (inl h) = absurd (no_send_is_taker p finder own other (takes_fit p finder own h) fits)
 
 -- both calls of a pair that fits are there
-pub there_of_fit : (x y : Option Call) → fit_calls x y ≡ true → x ≡ None → ⊥
+pub there_of_fit : (x y : Option Call) → both_hold fits x y ≡ true → x ≡ None → ⊥
 there_of_fit None y fit none = absurd (cc)
 there_of_fit (Some x) y fit none = cc
 
-pub finder_of_fit : (x y : Option Call) → fit_calls x y ≡ true → y ≡ None → ⊥
+pub finder_of_fit : (x y : Option Call) → both_hold fits x y ≡ true → y ≡ None → ⊥
 finder_of_fit None y fit none = absurd (cc)
 finder_of_fit (Some x) None fit none = absurd (cc)
 finder_of_fit (Some x) (Some y) fit none = cc

@@ -6,6 +6,7 @@ use Rattle.std.proofs.lemmas.Bool.Decides.{nat_tests}
 use Rattle.calltext.proofs.Conjunctions.{and_true}
 use Rattle.callorder.specs.declared.calls.Call.{Call}
 use Rattle.callorder.specs.Programs.{MpiProgram, IsProgram, call_at, is_of_rank, are_of_one_rank}
+use Rattle.callorder.specs.Calls.{holds_of}
 use Rattle.semantics.specs.declared.state.Step.{Step}
 use Rattle.semantics.specs.Machine.{Configuration, opening, after_all, IsFinished, IsFinishedRun, is_issued, is_issued_call, has_next, has_returned_before, is_returned}
 use Rattle.races.proofs.Steps.{before_returned}
@@ -32,7 +33,7 @@ next_issued p steps c program finished within same issued =
     let m = after_all (opening p) steps in
     let call = there_within p.calls (suc c) within in
     let other = one_rank (call_at p c) (call_at p (suc c)) call.0 call.1 same in
-    let there : nat_lt c (slice_index m.next other.0.rank) ≡ true = subst (λ (z : Option Call). is_issued_call m c z ≡ true) other.1 issued in
+    let there : nat_lt c (slice_index m.next other.0.rank) ≡ true = subst (λ (z : Option Call). holds_of (is_issued_call m c) z ≡ true) other.1 issued in
     let below : nat_lt c (slice_index m.next call.0.rank) ≡ true = subst (λ (z : ℕ). nat_lt c (slice_index m.next z) ≡ true) other.2 there in
     by call.0 call.1 below (is_issued p m (suc c)) refl
   where
@@ -40,7 +41,7 @@ next_issued p steps c program finished within same issued =
     by call there below true e = e
     by call there below false e =
         let m = after_all (opening p) steps in
-        let upto : nat_lt (suc c) (slice_index m.next call.rank) ≡ false = subst (λ (z : Option Call). is_issued_call m (suc c) z ≡ false) there e in
+        let upto : nat_lt (suc c) (slice_index m.next call.rank) ≡ false = subst (λ (z : Option Call). holds_of (is_issued_call m (suc c)) z ≡ false) there e in
         let at : slice_index m.next call.rank ≡ suc c = grind (arith, nat_tests) in
         absurd (no_next_is p m (suc c) call finished.finished (program.in_range (suc c) call there).own there at)
 
@@ -60,7 +61,7 @@ pub all_returned : (p : MpiProgram) (steps : List Step) (c : ℕ) (call : Call) 
 all_returned p steps c call program finished ended there within =
     let m = after_all (opening p) steps in
     let issued : nat_lt c (slice_index m.next call.rank) ≡ true =
-    subst (λ (z : Option Call). is_issued_call m c z ≡ true) there (all_issued p steps c program finished ended within) in
+    subst (λ (z : Option Call). holds_of (is_issued_call m c) z ≡ true) there (all_issued p steps c program finished ended within) in
     let below : c < slice_index m.next call.rank = ltb-true c (slice_index m.next call.rank) issued in
     elim (cases_lt (c + 1) (slice_index m.next call.rank)) [
       | inl before ↦ (kept_run p steps program.rank_order finished.run).returned c call there before

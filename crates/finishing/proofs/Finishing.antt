@@ -8,10 +8,10 @@ use Rattle.std.proofs.lemmas.Option.{slice_get_within}
 use Rattle.callorder.specs.declared.calls.Call.{Call}
 use Rattle.callorder.specs.declared.calls.Kind.{Kind}
 use Rattle.callorder.specs.declared.calls.Kind.TheVariants.{Send, Receive, MatchedProbe, Probe, MatchedReceive, Wait}
-use Rattle.callorder.specs.Calls.{receive_of, pattern_of, is_probe_kind}
-use Rattle.callorder.specs.Programs.{MpiProgram, IsProgram, call_at, is_of_rank, are_of_one_rank, are_of_one_rank_calls, are_fit, takes, is_probe, is_probe_call, fit_calls}
+use Rattle.callorder.specs.Calls.{receive_of, pattern_of, is_probe_kind, both_hold, holds_of, fits}
+use Rattle.callorder.specs.Programs.{MpiProgram, IsProgram, call_at, is_of_rank, are_of_one_rank, are_fit, takes, is_probe, kind_holds, have_one_rank}
 use Rattle.candidates.specs.Pairs.{places, takers_of}
-use Rattle.semantics.specs.Machine.{Configuration, IsFinished, is_issued, is_issued_call, is_buffered, is_fetched, is_returned, has_returned_before, fetches, fetches_call, fetches_partner}
+use Rattle.semantics.specs.Machine.{Configuration, IsFinished, is_issued, is_issued_call, is_buffered, is_fetched, is_returned, has_returned_before, fetches, fetches_partner}
 use Rattle.run_laws.proofs.Descent.{takes_fit}
 use Rattle.formula.specs.declared.facts.Fact.TheVariants.{Issued as issued, Buffered as buffered, Matched as matched}
 use Rattle.formula.specs.declared.facts.Statement.TheVariants.{Holds as is_true}
@@ -45,24 +45,24 @@ module _ (p : MpiProgram) (world : World) (is : IsProgram p) (says : Consequence
 
   -- ---- each message that is taken is fetched
 
-  taker_fetches : (s t : ℕ) (call : Call) (k : Kind) → takes p s t ≡ true → call_at p t ≡ Some call → call.kind ≡ k → fetches p m k ≡ true
+  taker_fetches : (s t : ℕ) (call : Call) (k : Kind ℕ) → takes p s t ≡ true → call_at p t ≡ Some call → call.kind ≡ k → fetches p m k ≡ true
   taker_fetches s t call (Receive blocking pattern) taken there kind = refl
   taker_fetches s t call (MatchedProbe pattern receive) taken there kind =
       let other = is.probes.named t receive call there (ap receive_of kind) in
       all_issued receive (slice_get_within p.calls receive other.0 other.1)
   taker_fetches s t call (Probe pattern) taken there kind =
-      let it_is : is_probe p t ≡ true = ap is_probe_call there ∙ ap is_probe_kind kind in
+      let it_is : is_probe p t ≡ true = ap (kind_holds is_probe_kind) there ∙ ap is_probe_kind kind in
       let it_is_not = no_probe p s t taken in
       absurd (cc)
-  taker_fetches s t call (Send mode blocking message) taken there kind = absurd (no_pattern call (call_at p s) (ap pattern_of kind) (subst (λ (z : Option Call). fit_calls (call_at p s) z ≡ true) there (takes_fit p s t taken)))
-  taker_fetches s t call (MatchedReceive blocking) taken there kind = absurd (no_pattern call (call_at p s) (ap pattern_of kind) (subst (λ (z : Option Call). fit_calls (call_at p s) z ≡ true) there (takes_fit p s t taken)))
-  taker_fetches s t call (Wait operation) taken there kind = absurd (no_pattern call (call_at p s) (ap pattern_of kind) (subst (λ (z : Option Call). fit_calls (call_at p s) z ≡ true) there (takes_fit p s t taken)))
+  taker_fetches s t call (Send mode blocking message) taken there kind = absurd (no_pattern call (call_at p s) (ap pattern_of kind) (subst (λ (z : Option Call). both_hold fits (call_at p s) z ≡ true) there (takes_fit p s t taken)))
+  taker_fetches s t call (MatchedReceive blocking) taken there kind = absurd (no_pattern call (call_at p s) (ap pattern_of kind) (subst (λ (z : Option Call). both_hold fits (call_at p s) z ≡ true) there (takes_fit p s t taken)))
+  taker_fetches s t call (Wait operation) taken there kind = absurd (no_pattern call (call_at p s) (ap pattern_of kind) (subst (λ (z : Option Call). both_hold fits (call_at p s) z ≡ true) there (takes_fit p s t taken)))
 
   fetched : (s : ℕ) → list_any (is_right world) (map (λ taker. is_true (matched s taker)) (takers_of p s)) ≡ true → is_fetched p m s ≡ true
   fetched s h =
       let w = found_mapped (λ taker. takes p s taker ≡ true) (is_right world) (λ taker. is_true (matched s taker)) (takers_of p s) (takers_take p s) h in
       let call = there_within p.calls w.0 (fit_within p s w.0 (takes_fit p s w.0 w.2)).1 in
-      ap (fetches_partner p m) (sent_said p world is says m stage s w.0 w.2 w.1) ∙ ap (fetches_call p m) call.1 ∙ taker_fetches s w.0 call.0 call.0.kind w.2 call.1 refl
+      ap (holds_of (fetches_partner p m)) (sent_said p world is says m stage s w.0 w.2 w.1) ∙ ap (kind_holds (fetches p m)) call.1 ∙ taker_fetches s w.0 call.0 call.0.kind w.2 call.1 refl
 
   -- ---- the last calls have returned
 
@@ -99,7 +99,7 @@ module _ (p : MpiProgram) (world : World) (is : IsProgram p) (says : Consequence
       off call false e there = refl
       off call true e there =
           let n = slice_index m.next rank in
-          let past : nat_lt n (slice_index m.next call.rank) ≡ true = subst (λ (z : Option Call). is_issued_call m n z ≡ true) there (all_issued n (slice_get_within p.calls n call there)) in
+          let past : nat_lt n (slice_index m.next call.rank) ≡ true = subst (λ (z : Option Call). holds_of (is_issued_call m n) z ≡ true) there (all_issued n (slice_get_within p.calls n call there)) in
           absurd (not_below_itself n (subst (λ (z : ℕ). nat_lt n (slice_index m.next z) ≡ true) (eqb-true call.rank rank e) past))
 
       by : (x : Option Call) → call_at p (slice_index m.next rank) ≡ x → is_of_rank x rank ≡ false
@@ -116,7 +116,7 @@ module _ (p : MpiProgram) (world : World) (is : IsProgram p) (says : Consequence
           let next : suc c ≡ c + 1 = omega arith in
           let none : is_of_rank (call_at p (c + 1)) rank ≡ false = subst (λ (z : ℕ). is_of_rank (call_at p z) rank ≡ false) (at ∙ next) (no_next rank) in
           let last : are_of_one_rank p c (c + 1) ≡ false =
-          ap (λ (z : Option Call). are_of_one_rank_calls z (call_at p (c + 1))) there ∙
+          ap (λ (z : Option Call). both_hold have_one_rank z (call_at p (c + 1))) there ∙
           subst (λ (z : ℕ). is_of_rank (call_at p (c + 1)) z ≡ false) (sym (eqb-true call.rank rank e)) none
           in
           last_returned c call there last

@@ -14,8 +14,8 @@ use Rattle.callorder.specs.declared.calls.Kind.{Kind}
 use Rattle.callorder.specs.declared.calls.Kind.TheVariants.{Send, Receive, MatchedProbe, Probe, MatchedReceive, Wait}
 use Rattle.callorder.specs.declared.calls.Message.{Message}
 use Rattle.callorder.specs.declared.calls.Pattern.{Pattern}
-use Rattle.callorder.specs.Calls.{message_of, pattern_of, fits_between}
-use Rattle.callorder.specs.Programs.{is_probe, takes, sees, MpiProgram, call_at, are_of_one_rank, fit_calls, are_fit, IsProgram}
+use Rattle.callorder.specs.Calls.{message_of, pattern_of, fits_between, both_hold, fits}
+use Rattle.callorder.specs.Programs.{is_probe, takes, sees, MpiProgram, call_at, are_of_one_rank, are_fit, IsProgram}
 use Rattle.candidates.specs.Pairs.{places, takers_of, probes_of, matching_pairs, seeing_pairs}
 use Rattle.nonovertake.specs.Earlier.{earlier_sends, earlier_takers}
 use Rattle.formula.specs.Facts.{Event, issue_of, match_of, Fact, issued, buffered, matched, unfinished, Meaning, fact, Statement, is_true, is_false, is_earlier, is_same_event}
@@ -171,7 +171,7 @@ taker_between sender taker None pattern h = absurd cc
 taker_between sender taker (Some message) None h = absurd cc
 taker_between sender taker (Some message) (Some pattern) h = refl
 
-taker_of_fit : (send taker : Option Call) → fit_calls send taker ≡ true → is_finder_call taker ≡ true
+taker_of_fit : (send taker : Option Call) → both_hold fits send taker ≡ true → is_finder_call taker ≡ true
 taker_of_fit None taker h = absurd cc
 taker_of_fit (Some send) None h = absurd cc
 taker_of_fit (Some send) (Some taker) h = taker_between send.rank taker.rank (message_of send.kind) (pattern_of taker.kind) h
@@ -250,7 +250,7 @@ IsRight p (if_matched t) = (t < length p.calls) × (is_finder p t ≡ true)
 IsRight p (if_fetched s) = s < length p.calls
 IsRight p (if_buffered_or_fetched s) = (s < length p.calls) × (is_standard p s ≡ true)
 
-done_kind_right : (p : MpiProgram) (o : ℕ) (call : Call) (kind : Kind) → call_at p o ≡ Some call → call.kind ≡ kind → IsRight p (when_done_kind kind o)
+done_kind_right : (p : MpiProgram) (o : ℕ) (call : Call) (kind : Kind ℕ) → call_at p o ≡ Some call → call.kind ≡ kind → IsRight p (when_done_kind kind o)
 done_kind_right p o call (Send Standard blocking message) e f = (slice_get_within p.calls o call e, ap is_standard_call e ∙ ap is_standard_kind f)
 done_kind_right p o call (Send Synchronous blocking message) e f = slice_get_within p.calls o call e
 done_kind_right p o call (Send Buffered blocking message) e f = tt
@@ -271,7 +271,7 @@ blocking_right : (p : MpiProgram) (b : Bool) (condition : Condition) → IsRight
 blocking_right p true condition h = h
 blocking_right p false condition h = tt
 
-returned_kind_right : (p : MpiProgram) (kind : Kind) (c : ℕ) → IsRight p (when_returned_kind p kind c)
+returned_kind_right : (p : MpiProgram) (kind : Kind ℕ) (c : ℕ) → IsRight p (when_returned_kind p kind c)
 returned_kind_right p (Send mode blocking message) c = blocking_right p blocking (when_done p c) (done_right p c)
 returned_kind_right p (Receive blocking pattern) c = blocking_right p blocking (when_done p c) (done_right p c)
 returned_kind_right p (MatchedProbe pattern receive) c = done_right p c

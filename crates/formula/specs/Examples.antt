@@ -15,16 +15,16 @@ use Rattle.formula.specs.Numbering.{numbered}
 -- ---- programs
 
 -- a send of this mode, blocking or not, to a rank with a tag
-abbrev pub send_to : Mode → Bool → ℕ → ℕ → Kind
+abbrev pub send_to : Mode → Bool → ℕ → ℕ → Kind ℕ
 send_to mode blocking destination tag =
     Send mode blocking (record { destination = destination; tag = tag; communicator = 0 })
 
 -- a blocking receive from a rank, with a tag or with any tag
-abbrev pub receive_from : ℕ → Option ℕ → Kind
+abbrev pub receive_from : ℕ → Option ℕ → Kind ℕ
 receive_from source tag = Receive true (record { source = Some source; tag = tag; communicator = 0 })
 
 -- a call by its parts
-abbrev pub call_of : ℕ → Kind → Call
+abbrev pub call_of : ℕ → Kind ℕ → Call
 call_of rank kind = record { rank = rank; kind = kind }
 
 -- one rank without a call

@@ -33,15 +33,9 @@ abbrev pub is_finder : MpiProgram → ℕ → Bool
 is_finder p c = is_finder_call (call_at p c)
 
 -- a send in standard mode
-abbrev pub is_standard_kind : Kind → Bool
+abbrev pub is_standard_kind : Kind ℕ → Bool
 is_standard_kind (Send Standard blocking message) = true
-is_standard_kind (Send Synchronous blocking message) = false
-is_standard_kind (Send Buffered blocking message) = false
-is_standard_kind (Receive blocking pattern) = false
-is_standard_kind (MatchedProbe pattern receive) = false
-is_standard_kind (Probe pattern) = false
-is_standard_kind (MatchedReceive blocking) = false
-is_standard_kind (Wait operation) = false
+is_standard_kind other = false
 
 -- the call exists and is a send in standard mode
 abbrev pub is_standard_call : Option Call → Bool
@@ -111,7 +105,7 @@ fetch_of p taker = event_of_fetch (receive_on_handle p taker) taker
 -- ---- when an issued call has returned
 
 -- the condition under which the operation of a call of this kind is done
-abbrev pub when_done_kind : Kind → ℕ → Condition
+abbrev pub when_done_kind : Kind ℕ → ℕ → Condition
 when_done_kind (Send Standard blocking message) o = if_buffered_or_fetched o
 when_done_kind (Send Synchronous blocking message) o = if_fetched o
 when_done_kind (Send Buffered blocking message) o = at_once
@@ -136,7 +130,7 @@ if_blocking true condition = condition
 if_blocking false condition = at_once
 
 -- the condition under which an issued call of this kind has returned
-abbrev pub when_returned_kind : MpiProgram → Kind → ℕ → Condition
+abbrev pub when_returned_kind : MpiProgram → Kind ℕ → ℕ → Condition
 when_returned_kind p (Send mode blocking message) c = if_blocking blocking (when_done p c)
 when_returned_kind p (Receive blocking pattern) c = if_blocking blocking (when_done p c)
 when_returned_kind p (MatchedProbe pattern receive) c = when_done p c

@@ -6,10 +6,10 @@ use Rattle.std.proofs.lemmas.Option.{same_Some}
 use Rattle.callorder.specs.declared.calls.Call.{Call}
 use Rattle.callorder.specs.declared.calls.Kind.{Kind}
 use Rattle.callorder.specs.declared.calls.Kind.TheVariants.{Send, Receive, MatchedProbe, Probe, MatchedReceive, Wait}
-use Rattle.callorder.specs.Calls.{receive_of}
-use Rattle.callorder.specs.Programs.{MpiProgram, IsProgram, call_at, are_fit, takes, are_of_one_rank, are_of_one_rank_calls}
+use Rattle.callorder.specs.Calls.{receive_of, both_hold, holds_of}
+use Rattle.callorder.specs.Programs.{MpiProgram, IsProgram, call_at, are_fit, takes, are_of_one_rank, kind_holds, have_one_rank}
 use Rattle.semantics.specs.declared.state.Step.{Step}
-use Rattle.semantics.specs.Machine.{Configuration, opening, after_all, IsRun, is_issued, is_buffered, is_fetched, partner_of, fetches, fetches_call, fetches_partner, is_returned}
+use Rattle.semantics.specs.Machine.{Configuration, opening, after_all, IsRun, is_issued, is_buffered, is_fetched, partner_of, fetches, fetches_partner, is_returned}
 use Rattle.run_laws.specs.Laws.{IsInRankOrder}
 use Rattle.run_laws.proofs.Issued.{issued_before, call_before_has_returned}
 use Rattle.run_laws.proofs.Matched.{send_before, found_before}
@@ -43,9 +43,9 @@ pub record Fetched (p : MpiProgram) (steps : List Step) (send i : ℕ) : Type 0 
   pub place : ℕ
   pub before : place < i
   pub pair : Pairing p steps send taker place
-  pub fetches : fetches_call p (after_all (opening p) (take i steps)) (call_at p taker) ≡ true
+  pub fetches : kind_holds (fetches p (after_all (opening p) (take i steps))) (call_at p taker) ≡ true
 
-pub fetch_there : (p : MpiProgram) (m : Configuration) (o : Option ℕ) → fetches_partner p m o ≡ true → (t : ℕ) × (o ≡ Some t) × (fetches_call p m (call_at p t) ≡ true)
+pub fetch_there : (p : MpiProgram) (m : Configuration) (o : Option ℕ) → holds_of (fetches_partner p m) o ≡ true → (t : ℕ) × (o ≡ Some t) × (kind_holds (fetches p m) (call_at p t) ≡ true)
 fetch_there p m None h = absurd (cc)
 fetch_there p m (Some t) h = (t, refl, h)
 
@@ -61,28 +61,25 @@ fetched p steps send i run never h =
       place = w.earlier;
       before = w.before;
       pair = v;
-      fetches = subst (λ (z : ℕ). fetches_call p m (call_at p z) ≡ true) (sym same) f.2;
+      fetches = subst (λ (z : ℕ). kind_holds (fetches p m) (call_at p z) ≡ true) (sym same) f.2;
     }
 
 fetch_earlier : (p : MpiProgram) (steps : List Step) (send i : ℕ) → IsInRankOrder p → IsRun p (opening p) steps → (f : Fetched p steps send i) → clock_from p (opening p) steps (fetch_of p f.taker) < i
 fetch_earlier p steps send i order run f = by_call (call_at p f.taker) f.fetches
   where
-    by_kind : (k : Kind) → fetches p (after_all (opening p) (take i steps)) k ≡ true → clock_from p (opening p) steps (event_of_fetch (receive_of k) f.taker) < i
+    by_kind : (k : Kind ℕ) → fetches p (after_all (opening p) (take i steps)) k ≡ true → clock_from p (opening p) steps (event_of_fetch (receive_of k) f.taker) < i
     by_kind (Receive blocking pattern) h = omega (arith, f.pair.clock, f.before)
     by_kind (MatchedProbe pattern receive) h = issued_clock p steps receive i order run h
-    by_kind (Probe pattern) h = absurd (cc)
-    by_kind (Send mode blocking message) h = absurd (cc)
-    by_kind (MatchedReceive blocking) h = absurd (cc)
-    by_kind (Wait operation) h = absurd (cc)
+    by_kind kind h = absurd (cc)
 
-    by_call : (x : Option Call) → fetches_call p (after_all (opening p) (take i steps)) x ≡ true → clock_from p (opening p) steps (event_of_fetch (receive_of_call x) f.taker) < i
+    by_call : (x : Option Call) → kind_holds (fetches p (after_all (opening p) (take i steps))) x ≡ true → clock_from p (opening p) steps (event_of_fetch (receive_of_call x) f.taker) < i
     by_call None h = absurd (cc)
     by_call (Some x) h = by_kind x.kind h
 
-pub handle_issued : (p : MpiProgram) (m : Configuration) (t receive : ℕ) → fetches_call p m (call_at p t) ≡ true → receive_on_handle p t ≡ Some receive → is_issued p m receive ≡ true
+pub handle_issued : (p : MpiProgram) (m : Configuration) (t receive : ℕ) → kind_holds (fetches p m) (call_at p t) ≡ true → receive_on_handle p t ≡ Some receive → is_issued p m receive ≡ true
 handle_issued p m t receive h e = by_call (call_at p t) h e
   where
-    by_kind : (k : Kind) → fetches p m k ≡ true → receive_of k ≡ Some receive → is_issued p m receive ≡ true
+    by_kind : (k : Kind ℕ) → fetches p m k ≡ true → receive_of k ≡ Some receive → is_issued p m receive ≡ true
     by_kind (Receive blocking pattern) h e = absurd (cc)
     by_kind (Probe pattern) h e = absurd (cc)
     by_kind (MatchedProbe pattern other) h e =
@@ -92,7 +89,7 @@ handle_issued p m t receive h e = by_call (call_at p t) h e
     by_kind (MatchedReceive blocking) h e = absurd (cc)
     by_kind (Wait operation) h e = absurd (cc)
 
-    by_call : (x : Option Call) → fetches_call p m x ≡ true → receive_of_call x ≡ Some receive → is_issued p m receive ≡ true
+    by_call : (x : Option Call) → kind_holds (fetches p m) x ≡ true → receive_of_call x ≡ Some receive → is_issued p m receive ≡ true
     by_call None h e = absurd (cc)
     by_call (Some x) h e = by_kind x.kind h e
 
@@ -163,7 +160,7 @@ before_holds p steps c (if_buffered_or_fetched send) order run names held =
 call_there : (p : MpiProgram) (c d : ℕ) → are_of_one_rank p c d ≡ true → (call : Call) × (call_at p c ≡ Some call)
 call_there p c d same = by_call (call_at p c) refl same
   where
-    by_call : (x : Option Call) → call_at p c ≡ x → are_of_one_rank_calls x (call_at p d) ≡ true → (call : Call) × (call_at p c ≡ Some call)
+    by_call : (x : Option Call) → call_at p c ≡ x → both_hold have_one_rank x (call_at p d) ≡ true → (call : Call) × (call_at p c ≡ Some call)
     by_call None e h = absurd (cc)
     by_call (Some x) e h = (x, e)
 

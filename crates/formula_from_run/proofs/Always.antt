@@ -12,6 +12,7 @@ use Rattle.callorder.specs.declared.calls.Call.{Call}
 use Rattle.callorder.specs.declared.calls.Kind.{Kind}
 use Rattle.callorder.specs.declared.calls.Kind.TheVariants.{Send, Receive, MatchedProbe, Probe, MatchedReceive, Wait}
 use Rattle.callorder.specs.Programs.{MpiProgram, call_at}
+use Rattle.callorder.specs.Calls.{holds_of}
 use Rattle.semantics.specs.declared.state.Step.{Step}
 use Rattle.semantics.specs.declared.state.Step.TheVariants.{Issue, Match, See}
 use Rattle.semantics.specs.Machine.{Configuration, opening, after, after_all, IsEnabled, IsRun, is_buffered, is_issued, is_issued_call, may_be, can_issue, can_issue_next, can_issue_call, has_returned_before}
@@ -24,7 +25,7 @@ use Rattle.formula_from_run.specs.Worlds.{always_buffers, world_of}
 use Rattle.formula_from_run.proofs.Flags.{next_is, other_unmoved}
 
 -- a call that an issue of another one leaves issued was issued
-issued_call_before : (m : Configuration) (r place c : ℕ) (b : Bool) (x : Option Call) → r < length m.next → slice_index m.next r ≡ place → c ≢ place → is_issued_call (after m (Issue r b)) c x ≡ true → is_issued_call m c x ≡ true
+issued_call_before : (m : Configuration) (r place c : ℕ) (b : Bool) (x : Option Call) → r < length m.next → slice_index m.next r ≡ place → c ≢ place → holds_of (is_issued_call (after m (Issue r b)) c) x ≡ true → holds_of (is_issued_call m c) x ≡ true
 issued_call_before m r place c b None within at differ h = absurd (cc)
 issued_call_before m r place c b (Some x) within at differ h =
     elim (cases_eq x.rank r) [
@@ -36,7 +37,7 @@ issued_call_before m r place c b (Some x) within at differ h =
       | inr apart ↦ rw (get_or-set_other m.next r x.rank (slice_index m.next r + 1) 0 apart) at h
     ]
 
-always_allowed : (k : Kind) (b : Bool) → is_standard_kind k ≡ true → may_be Always k b ≡ true → b ≡ true
+always_allowed : (k : Kind ℕ) (b : Bool) → is_standard_kind k ≡ true → may_be Always k b ≡ true → b ≡ true
 always_allowed (Send Standard blocking message) b s h = h
 always_allowed (Send Synchronous blocking message) b s h = absurd (cc)
 always_allowed (Send Buffered blocking message) b s h = absurd (cc)
@@ -48,8 +49,8 @@ always_allowed (Wait operation) b s h = absurd (cc)
 
 allowed_at : (p : MpiProgram) (m : Configuration) (r : ℕ) (b : Bool) → can_issue p m r b ≡ true → (w : Issues p m r) → may_be p.policy w.call.kind b ≡ true
 allowed_at p m r b h w =
-    let one : can_issue_call p m r b w.place (call_at p w.place) ≡ true = subst (λ (z : Option ℕ). can_issue_next p m r b z ≡ true) w.next h in
-    let two : can_issue_call p m r b w.place (Some w.call) ≡ true = subst (λ (z : Option Call). can_issue_call p m r b w.place z ≡ true) w.there one in
+    let one : holds_of (can_issue_call p m r b w.place) (call_at p w.place) ≡ true = subst (λ (z : Option ℕ). holds_of (can_issue_next p m r b) z ≡ true) w.next h in
+    let two : holds_of (can_issue_call p m r b w.place) (Some w.call) ≡ true = subst (λ (z : Option Call). holds_of (can_issue_call p m r b w.place) z ≡ true) w.there one in
     (and_true (w.call.rank == r && has_returned_before p m r w.place) (may_be p.policy w.call.kind b) two).1
 
 now_flagged : (p : MpiProgram) (m : Configuration) (r : ℕ) (b : Bool) → p.policy ≡ Always → can_issue p m r b ≡ true → length m.buffered ≡ length p.calls → (w : Issues p m r) → is_standard p w.place ≡ true → is_buffered (after m (Issue r b)) w.place ≡ true
@@ -65,12 +66,12 @@ now_flagged p m r b always can size w standard =
 flagged_step : (p : MpiProgram) (m : Configuration) (x : Step) (s : ℕ) → p.policy ≡ Always → length m.buffered ≡ length p.calls → IsEnabled p m x → is_standard p s ≡ true → (is_issued p m s ≡ true → is_buffered m s ≡ true) → is_issued p (after m x) s ≡ true → is_buffered (after m x) s ≡ true
 flagged_step p m (Match a t) s always size enabled standard before h = before (same (call_at p s) h)
   where
-    same : (o : Option Call) → is_issued_call (after m (Match a t)) s o ≡ true → is_issued_call m s o ≡ true
+    same : (o : Option Call) → holds_of (is_issued_call (after m (Match a t)) s) o ≡ true → holds_of (is_issued_call m s) o ≡ true
     same None h = h
     same (Some call) h = h
 flagged_step p m (See a t) s always size enabled standard before h = before (same (call_at p s) h)
   where
-    same : (o : Option Call) → is_issued_call (after m (See a t)) s o ≡ true → is_issued_call m s o ≡ true
+    same : (o : Option Call) → holds_of (is_issued_call (after m (See a t)) s) o ≡ true → holds_of (is_issued_call m s) o ≡ true
     same None h = h
     same (Some call) h = h
 flagged_step p m (Issue r b) s always size enabled standard before h =

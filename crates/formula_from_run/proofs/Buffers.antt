@@ -13,6 +13,7 @@ use Rattle.callorder.specs.declared.calls.Call.{Call}
 use Rattle.callorder.specs.declared.calls.Kind.{Kind}
 use Rattle.callorder.specs.declared.calls.Kind.TheVariants.{Send, Receive, MatchedProbe, Probe, MatchedReceive, Wait}
 use Rattle.callorder.specs.Programs.{MpiProgram, call_at}
+use Rattle.callorder.specs.Calls.{holds_of}
 use Rattle.semantics.specs.declared.state.Step.{Step}
 use Rattle.semantics.specs.declared.state.Step.TheVariants.{Issue, Match, See}
 use Rattle.semantics.specs.Machine.{Configuration, opening, after, after_all, IsRun, is_buffered, may_be, can_issue_next, can_issue_call}
@@ -25,11 +26,11 @@ use Rattle.formula_from_run.proofs.Lists.{or_last, all_made_where}
 
 -- ---- where a call is issued, the policy allows the choice of buffering
 
-allowed_call : (p : MpiProgram) (m : Configuration) (r c : ℕ) (b : Bool) (x : Option Call) → can_issue_call p m r b c x ≡ true → (call : Call) × (may_be p.policy call.kind b ≡ true)
+allowed_call : (p : MpiProgram) (m : Configuration) (r c : ℕ) (b : Bool) (x : Option Call) → holds_of (can_issue_call p m r b c) x ≡ true → (call : Call) × (may_be p.policy call.kind b ≡ true)
 allowed_call p m r c b None h = absurd (cc)
 allowed_call p m r c b (Some x) h = (x, (and_true _ (may_be p.policy x.kind b) h).1)
 
-allowed_next : (p : MpiProgram) (m : Configuration) (r : ℕ) (b : Bool) (o : Option ℕ) → can_issue_next p m r b o ≡ true → (call : Call) × (may_be p.policy call.kind b ≡ true)
+allowed_next : (p : MpiProgram) (m : Configuration) (r : ℕ) (b : Bool) (o : Option ℕ) → holds_of (can_issue_next p m r b) o ≡ true → (call : Call) × (may_be p.policy call.kind b ≡ true)
 allowed_next p m r b None h = absurd (cc)
 allowed_next p m r b (Some c) h = allowed_call p m r c b (call_at p c) h
 
@@ -37,7 +38,7 @@ not_true : (b : Bool) → not b ≡ true → b ≡ false
 not_true true h = absurd (cc)
 not_true false h = refl
 
-never_allowed : (k : Kind) (b : Bool) → may_be Never k b ≡ true → b ≡ false
+never_allowed : (k : Kind ℕ) (b : Bool) → may_be Never k b ≡ true → b ≡ false
 never_allowed (Send Standard blocking message) b h = not_true b h
 never_allowed (Send Synchronous blocking message) b h = not_true b h
 never_allowed (Send Buffered blocking message) b h = not_true b h

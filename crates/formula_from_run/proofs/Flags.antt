@@ -4,6 +4,7 @@ use Rattle.std.proofs.lemmas.Bool.{cases_eq}
 use Rattle.std.proofs.lemmas.Bool.Decides.{nat_tests}
 use Rattle.std.proofs.lemmas.Option.{unwrap_or-slice_get, get_or_from_slice_get, slice_get_within}
 use Rattle.callorder.specs.Programs.{MpiProgram}
+use Rattle.callorder.specs.Calls.{holds_of}
 use Rattle.semantics.specs.declared.state.Step.{Step}
 use Rattle.semantics.specs.declared.state.Step.TheVariants.{Issue, Match, See}
 use Rattle.semantics.specs.Machine.{Configuration, opening, after, after_all, IsEnabled, IsRun, is_buffered, is_issued, is_issued_call}
@@ -20,13 +21,13 @@ next_is p m r w = get_or_from_slice_get m.next r w.place 0 w.next
 pub not_yet : (p : MpiProgram) (m : Configuration) (r : ℕ) → (w : Issues p m r) → is_issued p m w.place ≡ false
 not_yet p m r w =
     let n : slice_index m.next w.call.rank ≡ w.place = ap (slice_index m.next) w.own ∙ next_is p m r w in
-    let same : is_issued p m w.place ≡ nat_lt w.place (slice_index m.next w.call.rank) = ap (is_issued_call m w.place) w.there in
+    let same : is_issued p m w.place ≡ nat_lt w.place (slice_index m.next w.call.rank) = ap (holds_of (is_issued_call m w.place)) w.there in
     same ∙ rw n (grind (arith, nat_tests))
 
 pub now_issued : (p : MpiProgram) (m : Configuration) (r : ℕ) (b : Bool) → (w : Issues p m r) → is_issued p (after m (Issue r b)) w.place ≡ true
 now_issued p m r b w =
     let moved : slice_index (slice_set m.next r (slice_index m.next r + 1)) w.call.rank ≡ slice_index m.next r + 1 = ap (slice_index (slice_set m.next r (slice_index m.next r + 1))) w.own ∙ get_or-set_same m.next r (slice_index m.next r + 1) 0 (slice_get_within m.next r w.place w.next) in
-    let same : is_issued p (after m (Issue r b)) w.place ≡ nat_lt w.place (slice_index (slice_set m.next r (slice_index m.next r + 1)) w.call.rank) = ap (is_issued_call (after m (Issue r b)) w.place) w.there in
+    let same : is_issued p (after m (Issue r b)) w.place ≡ nat_lt w.place (slice_index (slice_set m.next r (slice_index m.next r + 1)) w.call.rank) = ap (holds_of (is_issued_call (after m (Issue r b)) w.place)) w.there in
     let n = next_is p m r w in
     same ∙ rw (moved, n) (grind (arith, nat_tests))
 

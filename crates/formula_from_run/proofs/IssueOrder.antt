@@ -4,7 +4,8 @@ use Rattle.std.proofs.lemmas.Bool.{eqb-true}
 use Rattle.std.proofs.lemmas.Bool.Decides.{nat_tests}
 use Rattle.std.proofs.lemmas.Option.{slice_get_within}
 use Rattle.callorder.specs.declared.calls.Call.{Call}
-use Rattle.callorder.specs.Programs.{MpiProgram, call_at, are_of_one_rank, are_of_one_rank_calls}
+use Rattle.callorder.specs.Programs.{MpiProgram, call_at, are_of_one_rank, have_one_rank}
+use Rattle.callorder.specs.Calls.{both_hold, holds_of}
 use Rattle.semantics.specs.declared.state.Step.{Step}
 use Rattle.semantics.specs.declared.state.Step.TheVariants.{Issue, Match, See}
 use Rattle.semantics.specs.Machine.{Configuration, opening, after_all, IsRun, is_issued_call}
@@ -24,7 +25,7 @@ use Rattle.formula_from_run.proofs.Matches.{is_that-some}
 
 -- ---- calls of one rank
 
-pub one_rank_issued : (m : Configuration) (q c : ℕ) (x y : Option Call) → q < c → are_of_one_rank_calls x y ≡ true → is_issued_call m c y ≡ true → is_issued_call m q x ≡ true
+pub one_rank_issued : (m : Configuration) (q c : ℕ) (x y : Option Call) → q < c → both_hold have_one_rank x y ≡ true → holds_of (is_issued_call m c) y ≡ true → holds_of (is_issued_call m q) x ≡ true
 one_rank_issued m q c None y below same issued = absurd (cc)
 one_rank_issued m q c (Some x) None below same issued = absurd (cc)
 one_rank_issued m q c (Some x) (Some y) below same issued = at m.next x.rank y.rank below same issued
@@ -35,7 +36,7 @@ one_rank_issued m q c (Some x) (Some y) below same issued = at m.next x.rank y.r
         let i : nat_lt c (slice_index next a) ≡ true = rw r at issued in
         grind (arith, nat_tests)
 
-one_rank_within : (p : MpiProgram) (q c : ℕ) (x y : Option Call) → call_at p q ≡ x → call_at p c ≡ y → are_of_one_rank_calls x y ≡ true → (q < length p.calls) × (c < length p.calls)
+one_rank_within : (p : MpiProgram) (q c : ℕ) (x y : Option Call) → call_at p q ≡ x → call_at p c ≡ y → both_hold have_one_rank x y ≡ true → (q < length p.calls) × (c < length p.calls)
 one_rank_within p q c None y e f same = absurd (cc)
 one_rank_within p q c (Some x) None e f same = absurd (cc)
 one_rank_within p q c (Some x) (Some y) e f same = (slice_get_within p.calls q x e, slice_get_within p.calls c y f)

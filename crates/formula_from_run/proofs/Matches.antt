@@ -6,7 +6,8 @@ use Rattle.std.proofs.lemmas.Bool.Decides.{nat_tests}
 use Rattle.std.proofs.lemmas.Option.{same_Some, slice_get_within}
 use Rattle.calltext.proofs.Conjunctions.{and_true}
 use Rattle.callorder.specs.declared.calls.Call.{Call}
-use Rattle.callorder.specs.Programs.{MpiProgram, call_at, fit_calls, are_fit, is_probe, takes, are_of_one_rank}
+use Rattle.callorder.specs.Programs.{MpiProgram, call_at, are_fit, is_probe, takes, are_of_one_rank}
+use Rattle.callorder.specs.Calls.{both_hold, fits}
 use Rattle.semantics.specs.declared.state.Step.{Step}
 use Rattle.semantics.specs.declared.state.Step.TheVariants.{Match}
 use Rattle.semantics.specs.Machine.{Configuration, opening, after_all, IsRun, is_matched, is_issued, partner_of}
@@ -29,7 +30,7 @@ use Rattle.formula_from_run.proofs.Pairings.{Finding, Pairing, pairing, Sent, se
 
 -- ---- pairs that fit, and pairs that are matched in the end
 
-calls_within : (p : MpiProgram) (s t : ℕ) (x y : Option Call) → call_at p s ≡ x → call_at p t ≡ y → fit_calls x y ≡ true → (s < length p.calls) × (t < length p.calls)
+calls_within : (p : MpiProgram) (s t : ℕ) (x y : Option Call) → call_at p s ≡ x → call_at p t ≡ y → both_hold fits x y ≡ true → (s < length p.calls) × (t < length p.calls)
 calls_within p s t None y e f h = absurd (cc)
 calls_within p s t (Some x) None e f h = absurd (cc)
 calls_within p s t (Some x) (Some y) e f h = (slice_get_within p.calls s x e, slice_get_within p.calls t y f)

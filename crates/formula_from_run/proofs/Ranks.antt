@@ -5,7 +5,8 @@ use Rattle.std.proofs.lemmas.Bool.{cases_eq, eqb-true}
 use Rattle.std.proofs.lemmas.Bool.Decides.{nat_tests}
 use Rattle.std.proofs.lemmas.Option.{slice_get_within}
 use Rattle.callorder.specs.declared.calls.Call.{Call}
-use Rattle.callorder.specs.Programs.{MpiProgram, IsProgram, call_at, is_of_rank, are_of_one_rank, are_of_one_rank_calls}
+use Rattle.callorder.specs.Programs.{MpiProgram, IsProgram, call_at, is_of_rank, are_of_one_rank, have_one_rank}
+use Rattle.callorder.specs.Calls.{both_hold, holds_of}
 use Rattle.semantics.specs.declared.state.Step.{Step}
 use Rattle.semantics.specs.Machine.{Configuration, opening, after_all, IsRun, IsStuckRun, is_issued_call, is_returned, has_returned_before, is_rank_finished}
 use Rattle.candidates.specs.Pairs.{places}
@@ -30,7 +31,7 @@ beyond p c k call program there apart above = by_call (call_at p k) refl
     by_call (Some y) e =
         let within = slice_get_within p.calls k y e in
         let next = there_within p.calls (c + 1) (omega (arith, within, above)) in
-        let differ : (next.0.rank == call.rank) ≡ false = sym (ap (λ (z : Option Call). are_of_one_rank_calls z (call_at p (c + 1))) there ∙ ap (λ (z : Option Call). is_of_rank z call.rank) next.1) ∙ apart in
+        let differ : (next.0.rank == call.rank) ≡ false = sym (ap (λ (z : Option Call). both_hold have_one_rank z (call_at p (c + 1))) there ∙ ap (λ (z : Option Call). is_of_rank z call.rank) next.1) ∙ apart in
         let one = program.rank_order c (c + 1) call next.0 (omega arith) there next.1 in
         let two = program.rank_order (c + 1) k next.0 y (omega (arith, above)) next.1 e in
         grind (arith, nat_tests)
@@ -59,7 +60,7 @@ last_holds p steps c program run below last =
     let rank : call.0.rank ≡ rank_of p c = ap rank_of_call (sym call.1) in
     returned_holds p steps c call.0 (is_false (unfinished (rank_of p c))) program run call.1
     (λ h r.
-    let above : nat_lt c (slice_index m.next call.0.rank) ≡ true = subst (λ (z : Option Call). is_issued_call m c z ≡ true) call.1 h in
+    let above : nat_lt c (slice_index m.next call.0.rank) ≡ true = subst (λ (z : Option Call). holds_of (is_issued_call m c) z ≡ true) call.1 h in
     let done : is_rank_finished p m call.0.rank ≡ true = finished_from p m c (slice_index m.next call.0.rank) call.0 program call.1 (true_from_not _ last) r (grind (arith, nat_tests)) in
     let own : is_rank_finished p m (rank_of p c) ≡ true = subst (λ (z : ℕ). is_rank_finished p m z ≡ true) rank done in
     rw own refl)
@@ -85,7 +86,7 @@ last_from p r (suc fuel) d most call there own = by_next (are_of_one_rank p d (d
     by_next : (b : Bool) → are_of_one_rank p d (d + 1) ≡ b → ((other : Call) → call_at p (d + 1) ≡ Some other → other.rank ≡ r → Last p r) → Last p r
     by_next false e further = record { place = d; call = call; there = there; own = own; last = e }
     by_next true e further =
-        let h : is_of_rank (call_at p (d + 1)) call.rank ≡ true = subst (λ (z : Option Call). are_of_one_rank_calls z (call_at p (d + 1)) ≡ true) there e in
+        let h : is_of_rank (call_at p (d + 1)) call.rank ≡ true = subst (λ (z : Option Call). both_hold have_one_rank z (call_at p (d + 1)) ≡ true) there e in
         let n = next_call (call_at p (d + 1)) refl h in
         further n.0 n.1 n.2
 

@@ -13,7 +13,8 @@ use Rattle.calltext.specs.declared.call.Policy.TheVariants.{Any, Never, Always}
 use Rattle.callorder.specs.declared.calls.Call.{Call}
 use Rattle.callorder.specs.declared.calls.Kind.{Kind}
 use Rattle.callorder.specs.declared.calls.Kind.TheVariants.{Send, Receive, MatchedProbe, Probe, MatchedReceive, Wait}
-use Rattle.callorder.specs.Programs.{MpiProgram, IsProgram, call_at, is_of_rank, are_of_one_rank, are_of_one_rank_calls}
+use Rattle.callorder.specs.Programs.{MpiProgram, IsProgram, call_at, is_of_rank, are_of_one_rank, have_one_rank}
+use Rattle.callorder.specs.Calls.{both_hold, holds_of}
 use Rattle.semantics.specs.declared.state.Step.{Step}
 use Rattle.semantics.specs.declared.state.Step.TheVariants.{Issue, Match, See}
 use Rattle.semantics.specs.Machine.{Configuration, first_call, opening, after, after_all, IsRun, is_issued, is_issued_call, is_returned, has_returned_before, may_be, can_issue, can_issue_next, can_issue_call}
@@ -28,7 +29,7 @@ use Rattle.formula_from_run.proofs.Lists.{or_last, all_made_range}
 use Rattle.formula_from_run.proofs.Waits.{returned_holds}
 
 -- some choice of buffering is allowed
-choice : (policy : Policy) (k : Kind) → (b : Bool) × (may_be policy k b ≡ true)
+choice : (policy : Policy) (k : Kind ℕ) → (b : Bool) × (may_be policy k b ≡ true)
 choice Any (Send Standard blocking message) = (true, refl)
 choice Never (Send Standard blocking message) = (false, refl)
 choice Always (Send Standard blocking message) = (true, refl)
@@ -58,9 +59,9 @@ choice Always (Wait operation) = (false, refl)
 next_goes : (p : MpiProgram) (m : Configuration) (c : ℕ) (call : Call) → HasEnded p m → call_at p c ≡ Some call → slice_get m.next call.rank ≡ Some c → has_returned_before p m call.rank c ≡ true → ⊥
 next_goes p m c call ended there next back =
     let b = choice p.policy call.kind in
-    let one : can_issue_call p m call.rank b.0 c (Some call) ≡ true = and_both _ _ (and_both _ _ (eq-eqb call.rank call.rank refl) back) b.1 in
-    let two : can_issue_call p m call.rank b.0 c (call_at p c) ≡ true = rw there one in
-    let three : can_issue p m call.rank b.0 ≡ true = subst (λ (z : Option ℕ). can_issue_next p m call.rank b.0 z ≡ true) (sym next) two in
+    let one : holds_of (can_issue_call p m call.rank b.0 c) (Some call) ≡ true = and_both _ _ (and_both _ _ (eq-eqb call.rank call.rank refl) back) b.1 in
+    let two : holds_of (can_issue_call p m call.rank b.0 c) (call_at p c) ≡ true = rw there one in
+    let three : can_issue p m call.rank b.0 ≡ true = subst (λ (z : Option ℕ). holds_of (can_issue_next p m call.rank b.0) z ≡ true) (sym next) two in
     ended (Issue call.rank b.0) three
 
 -- ---- the next call of a rank
@@ -76,7 +77,7 @@ issued_at_end : (p : MpiProgram) (steps : List Step) (c : ℕ) (call : Call) →
 issued_at_end p steps c call program run ended there from back true e = e
 issued_at_end p steps c call program run ended there from back false e =
     let m = after_all (opening p) steps in
-    let open_yet : nat_lt c (slice_index m.next call.rank) ≡ false = subst (λ (z : Option Call). is_issued_call m c z ≡ false) there e in
+    let open_yet : nat_lt c (slice_index m.next call.rank) ≡ false = subst (λ (z : Option Call). holds_of (is_issued_call m c) z ≡ false) there e in
     let same : get_or m.next call.rank 0 ≡ c = grind (arith, nat_tests) in
     let within : call.rank < length m.next = omega (arith, next_size p (opening p) steps, length-map-range_with_len (first_call p) 0 p.ranks, (program.in_range c call there).own) in
     let next : slice_get m.next call.rank ≡ Some c = slice_get-get_or m.next call.rank 0 within ∙ ap Some same in
@@ -89,7 +90,7 @@ there_within (x ∷ xs) (suc c) below = there_within xs c (omega arith)
 
 -- ---- a call with one before it
 
-pub one_rank : (x y : Option Call) (call : Call) → y ≡ Some call → are_of_one_rank_calls x y ≡ true → (other : Call) × (x ≡ Some other) × (other.rank ≡ call.rank)
+pub one_rank : (x y : Option Call) (call : Call) → y ≡ Some call → both_hold have_one_rank x y ≡ true → (other : Call) × (x ≡ Some other) × (other.rank ≡ call.rank)
 one_rank None y call e same = absurd (cc)
 one_rank (Some x) y call e same =
     let is : is_of_rank (Some call) x.rank ≡ true = subst (λ (z : Option Call). is_of_rank z x.rank ≡ true) e same in
@@ -105,7 +106,7 @@ after_one p steps c program run ended within same =
     let other = one_rank (call_at p c) (call_at p (suc c)) call.0 call.1 same in
     returned_holds p steps c other.0 (is_true (issued (suc c))) program run other.1
     (λ h r.
-    let below : nat_lt c (slice_index m.next other.0.rank) ≡ true = subst (λ (z : Option Call). is_issued_call m c z ≡ true) other.1 h in
+    let below : nat_lt c (slice_index m.next other.0.rank) ≡ true = subst (λ (z : Option Call). holds_of (is_issued_call m c) z ≡ true) other.1 h in
     let here : nat_lt c (slice_index m.next call.0.rank) ≡ true = subst (λ (z : ℕ). nat_lt c (slice_index m.next z) ≡ true) other.2 below in
     issued_at_end p steps (suc c) call.0 program run ended call.1 (grind (arith, nat_tests)) (back_if_returned p m call.0.rank c r) (is_issued p m (suc c)) refl)
 
@@ -139,7 +140,7 @@ first_one p steps c program run ended within apart =
     let call = there_within p.calls (suc c) within in
     let before = there_within p.calls c (omega (arith, within)) in
     let le = program.rank_order c (suc c) before.0 call.0 (omega arith) before.1 call.1 in
-    let differ : (call.0.rank == before.0.rank) ≡ false = sym (ap (λ (z : Option Call). are_of_one_rank_calls z (call_at p (suc c))) before.1 ∙ ap (λ (z : Option Call). is_of_rank z before.0.rank) call.1) ∙ apart in
+    let differ : (call.0.rank == before.0.rank) ≡ false = sym (ap (λ (z : Option Call). both_hold have_one_rank z (call_at p (suc c))) before.1 ∙ ap (λ (z : Option Call). is_of_rank z before.0.rank) call.1) ∙ apart in
     let less : before.0.rank < call.0.rank = grind (arith, nat_tests) in
     let from = reached p steps (suc c) call.0 program run call.1 (omega (arith, within)) (λ d x below there. let up = program.rank_order d c x before.0 (omega (arith, below)) there before.1 in omega (arith, up, less)) in
     issued_at_end p steps (suc c) call.0 program run ended call.1 from (not_of_rank p m call.0.rank c before.0 before.1 less) (is_issued p m (suc c)) refl

@@ -7,10 +7,10 @@ use Rattle.calltext.specs.declared.call.Mode.TheVariants.{Standard, Synchronous,
 use Rattle.callorder.specs.declared.calls.Call.{Call}
 use Rattle.callorder.specs.declared.calls.Kind.{Kind}
 use Rattle.callorder.specs.declared.calls.Kind.TheVariants.{Send, Receive, MatchedProbe, Probe, MatchedReceive, Wait}
-use Rattle.callorder.specs.Calls.{receive_of, operation_of, is_probe_kind}
-use Rattle.callorder.specs.Programs.{MpiProgram, IsProgram, call_at, are_of_one_rank_calls, are_fit, is_probe_call, takes, fit_calls}
+use Rattle.callorder.specs.Calls.{receive_of, operation_of, is_probe_kind, both_hold, holds_of, fits}
+use Rattle.callorder.specs.Programs.{MpiProgram, IsProgram, call_at, are_fit, takes, kind_holds, have_one_rank}
 use Rattle.semantics.specs.declared.state.Step.{Step}
-use Rattle.semantics.specs.Machine.{Configuration, opening, after_all, IsRun, is_issued, is_buffered, is_fetched, fetches, fetches_call, fetches_partner, is_returned}
+use Rattle.semantics.specs.Machine.{Configuration, opening, after_all, IsRun, is_issued, is_buffered, is_fetched, fetches, fetches_partner, is_returned}
 use Rattle.candidates.specs.Pairs.{places}
 use Rattle.formula.specs.declared.facts.Fact.TheVariants.{Issued as issued, Buffered as buffered, Matched as matched}
 use Rattle.formula.specs.declared.facts.Statement.{Statement}
@@ -29,7 +29,7 @@ use Rattle.formula_from_run.proofs.Returns.{condition_holds, returned_is, no_pat
 
 -- ---- where a call has returned
 
-fetches_unless : (p : MpiProgram) (steps : List Step) (s : Option Call) (x : Option Call) → fit_calls s x ≡ true → is_probe_call x ≡ false → (fetches_call p (after_all (opening p) steps) x ≡ true) ⊎ (list_any (is_right (world_of p steps)) (unless_issued (receive_of_call x)) ≡ true)
+fetches_unless : (p : MpiProgram) (steps : List Step) (s : Option Call) (x : Option Call) → both_hold fits s x ≡ true → kind_holds is_probe_kind x ≡ false → (kind_holds (fetches p (after_all (opening p) steps)) x ≡ true) ⊎ (list_any (is_right (world_of p steps)) (unless_issued (receive_of_call x)) ≡ true)
 fetches_unless p steps None x fit taker = absurd (cc)
 fetches_unless p steps (Some y) None fit taker = absurd (cc)
 fetches_unless p steps (Some y) (Some x) fit taker = by_kind x.kind refl
@@ -38,13 +38,11 @@ fetches_unless p steps (Some y) (Some x) fit taker = by_kind x.kind refl
     issued_or_not receive true e = inl e
     issued_or_not receive false e = inr (rw e refl)
 
-    by_kind : (k : Kind) → x.kind ≡ k → (fetches p (after_all (opening p) steps) k ≡ true) ⊎ (list_any (is_right (world_of p steps)) (unless_issued (receive_of k)) ≡ true)
+    by_kind : (k : Kind ℕ) → x.kind ≡ k → (fetches p (after_all (opening p) steps) k ≡ true) ⊎ (list_any (is_right (world_of p steps)) (unless_issued (receive_of k)) ≡ true)
     by_kind (Receive blocking pattern) e = inl refl
     by_kind (MatchedProbe pattern receive) e = issued_or_not receive (is_issued p (after_all (opening p) steps) receive) refl
     by_kind (Probe pattern) e = absurd (let yes : is_probe_kind x.kind ≡ true = ap is_probe_kind e in cc)
-    by_kind (Send mode blocking message) e = absurd (no_pattern x (Some y) (rw e refl) fit)
-    by_kind (MatchedReceive blocking) e = absurd (no_pattern x (Some y) (rw e refl) fit)
-    by_kind (Wait operation) e = absurd (no_pattern x (Some y) (rw e refl) fit)
+    by_kind kind e = absurd (no_pattern x (Some y) (rw e refl) fit)
 
 module _ (p : MpiProgram) (steps : List Step) (c : ℕ) (x : Statement) (run : IsRun p (opening p) steps) where
   fetched_holds : (send : ℕ) → ((world_of p steps).has (issued c) ≡ true → is_fetched p (after_all (opening p) steps) send ≡ true → is_right (world_of p steps) x ≡ true) → clauses_hold (world_of p steps) (where_fetched p c send x) ≡ true
@@ -55,7 +53,7 @@ module _ (p : MpiProgram) (steps : List Step) (c : ℕ) (x : Statement) (run : I
       one : (taker : ℕ) → takes p send taker ≡ true → (world_of p steps).has (issued c) ≡ true → (world_of p steps).has (matched send taker) ≡ true → (is_right (world_of p steps) x || list_any (is_right (world_of p steps)) (unless_issued (receive_on_handle p taker))) ≡ true
       one taker taken h g =
           elim (fetches_unless p steps (call_at p send) (call_at p taker) (takes_fit p send taker taken) (no_probe p send taker taken)) [
-            | inl done ↦ or_left (is_right (world_of p steps) x) _ (right h (ap (fetches_partner p (after_all (opening p) steps)) (paired p steps send taker run taken g).pair.send_kept ∙ done))
+            | inl done ↦ or_left (is_right (world_of p steps) x) _ (right h (ap (holds_of (fetches_partner p (after_all (opening p) steps))) (paired p steps send taker run taken g).pair.send_kept ∙ done))
             | inr not_yet ↦ or_right (is_right (world_of p steps) x) _ not_yet
           ]
 
@@ -71,7 +69,7 @@ module _ (p : MpiProgram) (steps : List Step) (c : ℕ) (x : Statement) (run : I
 
 -- ---- the send that a condition names is issued where the call is
 
-done_names_kind : (k : Kind) (o s : ℕ) → when_done_kind k o ≡ if_buffered_or_fetched s → o ≡ s
+done_names_kind : (k : Kind ℕ) (o s : ℕ) → when_done_kind k o ≡ if_buffered_or_fetched s → o ≡ s
 done_names_kind (Send Standard blocking message) o s e = cc
 done_names_kind (Send Synchronous blocking message) o s e = absurd (cc)
 done_names_kind (Send Buffered blocking message) o s e = absurd (cc)
@@ -89,7 +87,7 @@ pub blocking_names : (b : Bool) (k : Condition) (s : ℕ) → if_blocking b k �
 blocking_names true k s e = e
 blocking_names false k s e = absurd (cc)
 
-returned_names : (p : MpiProgram) (c s : ℕ) (k : Kind) → when_returned_kind p k c ≡ if_buffered_or_fetched s → (c ≡ s) ⊎ (k ≡ Wait s)
+returned_names : (p : MpiProgram) (c s : ℕ) (k : Kind ℕ) → when_returned_kind p k c ≡ if_buffered_or_fetched s → (c ≡ s) ⊎ (k ≡ Wait s)
 returned_names p c s (Send mode blocking message) e = inl (done_names (call_at p c) c s (blocking_names blocking (when_done p c) s e))
 returned_names p c s (Receive blocking pattern) e = inl (done_names (call_at p c) c s (blocking_names blocking (when_done p c) s e))
 returned_names p c s (MatchedProbe pattern receive) e = inl (done_names (call_at p c) c s e)
@@ -105,8 +103,8 @@ names_issued p m c s call program there e h =
           let named : operation_of call.kind ≡ Some s = rw waits refl in
           let other = program.waits.named c s call there named in
           let below = program.waits_later c s call there named in
-          let rank : are_of_one_rank_calls (Some other.0) (Some call) ≡ true = eq-eqb call.rank other.0.rank (sym other.2) in
-          let both_there : are_of_one_rank_calls (call_at p s) (call_at p c) ≡ true = rw (other.1, there) rank in
+          let rank : both_hold have_one_rank (Some other.0) (Some call) ≡ true = eq-eqb call.rank other.0.rank (sym other.2) in
+          let both_there : both_hold have_one_rank (call_at p s) (call_at p c) ≡ true = rw (other.1, there) rank in
           one_rank_issued m s c (call_at p s) (call_at p c) below both_there h
     ]
 

@@ -7,7 +7,8 @@ use Rattle.std.proofs.lemmas.List.{get_or_past, map-append}
 use Rattle.std.proofs.lemmas.List.FromFn.{get_or-map-range_with_len, length-map-range_with_len, map-range_with_len_more}
 use Rattle.std.proofs.lemmas.Option.{slice_get_within}
 use Rattle.callorder.specs.declared.calls.Call.{Call}
-use Rattle.callorder.specs.Programs.{is_probe, takes, MpiProgram, fit_calls, are_of_one_rank, are_of_one_rank_calls}
+use Rattle.callorder.specs.Programs.{is_probe, takes, MpiProgram, are_of_one_rank, have_one_rank}
+use Rattle.callorder.specs.Calls.{both_hold, fits}
 use Rattle.candidates.specs.Pairs.{places, takers_of}
 use Rattle.formula.specs.Families.{sends_of}
 
@@ -15,11 +16,11 @@ filter_none : (pass : ℕ → Bool) (xs : List ℕ) → ((x : ℕ) → pass x �
 filter_none pass [] h = refl
 filter_none pass (x ∷ xs) h = rw (h x) (filter_none pass xs h)
 
-no_send : (p : MpiProgram) (s : ℕ) (x y : Option Call) → slice_get p.calls s ≡ x → length p.calls ≤ s → fit_calls x y ≡ false
+no_send : (p : MpiProgram) (s : ℕ) (x y : Option Call) → slice_get p.calls s ≡ x → length p.calls ≤ s → both_hold fits x y ≡ false
 no_send p s None y e past = refl
 no_send p s (Some x) y e past = absurd (omega (arith, slice_get_within p.calls s x e))
 
-no_taker : (p : MpiProgram) (t : ℕ) (x y : Option Call) → slice_get p.calls t ≡ y → length p.calls ≤ t → fit_calls x y ≡ false
+no_taker : (p : MpiProgram) (t : ℕ) (x y : Option Call) → slice_get p.calls t ≡ y → length p.calls ≤ t → both_hold fits x y ≡ false
 no_taker p t None y e past = refl
 no_taker p t (Some x) None e past = refl
 no_taker p t (Some x) (Some y) e past = absurd (omega (arith, slice_get_within p.calls t y e))
@@ -49,7 +50,7 @@ pub rows_more : {V : Type 0} (g : V → List ℕ) (f : ℕ → List ℕ) (k : �
 rows_more g f k old new v e is here =
     ap (map g) is ∙ (map-append g old (v ∷ []) ∙ (ap (λ l. l ++ (g v ∷ [])) e ∙ (ap (λ x. map f (range_with_len 0 k) ++ (x ∷ [])) here ∙ sym (map-range_with_len_more f 0 k k (omega arith)))))
 
-alone : (p : MpiProgram) (c : ℕ) (x y : Option Call) → slice_get p.calls c ≡ x → length p.calls ≤ c → not (are_of_one_rank_calls x y) ≡ true
+alone : (p : MpiProgram) (c : ℕ) (x y : Option Call) → slice_get p.calls c ≡ x → length p.calls ≤ c → not (both_hold have_one_rank x y) ≡ true
 alone p c None y e past = refl
 alone p c (Some x) y e past = absurd (omega (arith, slice_get_within p.calls c x e))
 

@@ -44,13 +44,9 @@ receive_less : (a b : Table) (f : ℕ) → Within f a b → (o : Option Call) �
 receive_less a b f w None h = h
 receive_less a b f w (Some call) h = by call.kind h
   where
-    by : (k : Kind) → tells_receive_kind a k f ≡ true → tells_receive_kind b k f ≡ true
-    by (Send mode blocking message) h = h
-    by (Receive blocking pattern) h = h
+    by : (k : Kind ℕ) → tells_receive_kind a k f ≡ true → tells_receive_kind b k f ≡ true
     by (MatchedProbe pattern receive) h = w receive h
-    by (Probe pattern) h = h
-    by (MatchedReceive blocking) h = h
-    by (Wait operation) h = h
+    by kind h = h
 
 fetch_less : (p : MpiProgram) (e : Configuration) (a b : Table) (f : ℕ) → Within f a b → (o : Option ℕ) → tells_fetch_by p e a o f ≡ true → tells_fetch_by p e b o f ≡ true
 fetch_less p e a b f w None h = h
@@ -58,7 +54,7 @@ fetch_less p e a b f w (Some t) h =
     or_both (tells_find e a t f) (tells_receive a (call_at p t) f) (tells_find e b t f) (tells_receive b (call_at p t) f)
     (find_less e a b f w t) (receive_less a b f w (call_at p t)) h
 
-done_kind_less : (p : MpiProgram) (e : Configuration) (a b : Table) (f : ℕ) → Within f a b → (c : ℕ) (k : Kind) → tells_done_kind p e a c k f ≡ true → tells_done_kind p e b c k f ≡ true
+done_kind_less : (p : MpiProgram) (e : Configuration) (a b : Table) (f : ℕ) → Within f a b → (c : ℕ) (k : Kind ℕ) → tells_done_kind p e a c k f ≡ true → tells_done_kind p e b c k f ≡ true
 done_kind_less p e a b f w c (Send Standard blocking message) h =
     and_more (never_buffers p.policy) (tells_fetch p e a c f) (tells_fetch p e b c f) (fetch_less p e a b f w (partner_of e c)) h
 done_kind_less p e a b f w c (Send Synchronous blocking message) h = fetch_less p e a b f w (partner_of e c) h
@@ -76,7 +72,7 @@ done_less p e a b f w c h = by (call_at p c) h
     by None h = h
     by (Some call) h = done_kind_less p e a b f w c call.kind h
 
-return_kind_less : (p : MpiProgram) (e : Configuration) (a b : Table) (f : ℕ) → Within f a b → (c : ℕ) (k : Kind) → tells_return_kind p e a c k f ≡ true → tells_return_kind p e b c k f ≡ true
+return_kind_less : (p : MpiProgram) (e : Configuration) (a b : Table) (f : ℕ) → Within f a b → (c : ℕ) (k : Kind ℕ) → tells_return_kind p e a c k f ≡ true → tells_return_kind p e b c k f ≡ true
 return_kind_less p e a b f w c (Send mode blocking message) h = and_more blocking (tells_done p e a c f) (tells_done p e b c f) (done_less p e a b f w c) h
 return_kind_less p e a b f w c (Receive blocking pattern) h = and_more blocking (tells_done p e a c f) (tells_done p e b c f) (done_less p e a b f w c) h
 return_kind_less p e a b f w c (MatchedProbe pattern receive) h = done_less p e a b f w c h

@@ -6,9 +6,9 @@ use Rattle.callorder.specs.declared.calls.Call.{Call}
 use Rattle.callorder.specs.declared.calls.Message.{Message}
 use Rattle.callorder.specs.declared.calls.Pattern.{Pattern}
 use Rattle.callorder.specs.declared.calls.Kind.{Kind}
-use Rattle.callorder.specs.declared.calls.Kind.TheVariants.{Send, Receive, MatchedProbe, Probe, MatchedReceive, Wait}
-use Rattle.callorder.specs.Calls.{message_of, pattern_of, covers, fits_between}
-use Rattle.callorder.specs.Programs.{MpiProgram, call_at, are_fit, fit_calls, are_of_one_rank}
+use Rattle.callorder.specs.declared.calls.Kind.TheVariants.{Wait}
+use Rattle.callorder.specs.Calls.{message_of, pattern_of, covers, fits_between, both_hold, fits}
+use Rattle.callorder.specs.Programs.{MpiProgram, call_at, are_fit, are_of_one_rank}
 use Rattle.races.proofs.Steps.{one_rank_made}
 use Rattle.leastrun.specs.declared.slot.Form.{Form}
 use Rattle.leastrun.specs.Slots.{named, slot_of, slot_of_message, slot_of_pattern, send_slot, finder_slot, form_of}
@@ -61,7 +61,7 @@ pub record Fit (p : MpiProgram) (s f : ℕ) : Type 0 where
   pub finder_there : call_at p f ≡ Some finder
   pub meet : Meet send.rank (message_of send.kind) finder.rank (pattern_of finder.kind)
 
-fit_parts : (a b : Option Call) → fit_calls a b ≡ true → (x : Call) × (y : Call) × (a ≡ Some x) × (b ≡ Some y) × (fits_between x.rank (message_of x.kind) y.rank (pattern_of y.kind) ≡ true)
+fit_parts : (a b : Option Call) → both_hold fits a b ≡ true → (x : Call) × (y : Call) × (a ≡ Some x) × (b ≡ Some y) × (fits_between x.rank (message_of x.kind) y.rank (pattern_of y.kind) ≡ true)
 fit_parts None b fit = absurd (cc)
 fit_parts (Some x) None fit = absurd (cc)
 fit_parts (Some x) (Some y) fit = (x, y, refl, refl, fit)
@@ -87,13 +87,9 @@ pub same_at : (p : MpiProgram) (c : ℕ) (a b : Call) → call_at p c ≡ Some a
 same_at p c a b one other = same_call a b (sym one ∙ other)
 
 -- no call is both a send and a finder
-both : (kind : Kind) (message : Message) (pattern : Pattern) → message_of kind ≡ Some message → pattern_of kind ≡ Some pattern → ⊥
-both (Send mode blocking own) message pattern e f = absurd (cc)
-both (Receive blocking own) message pattern e f = absurd (cc)
-both (MatchedProbe own receive) message pattern e f = absurd (cc)
-both (Probe own) message pattern e f = absurd (cc)
-both (MatchedReceive blocking) message pattern e f = absurd (cc)
+both : (kind : Kind ℕ) (message : Message) (pattern : Pattern) → message_of kind ≡ Some message → pattern_of kind ≡ Some pattern → ⊥
 both (Wait operation) message pattern e f = absurd (cc)
+both kind message pattern e f = absurd (cc)
 
 -- what fits a call isn't what that call fits
 pub not_both : (p : MpiProgram) (c x y : ℕ) → are_fit p c x ≡ true → are_fit p y c ≡ true → ⊥

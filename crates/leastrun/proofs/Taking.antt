@@ -4,6 +4,7 @@ use Rattle.std.proofs.lemmas.Bool.{cases_eq}
 use Rattle.std.proofs.lemmas.Option.{slice_get_within}
 use Rattle.callorder.specs.declared.calls.Call.{Call}
 use Rattle.callorder.specs.Programs.{MpiProgram, call_at, are_of_one_rank}
+use Rattle.callorder.specs.Calls.{holds_of}
 use Rattle.semantics.specs.declared.state.Step.{Step}
 use Rattle.semantics.specs.declared.state.Step.TheVariants.{Issue, Match, See}
 use Rattle.semantics.specs.Machine.{Configuration, after, is_issued, is_issued_call, is_matched, is_open}
@@ -30,7 +31,7 @@ free_before m step c free =
       | inr h ↦ h
     ]
 
-issued_call_same : (m : Configuration) (partner : List (Option ℕ)) (c : ℕ) (x : Option Call) → is_issued_call (record m { partner = partner }) c x ≡ is_issued_call m c x
+issued_call_same : (m : Configuration) (partner : List (Option ℕ)) (c : ℕ) (x : Option Call) → holds_of (is_issued_call (record m { partner = partner }) c) x ≡ holds_of (is_issued_call m c) x
 issued_call_same m partner c None = refl
 issued_call_same m partner c (Some x) = refl
 

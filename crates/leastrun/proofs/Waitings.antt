@@ -7,6 +7,7 @@ use Rattle.callorder.specs.declared.calls.Call.{Call}
 use Rattle.callorder.specs.Programs.{MpiProgram, IsProgramWithin, call_at}
 use Rattle.semantics.specs.Machine.{Configuration, opening, is_issued, is_issued_call, is_open}
 use Rattle.callorder.proofs.Lookups.{slice_get_of_append}
+use Rattle.callorder.specs.Calls.{holds_of, fits}
 use Rattle.races.proofs.Passing.{none_issued}
 use Rattle.races.proofs.Steps.{same_some}
 use Rattle.races.proofs.Telling.{programs_are_in_order}
@@ -204,7 +205,7 @@ below_put p m end calls new opens opened more =
 opened_within : (p : MpiProgram) (m : Configuration) (c : ℕ) → is_open p m c ≡ true → c < length p.calls
 opened_within p m c opened = by_call (call_at p c) refl (open_parts p m c opened).0
   where
-    by_call : (x : Option Call) → call_at p c ≡ x → is_issued_call m c x ≡ true → c < length p.calls
+    by_call : (x : Option Call) → call_at p c ≡ x → holds_of (is_issued_call m c) x ≡ true → c < length p.calls
     by_call None e h = absurd (cc)
     by_call (Some x) e h = slice_get_within p.calls c x e
 

@@ -7,7 +7,8 @@ use Rattle.std.proofs.lemmas.Bool.{cases_eq}
 use Rattle.std.proofs.lemmas.Option.{same_Some}
 use Rattle.std.proofs.lemmas.List.Sums.{sum_by-cons}
 use Rattle.callorder.specs.declared.calls.Call.{Call}
-use Rattle.callorder.specs.Programs.{MpiProgram, call_at, is_of_rank, are_of_one_rank, are_of_one_rank_calls}
+use Rattle.callorder.specs.Programs.{MpiProgram, call_at, is_of_rank, are_of_one_rank, have_one_rank}
+use Rattle.callorder.specs.Calls.{both_hold, holds_of}
 use Rattle.semantics.specs.declared.state.Step.{Step}
 use Rattle.semantics.specs.Machine.{Configuration, IsEnabled, IsRun, first_call, opening, after, after_all, is_issued, is_issued_call, has_next}
 use Rattle.narrowing.specs.declared.taken.Taken.{Taken}
@@ -28,17 +29,17 @@ same_call X f p q c way n same d =
     ]
 
 pub same_issued : (p q : MpiProgram) (c : ℕ) (way : Taken) → IsNarrowed p c way q → (m : Configuration) (d : ℕ) → is_issued q m d ≡ is_issued p m d
-same_issued p q c way n m d = same_call Bool (is_issued_call m d) p q c way n (λ call. refl) d
+same_issued p q c way n m d = same_call Bool (holds_of (is_issued_call m d)) p q c way n (λ call. refl) d
 
 pub same_of_rank : (p q : MpiProgram) (c : ℕ) (way : Taken) → IsNarrowed p c way q → (d rank : ℕ) → is_of_rank (call_at q d) rank ≡ is_of_rank (call_at p d) rank
 same_of_rank p q c way n d rank = same_call Bool (λ x. is_of_rank x rank) p q c way n (λ call. refl) d
 
 pub same_one_rank : (p q : MpiProgram) (c : ℕ) (way : Taken) → IsNarrowed p c way q → (e d : ℕ) → are_of_one_rank q e d ≡ are_of_one_rank p e d
 same_one_rank p q c way n e d =
-    same_call Bool (λ x. are_of_one_rank_calls x (call_at q d)) p q c way n (λ call. refl) e
-    ∙ same_call Bool (are_of_one_rank_calls (call_at p e)) p q c way n (at (call_at p e)) d
+    same_call Bool (λ x. both_hold have_one_rank x (call_at q d)) p q c way n (λ call. refl) e
+    ∙ same_call Bool (both_hold have_one_rank (call_at p e)) p q c way n (at (call_at p e)) d
   where
-    at : (x : Option Call) (call : Call) → are_of_one_rank_calls x (Some (narrowed_call way call)) ≡ are_of_one_rank_calls x (Some call)
+    at : (x : Option Call) (call : Call) → both_hold have_one_rank x (Some (narrowed_call way call)) ≡ both_hold have_one_rank x (Some call)
     at None call = refl
     at (Some y) call = refl
 

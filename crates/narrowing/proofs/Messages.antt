@@ -12,11 +12,11 @@ use Rattle.callorder.specs.declared.calls.Kind.{Kind}
 use Rattle.callorder.specs.declared.calls.Kind.TheVariants.{Send, Receive, MatchedProbe, Probe, MatchedReceive, Wait}
 use Rattle.callorder.specs.declared.calls.Message.{Message}
 use Rattle.callorder.specs.declared.calls.Pattern.{Pattern}
-use Rattle.callorder.specs.Calls.{message_of, pattern_of, is_probe_kind, covers, fits_between}
-use Rattle.callorder.specs.Programs.{MpiProgram, call_at, is_of_rank, are_fit, fit_calls, is_probe, is_probe_call, takes}
+use Rattle.callorder.specs.Calls.{message_of, pattern_of, is_probe_kind, covers, fits_between, both_hold, holds_of, fits}
+use Rattle.callorder.specs.Programs.{MpiProgram, call_at, is_of_rank, are_fit, is_probe, takes, kind_holds}
 use Rattle.semantics.specs.declared.state.Step.{Step}
 use Rattle.semantics.specs.declared.state.Step.TheVariants.{Issue, Match, See}
-use Rattle.semantics.specs.Machine.{Configuration, CanFind, IsEnabled, IsRun, IsStuck, IsStuckRun, opening, after_all, is_issued, is_buffered, partner_of, fetches, fetches_call, fetches_partner, is_fetched, is_done, is_done_call, is_done_kind, is_returned, is_returned_call, is_returned_kind, has_returned_before, may_be, can_issue, can_issue_next, can_issue_call, has_next, is_rank_finished}
+use Rattle.semantics.specs.Machine.{Configuration, CanFind, IsEnabled, IsRun, IsStuck, IsStuckRun, opening, after_all, is_issued, is_buffered, partner_of, fetches, fetches_partner, is_fetched, is_done, is_done_kind, is_returned, is_returned_kind, has_returned_before, may_be, can_issue, can_issue_next, can_issue_call, has_next, is_rank_finished}
 use Rattle.semantics.proofs.Runs.{IsRun-at}
 use Rattle.run_laws.specs.Laws.{IsOpenPair}
 use Rattle.run_laws.proofs.Descent.{some_match_or_see_is_enabled}
@@ -28,29 +28,17 @@ use Rattle.narrowing.proofs.Alike.{same_call, same_issued, same_of_rank, same_on
 
 -- ---- kinds
 
-probe_kept : (s t : ℕ) (k : Kind) → is_probe_kind (narrowed_kind (taken.Message s t) k) ≡ is_probe_kind k
-probe_kept s t (Send mode blocking message) = refl
-probe_kept s t (Receive blocking pattern) = refl
-probe_kept s t (MatchedProbe pattern receive) = refl
-probe_kept s t (Probe pattern) = refl
-probe_kept s t (MatchedReceive blocking) = refl
+probe_kept : (s t : ℕ) (k : Kind ℕ) → is_probe_kind (narrowed_kind (taken.Message s t) k) ≡ is_probe_kind k
 probe_kept s t (Wait operation) = refl
+probe_kept s t kind = refl
 
-message_kept : (s t : ℕ) (k : Kind) → message_of (narrowed_kind (taken.Message s t) k) ≡ message_of k
-message_kept s t (Send mode blocking message) = refl
-message_kept s t (Receive blocking pattern) = refl
-message_kept s t (MatchedProbe pattern receive) = refl
-message_kept s t (Probe pattern) = refl
-message_kept s t (MatchedReceive blocking) = refl
+message_kept : (s t : ℕ) (k : Kind ℕ) → message_of (narrowed_kind (taken.Message s t) k) ≡ message_of k
 message_kept s t (Wait operation) = refl
+message_kept s t kind = refl
 
-may_be_kept : (s t : ℕ) (policy : Policy) (k : Kind) (b : Bool) → may_be policy (narrowed_kind (taken.Message s t) k) b ≡ may_be policy k b
-may_be_kept s t policy (Send mode blocking message) b = refl
-may_be_kept s t policy (Receive blocking pattern) b = refl
-may_be_kept s t policy (MatchedProbe pattern receive) b = refl
-may_be_kept s t policy (Probe pattern) b = refl
-may_be_kept s t policy (MatchedReceive blocking) b = refl
+may_be_kept : (s t : ℕ) (policy : Policy) (k : Kind ℕ) (b : Bool) → may_be policy (narrowed_kind (taken.Message s t) k) b ≡ may_be policy k b
 may_be_kept s t policy (Wait operation) b = refl
+may_be_kept s t policy kind b = refl
 
 -- ---- what fits
 
@@ -75,35 +63,31 @@ fits_so r q s t message pattern rank tag h =
     and_both _ _ (and_both _ _ c.0 (covered_now pattern.source s r rank c.1)) (covered_now pattern.tag t message.tag tag d.1)
 
 -- what fits the narrowed call fits the call
-between : (r q s t : ℕ) (message : Option Message) (k : Kind) → fits_between r message q (pattern_of (narrowed_kind (taken.Message s t) k)) ≡ true → fits_between r message q (pattern_of k) ≡ true
+between : (r q s t : ℕ) (message : Option Message) (k : Kind ℕ) → fits_between r message q (pattern_of (narrowed_kind (taken.Message s t) k)) ≡ true → fits_between r message q (pattern_of k) ≡ true
 between r q s t None k h = h
-between r q s t (Some message) (Send mode blocking sent) h = h
 between r q s t (Some message) (Receive blocking pattern) h = fits_less r q s t message pattern h
 between r q s t (Some message) (MatchedProbe pattern receive) h = fits_less r q s t message pattern h
 between r q s t (Some message) (Probe pattern) h = fits_less r q s t message pattern h
-between r q s t (Some message) (MatchedReceive blocking) h = h
-between r q s t (Some message) (Wait operation) h = h
+between r q s t (Some message) kind h = h
 
 -- a message of this rank with this tag that fits the call fits the narrowed one
-between_so : (r q s t : ℕ) (message : Option Message) (k : Kind) → option_map (λ (x : Message). taken.Message r x.tag) message ≡ Some (taken.Message s t) → fits_between r message q (pattern_of k) ≡ true → fits_between r message q (pattern_of (narrowed_kind (taken.Message s t) k)) ≡ true
+between_so : (r q s t : ℕ) (message : Option Message) (k : Kind ℕ) → option_map (λ (x : Message). taken.Message r x.tag) message ≡ Some (taken.Message s t) → fits_between r message q (pattern_of k) ≡ true → fits_between r message q (pattern_of (narrowed_kind (taken.Message s t) k)) ≡ true
 between_so r q s t None k way h = absurd (cc)
-between_so r q s t (Some message) (Send mode blocking sent) way h = h
 between_so r q s t (Some message) (Receive blocking pattern) way h = fits_so r q s t message pattern (cc) (cc) h
 between_so r q s t (Some message) (MatchedProbe pattern receive) way h = fits_so r q s t message pattern (cc) (cc) h
 between_so r q s t (Some message) (Probe pattern) way h = fits_so r q s t message pattern (cc) (cc) h
-between_so r q s t (Some message) (MatchedReceive blocking) way h = h
-between_so r q s t (Some message) (Wait operation) way h = h
+between_so r q s t (Some message) kind way h = h
 
-send_kept : (s t : ℕ) (y : Option Call) (call : Call) → fit_calls (Some (narrowed_call (taken.Message s t) call)) y ≡ fit_calls (Some call) y
+send_kept : (s t : ℕ) (y : Option Call) (call : Call) → both_hold fits (Some (narrowed_call (taken.Message s t) call)) y ≡ both_hold fits (Some call) y
 send_kept s t None call = refl
 send_kept s t (Some y) call = ap (λ (o : Option Message). fits_between call.rank o y.rank (pattern_of y.kind)) (message_kept s t call.kind)
 
-finder_less : (s t : ℕ) (x y : Option Call) → fit_calls x (option_map (narrowed_call (taken.Message s t)) y) ≡ true → fit_calls x y ≡ true
+finder_less : (s t : ℕ) (x y : Option Call) → both_hold fits x (option_map (narrowed_call (taken.Message s t)) y) ≡ true → both_hold fits x y ≡ true
 finder_less s t None y h = h
 finder_less s t (Some x) None h = h
 finder_less s t (Some x) (Some y) h = between x.rank y.rank s t (message_of x.kind) y.kind h
 
-finder_so : (s t : ℕ) (x y : Option Call) → way_to_call x ≡ Some (taken.Message s t) → fit_calls x y ≡ true → fit_calls x (option_map (narrowed_call (taken.Message s t)) y) ≡ true
+finder_so : (s t : ℕ) (x y : Option Call) → way_to_call x ≡ Some (taken.Message s t) → both_hold fits x y ≡ true → both_hold fits x (option_map (narrowed_call (taken.Message s t)) y) ≡ true
 finder_so s t None y way h = h
 finder_so s t (Some x) None way h = h
 finder_so s t (Some x) (Some y) way h = between_so x.rank y.rank s t (message_of x.kind) y.kind way h
@@ -115,14 +99,14 @@ finder_so s t (Some x) (Some y) way h = between_so x.rank y.rank s t (message_of
 record Both (p q : MpiProgram) (c s t : ℕ) : Type 0 where
   narrowed : IsNarrowed p c (taken.Message s t) q
 
-sender_same : (p q : MpiProgram) (c s t : ℕ) → Both p q c s t → (x f : ℕ) → are_fit q x f ≡ fit_calls (call_at p x) (call_at q f)
-sender_same p q c s t n x f = same_call Bool (λ o. fit_calls o (call_at q f)) p q c (taken.Message s t) n.narrowed (send_kept s t (call_at q f)) x
+sender_same : (p q : MpiProgram) (c s t : ℕ) → Both p q c s t → (x f : ℕ) → are_fit q x f ≡ both_hold fits (call_at p x) (call_at q f)
+sender_same p q c s t n x f = same_call Bool (λ o. both_hold fits o (call_at q f)) p q c (taken.Message s t) n.narrowed (send_kept s t (call_at q f)) x
 
 fit_elsewhere : (p q : MpiProgram) (c s t : ℕ) → Both p q c s t → (x f : ℕ) → (f ≡ c → ⊥) → are_fit q x f ≡ are_fit p x f
-fit_elsewhere p q c s t n x f differ = sender_same p q c s t n x f ∙ ap (fit_calls (call_at p x)) (n.narrowed.elsewhere f differ)
+fit_elsewhere p q c s t n x f differ = sender_same p q c s t n x f ∙ ap (both_hold fits (call_at p x)) (n.narrowed.elsewhere f differ)
 
-fit_here : (p q : MpiProgram) (c s t : ℕ) → Both p q c s t → (x : ℕ) → are_fit q x c ≡ fit_calls (call_at p x) (option_map (narrowed_call (taken.Message s t)) (call_at p c))
-fit_here p q c s t n x = sender_same p q c s t n x c ∙ ap (fit_calls (call_at p x)) n.narrowed.there
+fit_here : (p q : MpiProgram) (c s t : ℕ) → Both p q c s t → (x : ℕ) → are_fit q x c ≡ both_hold fits (call_at p x) (option_map (narrowed_call (taken.Message s t)) (call_at p c))
+fit_here p q c s t n x = sender_same p q c s t n x c ∙ ap (both_hold fits (call_at p x)) n.narrowed.there
 
 fit_within : (p q : MpiProgram) (c s t : ℕ) → Both p q c s t → (x f : ℕ) → are_fit q x f ≡ true → are_fit p x f ≡ true
 fit_within p q c s t n x f h =
@@ -137,7 +121,7 @@ fit_so : (p q : MpiProgram) (c s t : ℕ) → Both p q c s t → (x : ℕ) → w
 fit_so p q c s t n x way h = fit_here p q c s t n x ∙ finder_so s t (call_at p x) (call_at p c) way h
 
 same_probe : (p q : MpiProgram) (c s t : ℕ) → Both p q c s t → (f : ℕ) → is_probe q f ≡ is_probe p f
-same_probe p q c s t n f = same_call Bool is_probe_call p q c (taken.Message s t) n.narrowed (λ call. probe_kept s t call.kind) f
+same_probe p q c s t n f = same_call Bool (kind_holds is_probe_kind) p q c (taken.Message s t) n.narrowed (λ call. probe_kept s t call.kind) f
 
 takes_within : (p q : MpiProgram) (c s t : ℕ) → Both p q c s t → (x f : ℕ) → takes q x f ≡ true → takes p x f ≡ true
 takes_within p q c s t n x f h =
@@ -149,34 +133,26 @@ same_is_issued p q c s t n m d = same_issued p q c (taken.Message s t) n.narrowe
 
 -- ---- when calls return
 
-fetches_same : (p q : MpiProgram) (c s t : ℕ) → Both p q c s t → (m : Configuration) (x : Option Call) → fetches_call q m x ≡ fetches_call p m x
+fetches_same : (p q : MpiProgram) (c s t : ℕ) → Both p q c s t → (m : Configuration) (x : Option Call) → kind_holds (fetches q m) x ≡ kind_holds (fetches p m) x
 fetches_same p q c s t n m None = refl
 fetches_same p q c s t n m (Some call) = at call.kind
   where
-    at : (k : Kind) → fetches q m k ≡ fetches p m k
-    at (Send mode blocking message) = refl
-    at (Receive blocking pattern) = refl
+    at : (k : Kind ℕ) → fetches q m k ≡ fetches p m k
     at (MatchedProbe pattern receive) = same_is_issued p q c s t n m receive
-    at (Probe pattern) = refl
-    at (MatchedReceive blocking) = refl
-    at (Wait operation) = refl
+    at kind = refl
 
-fetches_kept : (s t : ℕ) (p : MpiProgram) (m : Configuration) (k : Kind) → fetches p m (narrowed_kind (taken.Message s t) k) ≡ fetches p m k
-fetches_kept s t p m (Send mode blocking message) = refl
-fetches_kept s t p m (Receive blocking pattern) = refl
-fetches_kept s t p m (MatchedProbe pattern receive) = refl
-fetches_kept s t p m (Probe pattern) = refl
-fetches_kept s t p m (MatchedReceive blocking) = refl
+fetches_kept : (s t : ℕ) (p : MpiProgram) (m : Configuration) (k : Kind ℕ) → fetches p m (narrowed_kind (taken.Message s t) k) ≡ fetches p m k
 fetches_kept s t p m (Wait operation) = refl
+fetches_kept s t p m kind = refl
 
 same_fetched : (p q : MpiProgram) (c s t : ℕ) → Both p q c s t → (m : Configuration) (d : ℕ) → is_fetched q m d ≡ is_fetched p m d
 same_fetched p q c s t n m d = at (partner_of m d)
   where
-    at : (o : Option ℕ) → fetches_partner q m o ≡ fetches_partner p m o
+    at : (o : Option ℕ) → holds_of (fetches_partner q m) o ≡ holds_of (fetches_partner p m) o
     at None = refl
-    at (Some u) = fetches_same p q c s t n m (call_at q u) ∙ same_call Bool (fetches_call p m) p q c (taken.Message s t) n.narrowed (λ call. fetches_kept s t p m call.kind) u
+    at (Some u) = fetches_same p q c s t n m (call_at q u) ∙ same_call Bool (kind_holds (fetches p m)) p q c (taken.Message s t) n.narrowed (λ call. fetches_kept s t p m call.kind) u
 
-done_same : (p q : MpiProgram) (c s t : ℕ) → Both p q c s t → (m : Configuration) (d : ℕ) (k : Kind) → is_done_kind q m d k ≡ is_done_kind p m d k
+done_same : (p q : MpiProgram) (c s t : ℕ) → Both p q c s t → (m : Configuration) (d : ℕ) (k : Kind ℕ) → is_done_kind q m d k ≡ is_done_kind p m d k
 done_same p q c s t n m d (Send Standard blocking message) = ap (λ (b : Bool). is_buffered m d || b) (same_fetched p q c s t n m d)
 done_same p q c s t n m d (Send Synchronous blocking message) = same_fetched p q c s t n m d
 done_same p q c s t n m d (Send Buffered blocking message) = refl
@@ -186,22 +162,18 @@ done_same p q c s t n m d (Probe pattern) = refl
 done_same p q c s t n m d (MatchedReceive blocking) = refl
 done_same p q c s t n m d (Wait operation) = refl
 
-done_kept : (s t : ℕ) (p : MpiProgram) (m : Configuration) (d : ℕ) (k : Kind) → is_done_kind p m d (narrowed_kind (taken.Message s t) k) ≡ is_done_kind p m d k
-done_kept s t p m d (Send mode blocking message) = refl
-done_kept s t p m d (Receive blocking pattern) = refl
-done_kept s t p m d (MatchedProbe pattern receive) = refl
-done_kept s t p m d (Probe pattern) = refl
-done_kept s t p m d (MatchedReceive blocking) = refl
+done_kept : (s t : ℕ) (p : MpiProgram) (m : Configuration) (d : ℕ) (k : Kind ℕ) → is_done_kind p m d (narrowed_kind (taken.Message s t) k) ≡ is_done_kind p m d k
 done_kept s t p m d (Wait operation) = refl
+done_kept s t p m d kind = refl
 
 same_done : (p q : MpiProgram) (c s t : ℕ) → Both p q c s t → (m : Configuration) (d : ℕ) → is_done q m d ≡ is_done p m d
-same_done p q c s t n m d = at (call_at q d) ∙ same_call Bool (is_done_call p m d) p q c (taken.Message s t) n.narrowed (λ call. done_kept s t p m d call.kind) d
+same_done p q c s t n m d = at (call_at q d) ∙ same_call Bool (kind_holds (is_done_kind p m d)) p q c (taken.Message s t) n.narrowed (λ call. done_kept s t p m d call.kind) d
   where
-    at : (x : Option Call) → is_done_call q m d x ≡ is_done_call p m d x
+    at : (x : Option Call) → kind_holds (is_done_kind q m d) x ≡ kind_holds (is_done_kind p m d) x
     at None = refl
     at (Some call) = done_same p q c s t n m d call.kind
 
-returned_same : (p q : MpiProgram) (c s t : ℕ) → Both p q c s t → (m : Configuration) (d : ℕ) (k : Kind) → is_returned_kind q m d k ≡ is_returned_kind p m d k
+returned_same : (p q : MpiProgram) (c s t : ℕ) → Both p q c s t → (m : Configuration) (d : ℕ) (k : Kind ℕ) → is_returned_kind q m d k ≡ is_returned_kind p m d k
 returned_same p q c s t n m d (Send mode blocking message) = ap (λ (b : Bool). not blocking || b) (same_done p q c s t n m d)
 returned_same p q c s t n m d (Receive blocking pattern) = ap (λ (b : Bool). not blocking || b) (same_done p q c s t n m d)
 returned_same p q c s t n m d (MatchedProbe pattern receive) = same_done p q c s t n m d
@@ -209,18 +181,14 @@ returned_same p q c s t n m d (Probe pattern) = same_done p q c s t n m d
 returned_same p q c s t n m d (MatchedReceive blocking) = refl
 returned_same p q c s t n m d (Wait operation) = same_done p q c s t n m operation
 
-returned_kept : (s t : ℕ) (p : MpiProgram) (m : Configuration) (d : ℕ) (k : Kind) → is_returned_kind p m d (narrowed_kind (taken.Message s t) k) ≡ is_returned_kind p m d k
-returned_kept s t p m d (Send mode blocking message) = refl
-returned_kept s t p m d (Receive blocking pattern) = refl
-returned_kept s t p m d (MatchedProbe pattern receive) = refl
-returned_kept s t p m d (Probe pattern) = refl
-returned_kept s t p m d (MatchedReceive blocking) = refl
+returned_kept : (s t : ℕ) (p : MpiProgram) (m : Configuration) (d : ℕ) (k : Kind ℕ) → is_returned_kind p m d (narrowed_kind (taken.Message s t) k) ≡ is_returned_kind p m d k
 returned_kept s t p m d (Wait operation) = refl
+returned_kept s t p m d kind = refl
 
 same_returned : (p q : MpiProgram) (c s t : ℕ) → Both p q c s t → (m : Configuration) (d : ℕ) → is_returned q m d ≡ is_returned p m d
-same_returned p q c s t n m d = at (call_at q d) ∙ same_call Bool (is_returned_call p m d) p q c (taken.Message s t) n.narrowed (λ call. returned_kept s t p m d call.kind) d
+same_returned p q c s t n m d = at (call_at q d) ∙ same_call Bool (kind_holds (is_returned_kind p m d)) p q c (taken.Message s t) n.narrowed (λ call. returned_kept s t p m d call.kind) d
   where
-    at : (x : Option Call) → is_returned_call q m d x ≡ is_returned_call p m d x
+    at : (x : Option Call) → kind_holds (is_returned_kind q m d) x ≡ kind_holds (is_returned_kind p m d) x
     at None = refl
     at (Some call) = returned_same p q c s t n m d call.kind
 
@@ -235,17 +203,17 @@ same_before p q c s t n m rank (suc d) =
 same_issue : (p q : MpiProgram) (c s t : ℕ) → Both p q c s t → (m : Configuration) (rank : ℕ) (b : Bool) → can_issue q m rank b ≡ can_issue p m rank b
 same_issue p q c s t n m rank b = next (slice_get m.next rank)
   where
-    call_same : (d : ℕ) (x : Option Call) → can_issue_call q m rank b d x ≡ can_issue_call p m rank b d x
+    call_same : (d : ℕ) (x : Option Call) → holds_of (can_issue_call q m rank b d) x ≡ holds_of (can_issue_call p m rank b d) x
     call_same d None = refl
     call_same d (Some call) =
         ap (λ (y : Bool). ((call.rank == rank) && y) && may_be q.policy call.kind b) (same_before p q c s t n m rank d)
         ∙ ap (λ (policy : Policy). ((call.rank == rank) && has_returned_before p m rank d) && may_be policy call.kind b) n.narrowed.policy
 
-    next : (o : Option ℕ) → can_issue_next q m rank b o ≡ can_issue_next p m rank b o
+    next : (o : Option ℕ) → holds_of (can_issue_next q m rank b) o ≡ holds_of (can_issue_next p m rank b) o
     next None = refl
     next (Some d) =
         call_same d (call_at q d)
-        ∙ same_call Bool (can_issue_call p m rank b d) p q c (taken.Message s t) n.narrowed (λ call. ap (λ (y : Bool). ((call.rank == rank) && has_returned_before p m rank d) && y) (may_be_kept s t p.policy call.kind b)) d
+        ∙ same_call Bool (holds_of (can_issue_call p m rank b d)) p q c (taken.Message s t) n.narrowed (λ call. ap (λ (y : Bool). ((call.rank == rank) && has_returned_before p m rank d) && y) (may_be_kept s t p.policy call.kind b)) d
 
 find_kept : (p q : MpiProgram) (c s t : ℕ) → Both p q c s t → (m : Configuration) (x f : ℕ) → (f ≡ c → way_to p x ≡ Some (taken.Message s t)) → CanFind p m x f → CanFind q m x f
 find_kept p q c s t n m x f so can =

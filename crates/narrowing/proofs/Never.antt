@@ -6,8 +6,8 @@ use Rattle.std.proofs.lemmas.Option.{same_Some}
 use Rattle.std.proofs.lemmas.List.Elements.{All-contains}
 use Rattle.callorder.specs.declared.calls.Call.{Call}
 use Rattle.callorder.specs.declared.calls.Message.{Message}
-use Rattle.callorder.specs.Calls.{message_of, pattern_of, fits_between}
-use Rattle.callorder.specs.Programs.{MpiProgram, IsProgram, call_at, are_fit, fit_calls}
+use Rattle.callorder.specs.Calls.{message_of, pattern_of, fits_between, both_hold, fits}
+use Rattle.callorder.specs.Programs.{MpiProgram, IsProgram, call_at, are_fit}
 use Rattle.semantics.specs.declared.state.Step.{Step}
 use Rattle.semantics.specs.Machine.{IsStuckRun, opening, after_all, is_issued, is_buffered, is_matched, partner_of}
 use Rattle.formula_from_run.proofs.Pairings.{received, take_all}
@@ -19,7 +19,7 @@ use Rattle.narrowing.proofs.Messages.{stuck_run_so}
 use Rattle.narrowing.proofs.Sends.{way_of, stuck_run_of_send}
 
 -- a send that fits a call has a rank and a tag
-way_of_fit : (x y : Option Call) → fit_calls x y ≡ true → (s : ℕ) × (t : ℕ) × (way_to_call x ≡ Some (taken.Message s t))
+way_of_fit : (x y : Option Call) → both_hold fits x y ≡ true → (s : ℕ) × (t : ℕ) × (way_to_call x ≡ Some (taken.Message s t))
 way_of_fit None y fit = absurd (cc)
 way_of_fit (Some x) None fit = absurd (cc)
 way_of_fit (Some x) (Some y) fit = at (message_of x.kind) fit

@@ -15,11 +15,11 @@ use Rattle.callorder.specs.declared.calls.Call.{Call}
 use Rattle.callorder.specs.declared.calls.Kind.{Kind}
 use Rattle.callorder.specs.declared.calls.Kind.TheVariants.{Send, Receive, MatchedProbe, Probe, MatchedReceive, Wait}
 use Rattle.callorder.specs.declared.calls.Message.{Message}
-use Rattle.callorder.specs.Calls.{message_of, pattern_of, operation_of, is_probe_kind, fits_between}
-use Rattle.callorder.specs.Programs.{MpiProgram, IsProgram, call_at, is_of_rank, are_fit, fit_calls, is_probe, is_probe_call, takes}
+use Rattle.callorder.specs.Calls.{message_of, pattern_of, operation_of, is_probe_kind, fits_between, both_hold, holds_of, fits}
+use Rattle.callorder.specs.Programs.{MpiProgram, IsProgram, call_at, is_of_rank, are_fit, is_probe, takes, kind_holds}
 use Rattle.semantics.specs.declared.state.Step.{Step}
 use Rattle.semantics.specs.declared.state.Step.TheVariants.{Issue, Match, See}
-use Rattle.semantics.specs.Machine.{Configuration, CanFind, IsEnabled, IsRun, IsStuck, IsStuckRun, opening, after, after_all, is_issued, is_issued_call, is_matched, is_buffered, partner_of, fetches, fetches_call, fetches_partner, is_fetched, is_done, is_done_call, is_done_kind, is_returned, is_returned_call, is_returned_kind, has_returned_before, may_be, can_issue, can_issue_next, can_issue_call, is_rank_finished}
+use Rattle.semantics.specs.Machine.{Configuration, CanFind, IsEnabled, IsRun, IsStuck, IsStuckRun, opening, after, after_all, is_issued, is_issued_call, is_matched, is_buffered, partner_of, fetches, fetches_partner, is_fetched, is_done, is_done_kind, is_returned, is_returned_kind, has_returned_before, may_be, can_issue, can_issue_next, can_issue_call, is_rank_finished}
 use Rattle.semantics.proofs.Lengths.{issued_grows, issues, Issues}
 use Rattle.narrowing.specs.declared.taken.Taken.{Taken}
 use Rattle.narrowing.specs.declared.taken.Taken.TheVariants as taken
@@ -34,7 +34,7 @@ abbrev pub way_of : Bool → Taken
 way_of true = taken.Buffered
 way_of false = taken.NotBuffered
 
-probe_kept : (b : Bool) (k : Kind) → is_probe_kind (narrowed_kind (way_of b) k) ≡ is_probe_kind k
+probe_kept : (b : Bool) (k : Kind ℕ) → is_probe_kind (narrowed_kind (way_of b) k) ≡ is_probe_kind k
 probe_kept true (Send Standard blocking message) = refl
 probe_kept true (Send Synchronous blocking message) = refl
 probe_kept true (Send Buffered blocking message) = refl
@@ -52,7 +52,7 @@ probe_kept false (Probe pattern) = refl
 probe_kept false (MatchedReceive blocking) = refl
 probe_kept false (Wait operation) = refl
 
-message_kept : (b : Bool) (k : Kind) → message_of (narrowed_kind (way_of b) k) ≡ message_of k
+message_kept : (b : Bool) (k : Kind ℕ) → message_of (narrowed_kind (way_of b) k) ≡ message_of k
 message_kept true (Send Standard blocking message) = refl
 message_kept true (Send Synchronous blocking message) = refl
 message_kept true (Send Buffered blocking message) = refl
@@ -70,7 +70,7 @@ message_kept false (Probe pattern) = refl
 message_kept false (MatchedReceive blocking) = refl
 message_kept false (Wait operation) = refl
 
-pattern_kept : (b : Bool) (k : Kind) → pattern_of (narrowed_kind (way_of b) k) ≡ pattern_of k
+pattern_kept : (b : Bool) (k : Kind ℕ) → pattern_of (narrowed_kind (way_of b) k) ≡ pattern_of k
 pattern_kept true (Send Standard blocking message) = refl
 pattern_kept true (Send Synchronous blocking message) = refl
 pattern_kept true (Send Buffered blocking message) = refl
@@ -88,7 +88,7 @@ pattern_kept false (Probe pattern) = refl
 pattern_kept false (MatchedReceive blocking) = refl
 pattern_kept false (Wait operation) = refl
 
-fetches_kept : (b : Bool) (p : MpiProgram) (m : Configuration) (k : Kind) → fetches p m (narrowed_kind (way_of b) k) ≡ fetches p m k
+fetches_kept : (b : Bool) (p : MpiProgram) (m : Configuration) (k : Kind ℕ) → fetches p m (narrowed_kind (way_of b) k) ≡ fetches p m k
 fetches_kept true p m (Send Standard blocking message) = refl
 fetches_kept true p m (Send Synchronous blocking message) = refl
 fetches_kept true p m (Send Buffered blocking message) = refl
@@ -121,21 +121,21 @@ send_of p c send = record { rank = send.rank; kind = Send Standard send.blocking
 narrowed_there : (p q : MpiProgram) (c : ℕ) (b : Bool) (n : Both p q c b) → call_at q c ≡ Some (narrowed_call (way_of b) (send_of p c n.send))
 narrowed_there p q c b n = n.narrowed.there ∙ ap (option_map (narrowed_call (way_of b))) n.send.there
 
-fit_send : (b : Bool) (y : Option Call) (call : Call) → fit_calls (Some (narrowed_call (way_of b) call)) y ≡ fit_calls (Some call) y
+fit_send : (b : Bool) (y : Option Call) (call : Call) → both_hold fits (Some (narrowed_call (way_of b) call)) y ≡ both_hold fits (Some call) y
 fit_send b None call = refl
 fit_send b (Some y) call = ap (λ (o : Option Message). fits_between call.rank o y.rank (pattern_of y.kind)) (message_kept b call.kind)
 
-fit_finder : (b : Bool) (x : Option Call) (call : Call) → fit_calls x (Some (narrowed_call (way_of b) call)) ≡ fit_calls x (Some call)
+fit_finder : (b : Bool) (x : Option Call) (call : Call) → both_hold fits x (Some (narrowed_call (way_of b) call)) ≡ both_hold fits x (Some call)
 fit_finder b None call = refl
 fit_finder b (Some x) call = ap (fits_between x.rank (message_of x.kind) call.rank) (pattern_kept b call.kind)
 
 same_fit : (p q : MpiProgram) (c : ℕ) (b : Bool) → Both p q c b → (x f : ℕ) → are_fit q x f ≡ are_fit p x f
 same_fit p q c b n x f =
-    same_call Bool (λ o. fit_calls o (call_at q f)) p q c (way_of b) n.narrowed (fit_send b (call_at q f)) x
-    ∙ same_call Bool (fit_calls (call_at p x)) p q c (way_of b) n.narrowed (fit_finder b (call_at p x)) f
+    same_call Bool (λ o. both_hold fits o (call_at q f)) p q c (way_of b) n.narrowed (fit_send b (call_at q f)) x
+    ∙ same_call Bool (both_hold fits (call_at p x)) p q c (way_of b) n.narrowed (fit_finder b (call_at p x)) f
 
 same_probe : (p q : MpiProgram) (c : ℕ) (b : Bool) → Both p q c b → (f : ℕ) → is_probe q f ≡ is_probe p f
-same_probe p q c b n f = same_call Bool is_probe_call p q c (way_of b) n.narrowed (λ call. probe_kept b call.kind) f
+same_probe p q c b n f = same_call Bool (kind_holds is_probe_kind) p q c (way_of b) n.narrowed (λ call. probe_kept b call.kind) f
 
 same_takes : (p q : MpiProgram) (c : ℕ) (b : Bool) → Both p q c b → (x f : ℕ) → takes q x f ≡ takes p x f
 same_takes p q c b n x f =
@@ -157,7 +157,7 @@ IsSo p c b m = is_issued p m c ≡ true → is_buffered m c ≡ b
 like_issued : (p q : MpiProgram) (c : ℕ) (b : Bool) → Both p q c b → (m k : Configuration) → IsLike c m k → (d : ℕ) → is_issued q k d ≡ is_issued p m d
 like_issued p q c b n m k like d = same_issued p q c (way_of b) n.narrowed k d ∙ at (call_at p d)
   where
-    at : (x : Option Call) → is_issued_call k d x ≡ is_issued_call m d x
+    at : (x : Option Call) → holds_of (is_issued_call k d) x ≡ holds_of (is_issued_call m d) x
     at None = refl
     at (Some call) = ap (λ (l : List ℕ). nat_lt d (slice_index l call.rank)) like.next
 
@@ -169,30 +169,26 @@ like_matched c m k like d = ap is_some (like_partner c m k like d)
 
 -- ---- when calls return
 
-like_fetches : (p q : MpiProgram) (c : ℕ) (b : Bool) → Both p q c b → (m k : Configuration) → IsLike c m k → (x : Option Call) → fetches_call q k x ≡ fetches_call p m x
+like_fetches : (p q : MpiProgram) (c : ℕ) (b : Bool) → Both p q c b → (m k : Configuration) → IsLike c m k → (x : Option Call) → kind_holds (fetches q k) x ≡ kind_holds (fetches p m) x
 like_fetches p q c b n m k like None = refl
 like_fetches p q c b n m k like (Some call) = at call.kind
   where
-    at : (kind : Kind) → fetches q k kind ≡ fetches p m kind
-    at (Send mode blocking message) = refl
-    at (Receive blocking pattern) = refl
+    at : (kind : Kind ℕ) → fetches q k kind ≡ fetches p m kind
     at (MatchedProbe pattern receive) = like_issued p q c b n m k like receive
-    at (Probe pattern) = refl
-    at (MatchedReceive blocking) = refl
-    at (Wait operation) = refl
+    at kind = refl
 
 like_fetched : (p q : MpiProgram) (c : ℕ) (b : Bool) → Both p q c b → (m k : Configuration) → IsLike c m k → (d : ℕ) → is_fetched q k d ≡ is_fetched p m d
-like_fetched p q c b n m k like d = ap (fetches_partner q k) (like_partner c m k like d) ∙ at (partner_of m d)
+like_fetched p q c b n m k like d = ap (holds_of (fetches_partner q k)) (like_partner c m k like d) ∙ at (partner_of m d)
   where
-    at : (o : Option ℕ) → fetches_partner q k o ≡ fetches_partner p m o
+    at : (o : Option ℕ) → holds_of (fetches_partner q k) o ≡ holds_of (fetches_partner p m) o
     at None = refl
-    at (Some u) = like_fetches p q c b n m k like (call_at q u) ∙ same_call Bool (fetches_call p m) p q c (way_of b) n.narrowed (λ call. fetches_kept b p m call.kind) u
+    at (Some u) = like_fetches p q c b n m k like (call_at q u) ∙ same_call Bool (kind_holds (fetches p m)) p q c (way_of b) n.narrowed (λ call. fetches_kept b p m call.kind) u
 
 -- the send itself
 done_here : (p q : MpiProgram) (c : ℕ) (b : Bool) → Both p q c b → (m k : Configuration) → IsLike c m k → is_buffered m c ≡ b → is_done q k c ≡ is_done p m c
 done_here p q c b n m k like so =
-    ap (is_done_call q k c) (narrowed_there p q c b n) ∙ at b n.send.blocking n.send.message ∙ ap (λ (z : Bool). z || is_fetched q k c) (sym so)
-    ∙ ap (λ (z : Bool). is_buffered m c || z) (like_fetched p q c b n m k like c) ∙ sym (ap (is_done_call p m c) n.send.there)
+    ap (kind_holds (is_done_kind q k c)) (narrowed_there p q c b n) ∙ at b n.send.blocking n.send.message ∙ ap (λ (z : Bool). z || is_fetched q k c) (sym so)
+    ∙ ap (λ (z : Bool). is_buffered m c || z) (like_fetched p q c b n m k like c) ∙ sym (ap (kind_holds (is_done_kind p m c)) n.send.there)
   where
     at : (z blocking : Bool) (message : Message) → is_done_kind q k c (narrowed_kind (way_of z) (Send Standard blocking message)) ≡ (z || is_fetched q k c)
     at true blocking message = refl
@@ -200,9 +196,9 @@ done_here p q c b n m k like so =
 
 -- another call
 done_elsewhere : (p q : MpiProgram) (c : ℕ) (b : Bool) → Both p q c b → (m k : Configuration) → IsLike c m k → (d : ℕ) → (d ≡ c → ⊥) → is_done q k d ≡ is_done p m d
-done_elsewhere p q c b n m k like d differ = ap (is_done_call q k d) (n.narrowed.elsewhere d differ) ∙ at (call_at p d)
+done_elsewhere p q c b n m k like d differ = ap (kind_holds (is_done_kind q k d)) (n.narrowed.elsewhere d differ) ∙ at (call_at p d)
   where
-    of_kind : (kind : Kind) → is_done_kind q k d kind ≡ is_done_kind p m d kind
+    of_kind : (kind : Kind ℕ) → is_done_kind q k d kind ≡ is_done_kind p m d kind
     of_kind (Send Standard blocking message) = ap (λ (z : Bool). z || is_fetched q k d) (like.buffered d differ) ∙ ap (λ (z : Bool). is_buffered m d || z) (like_fetched p q c b n m k like d)
     of_kind (Send Synchronous blocking message) = like_fetched p q c b n m k like d
     of_kind (Send Buffered blocking message) = refl
@@ -212,7 +208,7 @@ done_elsewhere p q c b n m k like d differ = ap (is_done_call q k d) (n.narrowed
     of_kind (MatchedReceive blocking) = refl
     of_kind (Wait operation) = refl
 
-    at : (x : Option Call) → is_done_call q k d x ≡ is_done_call p m d x
+    at : (x : Option Call) → kind_holds (is_done_kind q k d) x ≡ kind_holds (is_done_kind p m d) x
     at None = refl
     at (Some call) = of_kind call.kind
 
@@ -228,9 +224,9 @@ operation_issued : (p : MpiProgram) (m : Configuration) (d o : ℕ) (call : Call
 operation_issued p m d o call program there is issued =
     let named = program.waits.named d o call there (ap operation_of is) in
     let earlier : o < d = program.waits_later d o call there (ap operation_of is) in
-    let here : nat_lt d (slice_index m.next call.rank) ≡ true = sym (ap (is_issued_call m d) there) ∙ issued in
+    let here : nat_lt d (slice_index m.next call.rank) ≡ true = sym (ap (holds_of (is_issued_call m d)) there) ∙ issued in
     let moved : nat_lt d (slice_index m.next named.0.rank) ≡ true = subst (λ (z : ℕ). nat_lt d (slice_index m.next z) ≡ true) (sym named.2) here in
-    ap (is_issued_call m o) named.1 ∙ below o d (slice_index m.next named.0.rank) earlier moved
+    ap (holds_of (is_issued_call m o)) named.1 ∙ below o d (slice_index m.next named.0.rank) earlier moved
   where
     below : (x y z : ℕ) → x < y → nat_lt y z ≡ true → nat_lt x z ≡ true
     below x y z h e = grind (arith, nat_tests)
@@ -241,16 +237,16 @@ like_returned p q c b n m k like so d issued =
       | inl e ↦
           let here : is_done q k d ≡ is_done p m d = like_done p q c b n m k like so d issued in
           subst (λ (z : ℕ). is_returned q k z ≡ is_returned p m z) (sym e)
-          (ap (is_returned_call q k c) (narrowed_there p q c b n) ∙ at b n.send.blocking n.send.message
-          ∙ ap (λ (z : Bool). not n.send.blocking || z) (subst (λ (z : ℕ). is_done q k z ≡ is_done p m z) e here) ∙ sym (ap (is_returned_call p m c) n.send.there))
-      | inr differ ↦ ap (is_returned_call q k d) (n.narrowed.elsewhere d differ) ∙ other (call_at p d) refl
+          (ap (kind_holds (is_returned_kind q k c)) (narrowed_there p q c b n) ∙ at b n.send.blocking n.send.message
+          ∙ ap (λ (z : Bool). not n.send.blocking || z) (subst (λ (z : ℕ). is_done q k z ≡ is_done p m z) e here) ∙ sym (ap (kind_holds (is_returned_kind p m c)) n.send.there))
+      | inr differ ↦ ap (kind_holds (is_returned_kind q k d)) (n.narrowed.elsewhere d differ) ∙ other (call_at p d) refl
     ]
   where
     at : (z blocking : Bool) (message : Message) → is_returned_kind q k c (narrowed_kind (way_of z) (Send Standard blocking message)) ≡ (not blocking || is_done q k c)
     at true blocking message = refl
     at false blocking message = refl
 
-    of_kind : (call : Call) → call_at p d ≡ Some call → (kind : Kind) → call.kind ≡ kind → is_returned_kind q k d kind ≡ is_returned_kind p m d kind
+    of_kind : (call : Call) → call_at p d ≡ Some call → (kind : Kind ℕ) → call.kind ≡ kind → is_returned_kind q k d kind ≡ is_returned_kind p m d kind
     of_kind call there (Send mode blocking message) is = ap (λ (z : Bool). not blocking || z) (like_done p q c b n m k like so d issued)
     of_kind call there (Receive blocking pattern) is = ap (λ (z : Bool). not blocking || z) (like_done p q c b n m k like so d issued)
     of_kind call there (MatchedProbe pattern receive) is = like_done p q c b n m k like so d issued
@@ -258,7 +254,7 @@ like_returned p q c b n m k like so d issued =
     of_kind call there (MatchedReceive blocking) is = refl
     of_kind call there (Wait operation) is = like_done p q c b n m k like so operation (operation_issued p m d operation call n.program there is issued)
 
-    other : (x : Option Call) → call_at p d ≡ x → is_returned_call q k d x ≡ is_returned_call p m d x
+    other : (x : Option Call) → call_at p d ≡ x → kind_holds (is_returned_kind q k d) x ≡ kind_holds (is_returned_kind p m d) x
     other None there = refl
     other (Some call) there = of_kind call there call.kind refl
 
@@ -266,7 +262,7 @@ like_returned p q c b n m k like so d issued =
 issued_before : (p : MpiProgram) (m : Configuration) (rank d : ℕ) → slice_index m.next rank ≡ suc d → is_of_rank (call_at p d) rank ≡ true → is_issued p m d ≡ true
 issued_before p m rank d next own = at (call_at p d) own
   where
-    at : (x : Option Call) → is_of_rank x rank ≡ true → is_issued_call m d x ≡ true
+    at : (x : Option Call) → is_of_rank x rank ≡ true → holds_of (is_issued_call m d) x ≡ true
     at None h = absurd (cc)
     at (Some call) h =
         let e : call.rank ≡ rank = eqb-true call.rank rank h in
@@ -285,8 +281,8 @@ like_before p q c b n m k like so rank (suc d) next =
 -- ---- steps
 
 -- the call that the rank issues next, with what is asked of it
-can_issue_at : (p : MpiProgram) (m : Configuration) (r : ℕ) (b : Bool) → can_issue p m r b ≡ true → (i : Issues p m r) → can_issue_call p m r b i.place (Some i.call) ≡ true
-can_issue_at p m r b can i = sym (ap (can_issue_next p m r b) i.next ∙ ap (can_issue_call p m r b i.place) i.there) ∙ can
+can_issue_at : (p : MpiProgram) (m : Configuration) (r : ℕ) (b : Bool) → can_issue p m r b ≡ true → (i : Issues p m r) → holds_of (can_issue_call p m r b i.place) (Some i.call) ≡ true
+can_issue_at p m r b can i = sym (ap (holds_of (can_issue_next p m r b)) i.next ∙ ap (holds_of (can_issue_call p m r b i.place)) i.there) ∙ can
 
 next_is : (p : MpiProgram) (m : Configuration) (r : ℕ) (i : Issues p m r) → slice_index m.next r ≡ i.place
 next_is p m r i = get_or_from_slice_get m.next r i.place 0 i.next
@@ -299,7 +295,7 @@ issue_to p q c b n m k like so r one other i call there own may can =
     let first = and_true _ _ parts.0 in
     let rank : (call.rank == r) ≡ true = ap (λ (z : ℕ). z == r) own ∙ first.0 in
     let before : has_returned_before q k r i.place ≡ true = like_before p q c b n m k like so r i.place (next_is p m r i) ∙ first.1 in
-    ap (λ (l : List ℕ). can_issue_next q k r other (slice_get l r)) like.next ∙ ap (can_issue_next q k r other) i.next ∙ ap (can_issue_call q k r other i.place) there
+    ap (λ (l : List ℕ). holds_of (can_issue_next q k r other) (slice_get l r)) like.next ∙ ap (holds_of (can_issue_next q k r other)) i.next ∙ ap (holds_of (can_issue_call q k r other i.place)) there
     ∙ and_both _ _ (and_both _ _ rank before) may
 
 -- a call but for the send
@@ -398,7 +394,7 @@ buffer_kept p m (Issue r b) c enabled issued =
     not_next : (i : Issues p m r) → c ≡ i.place → ⊥
     not_next i e =
         let here : is_issued p m i.place ≡ true = subst (λ (z : ℕ). is_issued p m z ≡ true) e issued in
-        let lower : nat_lt i.place (slice_index m.next i.call.rank) ≡ true = sym (ap (is_issued_call m i.place) i.there) ∙ here in
+        let lower : nat_lt i.place (slice_index m.next i.call.rank) ≡ true = sym (ap (holds_of (is_issued_call m i.place)) i.there) ∙ here in
         let equal : slice_index m.next i.call.rank ≡ i.place = ap (slice_index m.next) i.own ∙ next_is p m r i in
         not_below i.place (slice_index m.next i.call.rank) lower equal
 buffer_kept p m (Match x f) c enabled issued = refl
@@ -473,7 +469,7 @@ issue_from p q c b n m k like so r other can =
         let first = and_true _ _ parts.0 in
         let rank : (call.rank == r) ≡ true = ap (λ (z : ℕ). z == r) own ∙ first.0 in
         let before : has_returned_before p m r j.place ≡ true = sym (like_before p q c b n m k like so r j.place (get_or_from_slice_get m.next r j.place 0 next)) ∙ first.1 in
-        ap (can_issue_next p m r one) next ∙ ap (can_issue_call p m r one j.place) there ∙ and_both _ _ (and_both _ _ rank before) may
+        ap (holds_of (can_issue_next p m r one)) next ∙ ap (holds_of (can_issue_call p m r one j.place)) there ∙ and_both _ _ (and_both _ _ rank before) may
 
 stuck_alike : (p q : MpiProgram) (c : ℕ) (b : Bool) → Both p q c b → (m k : Configuration) → IsLike c m k → IsSo p c b m → IsStuck p m → IsStuck q k
 stuck_alike p q c b n m k like so stuck =

@@ -21,7 +21,7 @@ named_pattern source tag pattern = record pattern { source = named pattern.sourc
 -- The call of this kind with no more left open: a standard send in buffered mode, or synchronous,
 -- or a call that finds messages with this source and this tag in the place of stars. Other calls
 -- are as they were.
-abbrev pub narrowed_kind : Taken → Kind → Kind
+abbrev pub narrowed_kind : Taken → Kind ℕ → Kind ℕ
 narrowed_kind taken.Buffered (Send Standard blocking message) = Send Buffered blocking message
 narrowed_kind taken.NotBuffered (Send Standard blocking message) = Send Synchronous blocking message
 narrowed_kind (taken.Message source tag) (Receive blocking pattern) = Receive blocking (named_pattern source tag pattern)

@@ -8,8 +8,8 @@ use Rattle.callorder.specs.declared.calls.Call.{Call}
 use Rattle.callorder.specs.declared.calls.Kind.{Kind}
 use Rattle.callorder.specs.declared.calls.Kind.TheVariants.{Send, Receive, MatchedProbe, Probe, MatchedReceive, Wait}
 use Rattle.callorder.specs.declared.calls.Pattern.{Pattern}
-use Rattle.callorder.specs.Calls.{pattern_of, covers}
-use Rattle.callorder.specs.Programs.{MpiProgram, call_at, is_of_rank, are_fit, are_of_one_rank, are_of_one_rank_calls}
+use Rattle.callorder.specs.Calls.{pattern_of, covers, both_hold, holds_of, fits}
+use Rattle.callorder.specs.Programs.{MpiProgram, call_at, is_of_rank, are_fit, are_of_one_rank, have_one_rank}
 use Rattle.semantics.specs.declared.state.Step.{Step}
 use Rattle.semantics.specs.declared.state.Step.TheVariants.{Issue, Match, See}
 use Rattle.semantics.specs.Machine.{Configuration, first_call, opening, after, after_all, CanFind, IsEnabled, IsRun, is_issued, is_issued_call, is_matched, is_rank_finished}
@@ -64,24 +64,20 @@ reached_goes_on p m reached never =
 
 -- ---- finders
 
-finder_of : (k : Kind) (h : Pattern) → pattern_of k ≡ Some h → IsFinder k
-finder_of (Send mode blocking message) h e = absurd (cc)
+finder_of : (k : Kind ℕ) (h : Pattern) → pattern_of k ≡ Some h → IsFinder k
 finder_of (Receive blocking pattern) h e = tt
 finder_of (MatchedProbe pattern receive) h e = tt
 finder_of (Probe pattern) h e = tt
-finder_of (MatchedReceive blocking) h e = absurd (cc)
-finder_of (Wait operation) h e = absurd (cc)
+finder_of kind h e = absurd (cc)
 
-finder_moved : (d : ℕ) (k : Kind) → IsFinder k → IsFinder (moved_kind d k)
-finder_moved d (Send mode blocking message) f = absurd f
+finder_moved : (d : ℕ) (k : Kind ℕ) → IsFinder k → IsFinder (moved_kind d k)
 finder_moved d (Receive blocking pattern) f = tt
 finder_moved d (MatchedProbe pattern receive) f = tt
 finder_moved d (Probe pattern) f = tt
-finder_moved d (MatchedReceive blocking) f = absurd f
-finder_moved d (Wait operation) f = absurd f
+finder_moved d kind f = absurd f
 
 -- what a part's call needs it needs in the whole
-needs_moved : (p q : MpiProgram) (moved : ℕ → ℕ) → IsPart p q moved → (d c o : ℕ) (k : Kind) → ((other : Call) → call_at q o ≡ Some other → moved other.rank ≡ d) → Needs q c k o → Needs p (c + d) (moved_kind d k) (o + d)
+needs_moved : (p q : MpiProgram) (moved : ℕ → ℕ) → IsPart p q moved → (d c o : ℕ) (k : Kind ℕ) → ((other : Call) → call_at q o ≡ Some other → moved other.rank ≡ d) → Needs q c k o → Needs p (c + d) (moved_kind d k) (o + d)
 needs_moved p q moved part d c o (Send mode blocking message) same needs = absurd needs
 needs_moved p q moved part d c o (Receive blocking pattern) same needs = (needs.0, ap (λ (z : ℕ). z + d) needs.1)
 needs_moved p q moved part d c o (MatchedProbe pattern receive) same needs = ap (λ (z : ℕ). z + d) needs
@@ -92,7 +88,7 @@ needs_moved p q moved part d c o (Wait operation) same needs =
     (ap (λ (z : ℕ). z + d) needs.0, moved_call (moved needs.1.rank) needs.1, ap (λ (z : ℕ). call_at p (o + z)) (sym e) ∙ part.calls o needs.1 needs.2, finder_moved (moved needs.1.rank) needs.1.kind needs.3)
 
 pub issued_below : (p : MpiProgram) (m : Configuration) (c : ℕ) (call : Call) → call_at p c ≡ Some call → is_issued p m c ≡ true → c < slice_index m.next call.rank
-issued_below p m c call there issued = ltb-true c (slice_index m.next call.rank) (sym (ap (is_issued_call m c) there) ∙ issued)
+issued_below p m c call there issued = ltb-true c (slice_index m.next call.rank) (sym (ap (holds_of (is_issued_call m c)) there) ∙ issued)
 
 pub both_ways : (t : Bool) → t ≡ true → t ≡ false → ⊥
 both_ways t on off = cc
@@ -164,7 +160,7 @@ module _ (p : MpiProgram) (x : Cut) (whole : IsWellFormed p) (one : IsWellFormed
           let rank : a.rank ≡ ws.call.rank = only E w fits_there _ _ (at_first E w) (at_second s ws) in
           let below : E < s = omega (arith, cut.before e a at_e, cut.behind ws.place ws.call ws.there, ws.is, ap x.bound rank) in
           let of_one : are_of_one_rank p E s ≡ true =
-          ap (λ (z : Option Call). are_of_one_rank_calls z (call_at p s)) (at_first E w) ∙ ap (are_of_one_rank_calls (Some (moved_call (x.moved_first a.rank) a))) (at_second s ws) ∙ eq-eqb ws.call.rank a.rank (sym rank) in
+          ap (λ (z : Option Call). both_hold have_one_rank z (call_at p s)) (at_first E w) ∙ ap (both_hold have_one_rank (Some (moved_call (x.moved_first a.rank) a))) (at_second s ws) ∙ eq-eqb ws.call.rank a.rank (sym rank) in
           both_ways (is_matched m1 e) (sym (matched_moved p x.first x.moved_first cut.first one m m1 seen e a at_e) ∙ can.sends E below of_one fits_there) free
 
       module _ (never : NoStuckRun x.first) where

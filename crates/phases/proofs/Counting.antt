@@ -8,11 +8,11 @@ use Rattle.std.proofs.lemmas.Option.{same_Some, slice_get_within}
 use Rattle.calltext.proofs.Conjunctions.{and_true, and_both}
 use Rattle.callorder.specs.declared.calls.Call.{Call}
 use Rattle.callorder.specs.declared.calls.Kind.{Kind}
-use Rattle.callorder.specs.declared.calls.Kind.TheVariants.{Send, Receive, MatchedProbe, Probe, MatchedReceive, Wait}
+use Rattle.callorder.specs.declared.calls.Kind.TheVariants.{Wait}
 use Rattle.callorder.specs.declared.calls.Message.{Message}
 use Rattle.callorder.specs.declared.calls.Pattern.{Pattern}
-use Rattle.callorder.specs.Calls.{message_of, pattern_of, is_probe_kind, fits_between, covers}
-use Rattle.callorder.specs.Programs.{MpiProgram, call_at, are_fit, fit_calls, is_probe_call}
+use Rattle.callorder.specs.Calls.{message_of, pattern_of, is_probe_kind, fits_between, covers, both_hold, fits}
+use Rattle.callorder.specs.Programs.{MpiProgram, call_at, are_fit, kind_holds}
 use Rattle.semantics.specs.declared.state.Step.{Step}
 use Rattle.semantics.specs.declared.state.Step.TheVariants.{Issue, Match, See}
 use Rattle.semantics.specs.Machine.{Configuration, IsConfigurationOf, opening, after, after_all, CanFind, IsEnabled, IsRun, is_matched}
@@ -142,16 +142,12 @@ fit_as a b (Some g) (Some h) at_o at_r fit =
 pub fit_parts : (p : MpiProgram) (s t : ℕ) (a b : Call) → call_at p s ≡ Some a → call_at p t ≡ Some b → are_fit p s t ≡ true → Fit a b
 fit_parts p s t a b at_s at_t fit =
     fit_as a b (message_of a.kind) (pattern_of b.kind) refl refl
-    (sym (ap (λ (z : Option Call). fit_calls z (call_at p t)) at_s ∙ ap (fit_calls (Some a)) at_t) ∙ fit)
+    (sym (ap (λ (z : Option Call). both_hold fits z (call_at p t)) at_s ∙ ap (both_hold fits (Some a)) at_t) ∙ fit)
 
 -- no call is both
-pub no_both : (k : Kind) (g : Message) (h : Pattern) → message_of k ≡ Some g → pattern_of k ≡ Some h → ⊥
-no_both (Send mode blocking message) g h e f = cc
-no_both (Receive blocking pattern) g h e f = cc
-no_both (MatchedProbe pattern receive) g h e f = cc
-no_both (Probe pattern) g h e f = cc
-no_both (MatchedReceive blocking) g h e f = cc
+pub no_both : (k : Kind ℕ) (g : Message) (h : Pattern) → message_of k ≡ Some g → pattern_of k ≡ Some h → ⊥
 no_both (Wait operation) g h e f = cc
+no_both kind g h e f = cc
 
 pub send_has : (r c : ℕ) (o : Option Message) → goes_to r c o ≡ true → (g : Message) × (o ≡ Some g) × (g.destination ≡ r) × (g.communicator ≡ c)
 send_has r c None e = absurd (cc)
@@ -293,14 +289,14 @@ module _ (p : MpiProgram) (st kt : Call → Bool) (tests : AreTests p st kt) (m 
   paired_step (Issue q b) enabled = paired
   paired_step (Match s t) enabled =
       let there = fit_calls_there p s t enabled.1.fit in
-      paired_match_as s t there.0.0 there.1.0 there.0.1 there.1.1 enabled.1 (off (is_probe_kind there.1.0.kind) (ap not (sym (ap is_probe_call there.1.1)) ∙ enabled.0)) (st there.0.0) refl
+      paired_match_as s t there.0.0 there.1.0 there.0.1 there.1.1 enabled.1 (off (is_probe_kind there.1.0.kind) (ap not (sym (ap (kind_holds is_probe_kind) there.1.1)) ∙ enabled.0)) (st there.0.0) refl
     where
       off : (q : Bool) → not q ≡ true → q ≡ false
       off true n = absurd (cc)
       off false n = refl
   paired_step (See s f) enabled =
       let there = fit_calls_there p s f enabled.1.fit in
-      paired_see s f there.0.0 there.1.0 there.0.1 there.1.1 enabled.1 (sym (ap is_probe_call there.1.1) ∙ enabled.0)
+      paired_see s f there.0.0 there.1.0 there.0.1 there.1.1 enabled.1 (sym (ap (kind_holds is_probe_kind) there.1.1) ∙ enabled.0)
 
 paired_all : (p : MpiProgram) (st kt : Call → Bool) → AreTests p st kt → (m : Configuration) (steps : List Step) → IsConfigurationOf p m → ArePaired p st kt m → IsRun p m steps → ArePaired p st kt (after_all m steps)
 paired_all p st kt tests m [] of paired run = paired

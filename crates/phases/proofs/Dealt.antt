@@ -7,7 +7,7 @@ use Rattle.std.proofs.lemmas.List.Sums.{count_by_more_yes, count_by_more_no}
 use Rattle.std.proofs.lemmas.Option.{same_Some, slice_get_within, slice_get-get_or, get_or_from_slice_get}
 use Rattle.callorder.specs.declared.calls.Call.{Call}
 use Rattle.callorder.specs.declared.calls.Kind.{Kind}
-use Rattle.callorder.specs.declared.calls.Kind.TheVariants.{Send, Receive, MatchedProbe, Probe, MatchedReceive, Wait}
+use Rattle.callorder.specs.declared.calls.Kind.TheVariants.{MatchedProbe, Wait}
 use Rattle.callorder.specs.Programs.{MpiProgram, call_at, is_of_rank}
 use Rattle.semantics.specs.Machine.{first_call}
 use Rattle.phases.specs.Parts.{IsWellFormed, moved_kind, moved_call}
@@ -121,15 +121,12 @@ stands_below p at call place stands = slice_get_within p.calls at (moved_call (a
 
 -- ---- calls that move
 
-lowered_moved : (n : ℕ) (k : Kind) → lowered_kind n (moved_kind n k) ≡ k
-lowered_moved n (Send mode blocking message) = refl
-lowered_moved n (Receive blocking pattern) = refl
+lowered_moved : (n : ℕ) (k : Kind ℕ) → lowered_kind n (moved_kind n k) ≡ k
 lowered_moved n (MatchedProbe pattern receive) = ap (λ (z : ℕ). MatchedProbe pattern z) (let e : (receive + n) - n ≡ receive = omega arith in e)
-lowered_moved n (Probe pattern) = refl
-lowered_moved n (MatchedReceive blocking) = refl
 lowered_moved n (Wait operation) = ap (λ (z : ℕ). Wait z) (let e : (operation + n) - n ≡ operation = omega arith in e)
+lowered_moved n kind = refl
 
-abbrev of_kind : ℕ → Kind → Call
+abbrev of_kind : ℕ → Kind ℕ → Call
 of_kind rank kind = record { rank = rank; kind = kind }
 
 same_before : (n : ℕ) (x y : Call) → moved_call n x ≡ moved_call n y → x ≡ y
@@ -138,13 +135,10 @@ same_before n x y e =
     let kind : x.kind ≡ y.kind = sym (lowered_moved n x.kind) ∙ ap (λ (z : Call). lowered_kind n z.kind) e ∙ lowered_moved n y.kind in
     ap (λ (r : ℕ). of_kind r x.kind) rank ∙ ap (of_kind y.rank) kind
 
-moved_kind_twice : (n m : ℕ) (k : Kind) → moved_kind n (moved_kind m k) ≡ moved_kind (n + m) k
-moved_kind_twice n m (Send mode blocking message) = refl
-moved_kind_twice n m (Receive blocking pattern) = refl
+moved_kind_twice : (n m : ℕ) (k : Kind ℕ) → moved_kind n (moved_kind m k) ≡ moved_kind (n + m) k
 moved_kind_twice n m (MatchedProbe pattern receive) = ap (λ (z : ℕ). MatchedProbe pattern z) (let e : (receive + m) + n ≡ receive + (n + m) = omega arith in e)
-moved_kind_twice n m (Probe pattern) = refl
-moved_kind_twice n m (MatchedReceive blocking) = refl
 moved_kind_twice n m (Wait operation) = ap (λ (z : ℕ). Wait z) (let e : (operation + m) + n ≡ operation + (n + m) = omega arith in e)
+moved_kind_twice n m kind = refl
 
 moved_twice : (n m k : ℕ) (call : Call) → n + m ≡ k → moved_call n (moved_call m call) ≡ moved_call k call
 moved_twice n m k call e = ap (of_kind call.rank) (moved_kind_twice n m call.kind) ∙ ap (λ (z : ℕ). moved_call z call) e
@@ -373,13 +367,10 @@ none_yet p next is_p none =
       at = omega (arith, none_lower 0 0 p.calls (rises_of p is_p) (omega arith));
     }
 
-unmoved_kind : (k : Kind) → moved_kind 0 k ≡ k
-unmoved_kind (Send mode blocking message) = refl
-unmoved_kind (Receive blocking pattern) = refl
+unmoved_kind : (k : Kind ℕ) → moved_kind 0 k ≡ k
 unmoved_kind (MatchedProbe pattern receive) = ap (λ (z : ℕ). MatchedProbe pattern z) (let e : receive + 0 ≡ receive = omega arith in e)
-unmoved_kind (Probe pattern) = refl
-unmoved_kind (MatchedReceive blocking) = refl
 unmoved_kind (Wait operation) = ap (λ (z : ℕ). Wait z) (let e : operation + 0 ≡ operation = omega arith in e)
+unmoved_kind kind = refl
 
 pub all_left : (p : MpiProgram) (next : List ℕ) (place : ℕ) → IsWellFormed p → AreFirst p next place p.ranks → IsRest p next p
 all_left p next place is_p are =
@@ -398,7 +389,7 @@ all_left p next place is_p are =
         let none : 0 ≡ get_or next call.rank 0 - first_call p call.rank = omega (arith, e) in
         let same : c ≡ c + 0 = omega arith in
         subst (λ (z : ℕ). call_at p (c + z) ≡ Some (moved_call z call)) none
-        (ap (call_at p) (sym same) ∙ there ∙ ap (λ (k : Kind). Some (of_kind call.rank k)) (sym (unmoved_kind call.kind)))
+        (ap (call_at p) (sym same) ∙ there ∙ ap (λ (k : Kind ℕ). Some (of_kind call.rank k)) (sym (unmoved_kind call.kind)))
 
 pub none_left : (p q : MpiProgram) (next : List ℕ) → IsRest p next q → ((rank : ℕ) → rank < p.ranks → is_of_rank (call_at p (get_or next rank 0)) rank ≡ false) → q.calls ≡ []
 none_left p q next rest off = by q.calls refl

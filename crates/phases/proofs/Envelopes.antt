@@ -9,8 +9,8 @@ use Rattle.calltext.proofs.Conjunctions.{and_true, and_both}
 use Rattle.callorder.specs.declared.calls.Call.{Call}
 use Rattle.callorder.specs.declared.calls.Message.{Message}
 use Rattle.callorder.specs.declared.calls.Pattern.{Pattern}
-use Rattle.callorder.specs.Calls.{message_of, pattern_of, is_probe_kind, fits_between, covers}
-use Rattle.callorder.specs.Programs.{MpiProgram, call_at, are_fit, fit_calls, is_probe, is_probe_call, are_of_one_rank, are_of_one_rank_calls}
+use Rattle.callorder.specs.Calls.{message_of, pattern_of, is_probe_kind, fits_between, covers, both_hold, holds_of, fits}
+use Rattle.callorder.specs.Programs.{MpiProgram, call_at, are_fit, is_probe, are_of_one_rank, kind_holds, have_one_rank}
 use Rattle.semantics.specs.declared.state.Step.{Step}
 use Rattle.semantics.specs.declared.state.Step.TheVariants.{Issue, Match, See}
 use Rattle.semantics.specs.Machine.{Configuration, opening, after, after_all, CanFind, IsEnabled, IsRun, is_issued, is_issued_call, is_matched}
@@ -126,7 +126,7 @@ pub with_envelope_fit : (p : MpiProgram) (h : Envelope) (s t : ℕ) (a b : Call)
 with_envelope_fit p h s t a b at_s at_t sends takes' =
     let u = sent h a sends in
     let v = taken h b takes' in
-    ap (λ (z : Option Call). fit_calls z (call_at p t)) at_s ∙ ap (fit_calls (Some a)) at_t
+    ap (λ (z : Option Call). both_hold fits z (call_at p t)) at_s ∙ ap (both_hold fits (Some a)) at_t
     ∙ ap (λ (z : Option Message). fits_between a.rank z b.rank (pattern_of b.kind)) u.is
     ∙ ap (fits_between a.rank (Some u.message) b.rank) v.is
     ∙ and_both ((u.message.destination == b.rank && u.message.communicator == v.pattern.communicator) && covers v.pattern.source a.rank) (covers v.pattern.tag u.message.tag)
@@ -207,9 +207,9 @@ in_order_step p h m (Match s f) order enabled = λ t e b d at_t at_e on_t on_e b
               let u = taken h b on_t in
               let v = taken h d on_e in
               let one : are_of_one_rank p e f ≡ true =
-              ap (λ (z : Option Call). are_of_one_rank_calls z (call_at p f)) at_e ∙ ap (are_of_one_rank_calls (Some d)) at_f ∙ eq-eqb b.rank d.rank (u.rank ∙ sym v.rank) in
+              ap (λ (z : Option Call). both_hold have_one_rank z (call_at p f)) at_e ∙ ap (both_hold have_one_rank (Some d)) at_f ∙ eq-eqb b.rank d.rank (u.rank ∙ sym v.rank) in
               can.takers e (omega (arith, below, is)) one
-              (and_both (are_fit p s e) (not (is_probe p e)) (with_envelope_fit p h s e a d at_s at_e (fit_has_envelope h a b fit on_t) on_e) (ap not (ap is_probe_call at_e ∙ v.taker)))
+              (and_both (are_fit p s e) (not (is_probe p e)) (with_envelope_fit p h s e a d at_s at_e (fit_has_envelope h a b fit on_t) on_e) (ap not (ap (kind_holds is_probe_kind) at_e ∙ v.taker)))
           | inr not_f ↦ elim (cases_eq t s) [
             | inl is ↦
                 let fit = fit_parts p s f a there.1.0 at_s there.1.1 can.fit in
@@ -222,7 +222,7 @@ in_order_step p h m (Match s f) order enabled = λ t e b d at_t at_e on_t on_e b
 in_order_step p h m (See s f) order enabled = λ t e b d at_t at_e on_t on_e below matched.
     matched_grows m (See s f) e (
     elim (cases_eq t f) [
-      | inl is ↦ absurd (both_ways (is_probe p f) enabled.0 (ap (is_probe p) (sym is) ∙ ap is_probe_call at_t ∙ (taken h b on_t).taker))
+      | inl is ↦ absurd (both_ways (is_probe p f) enabled.0 (ap (is_probe p) (sym is) ∙ ap (kind_holds is_probe_kind) at_t ∙ (taken h b on_t).taker))
       | inr differ ↦ order t e b d at_t at_e on_t on_e below (sym (unseen m s f t differ) ∙ matched)
     ])
 
@@ -236,7 +236,7 @@ in_order_all p h m (step ∷ steps) order run = in_order_all p h (after m step) 
 issued_earlier : (p : MpiProgram) (m : Configuration) (e c : ℕ) (x y : Call) → call_at p e ≡ Some x → call_at p c ≡ Some y → x.rank ≡ y.rank → e < c → is_issued p m c ≡ true → is_issued p m e ≡ true
 issued_earlier p m e c x y at_e at_c rank below issued =
     let high = issued_below p m c y at_c issued in
-    ap (is_issued_call m e) at_e ∙ lt-ltb e (slice_index m.next x.rank) (omega (arith, below, high, ap (slice_index m.next) rank))
+    ap (holds_of (is_issued_call m e)) at_e ∙ lt-ltb e (slice_index m.next x.rank) (omega (arith, below, high, ap (slice_index m.next) rank))
 
 module _ (p : MpiProgram) (s t : ℕ) (w : AreCounterparts p s t) (m : Configuration) (order : TakesInOrder p w.envelope m) (issued : MatchedIsIssued p m) where
   up_to_taker : is_matched m t ≡ true → count_by (takes_with w.envelope) (take t p.calls) + 1 ≤ done_count (takes_with w.envelope) (is_matched m) 0 p.calls
@@ -300,7 +300,7 @@ counterparts_come_first p s t whole w steps run matched =
 -- ---- messages
 
 issued_there : (p : MpiProgram) (m : Configuration) (c : ℕ) (o : Option Call) → call_at p c ≡ o → is_issued p m c ≡ true → (call : Call) × (call_at p c ≡ Some call)
-issued_there p m c None at_c issued = absurd (let e = ap (is_issued_call m c) at_c in cc)
+issued_there p m c None at_c issued = absurd (let e = ap (holds_of (is_issued_call m c)) at_c in cc)
 issued_there p m c (Some call) at_c issued = (call, at_c)
 
 behind_found : (p : MpiProgram) → IsWellFormed p → (c f : ℕ) → StandsBehind p c f → ComesAfter p c f
@@ -308,7 +308,7 @@ behind_found p whole c f w steps run issued =
     let m = after_all (opening p) steps in
     let there = issued_there p m c (call_at p c) refl issued in
     let rank : there.0.rank ≡ w.call.rank =
-    eqb-true there.0.rank w.call.rank (sym (ap (λ (z : Option Call). are_of_one_rank_calls z (call_at p c)) w.there ∙ ap (are_of_one_rank_calls (Some w.call)) there.1) ∙ w.of_one_rank) in
+    eqb-true there.0.rank w.call.rank (sym (ap (λ (z : Option Call). both_hold have_one_rank z (call_at p c)) w.there ∙ ap (both_hold have_one_rank (Some w.call)) there.1) ∙ w.of_one_rank) in
     let high = issued_below p m c there.0 there.1 issued in
     runs_are_waited p whole steps run w.place f w.call w.there (omega (arith, w.earlier, high, ap (slice_index m.next) rank)) w.needs
 

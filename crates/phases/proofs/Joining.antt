@@ -8,7 +8,7 @@ use Rattle.std.proofs.lemmas.List.Sums.{sum_by-cons}
 use Rattle.std.proofs.lemmas.Option.{same_Some}
 use Rattle.callorder.specs.declared.calls.Call.{Call}
 use Rattle.callorder.specs.declared.calls.Kind.{Kind}
-use Rattle.callorder.specs.declared.calls.Kind.TheVariants.{Send, Receive, MatchedProbe, Probe, MatchedReceive, Wait}
+use Rattle.callorder.specs.declared.calls.Kind.TheVariants.{Wait}
 use Rattle.callorder.specs.declared.calls.Message.{Message}
 use Rattle.callorder.specs.declared.calls.Pattern.{Pattern}
 use Rattle.callorder.specs.Calls.{operation_of, is_start, receive_of, is_matched_receive}
@@ -240,43 +240,27 @@ join_in_order first second one two =
 -- ---- what is joined is well formed
 
 -- a name moves with its call
-abbrev pub MovesNames : (Kind → Option ℕ) → Type 0
-MovesNames names = (d : ℕ) (k : Kind) → names (moved_kind d k) ≡ option_map (λ o. o + d) (names k)
+abbrev pub MovesNames : (Kind ℕ → Option ℕ) → Type 0
+MovesNames names = (d : ℕ) (k : Kind ℕ) → names (moved_kind d k) ≡ option_map (λ o. o + d) (names k)
 
-abbrev pub KeepsTest : (Kind → Bool) → Type 0
-KeepsTest test = (d : ℕ) (k : Kind) → test (moved_kind d k) ≡ test k
+abbrev pub KeepsTest : (Kind ℕ → Bool) → Type 0
+KeepsTest test = (d : ℕ) (k : Kind ℕ) → test (moved_kind d k) ≡ test k
 
 pub operation_moves : MovesNames operation_of
-operation_moves d (Send mode blocking message) = refl
-operation_moves d (Receive blocking pattern) = refl
-operation_moves d (MatchedProbe pattern receive) = refl
-operation_moves d (Probe pattern) = refl
-operation_moves d (MatchedReceive blocking) = refl
 operation_moves d (Wait operation) = refl
+operation_moves d kind = refl
 
 pub receive_moves : MovesNames receive_of
-receive_moves d (Send mode blocking message) = refl
-receive_moves d (Receive blocking pattern) = refl
-receive_moves d (MatchedProbe pattern receive) = refl
-receive_moves d (Probe pattern) = refl
-receive_moves d (MatchedReceive blocking) = refl
 receive_moves d (Wait operation) = refl
+receive_moves d kind = refl
 
 pub start_keeps : KeepsTest is_start
-start_keeps d (Send mode blocking message) = refl
-start_keeps d (Receive blocking pattern) = refl
-start_keeps d (MatchedProbe pattern receive) = refl
-start_keeps d (Probe pattern) = refl
-start_keeps d (MatchedReceive blocking) = refl
 start_keeps d (Wait operation) = refl
+start_keeps d kind = refl
 
 pub matched_receive_keeps : KeepsTest is_matched_receive
-matched_receive_keeps d (Send mode blocking message) = refl
-matched_receive_keeps d (Receive blocking pattern) = refl
-matched_receive_keeps d (MatchedProbe pattern receive) = refl
-matched_receive_keeps d (Probe pattern) = refl
-matched_receive_keeps d (MatchedReceive blocking) = refl
 matched_receive_keeps d (Wait operation) = refl
+matched_receive_keeps d kind = refl
 
 pub name_from : (o : Option ℕ) (d k : ℕ) → option_map (λ z. z + d) o ≡ Some k → (j : ℕ) × (o ≡ Some j) × (k ≡ j + d)
 name_from None d k e = absurd (cc)
@@ -293,7 +277,7 @@ module _ (p q : MpiProgram) (moved : ℕ → ℕ) (part : IsPart p q moved) wher
         source = subst (λ (z : Option Pattern). IfSome z (λ pattern. IfSome pattern.source (λ rank. rank < q.ranks))) (sym (pattern_moved (moved w.call.rank) w.call.kind)) h.source;
       }))
 
-  module _ (names : Kind → Option ℕ) (test : Kind → Bool) (moves : MovesNames names) (keeps : KeepsTest test) (pairing : IsPairing q.calls names test) where
+  module _ (names : Kind ℕ → Option ℕ) (test : Kind ℕ → Bool) (moves : MovesNames names) (keeps : KeepsTest test) (pairing : IsPairing q.calls names test) where
     -- what a call of the part names in the whole
     pub record Named (c o : ℕ) : Type 0 where
       pub place : ℕ
@@ -350,7 +334,7 @@ module _ (p first second : MpiProgram) (order : InOrder p) (one : IsWellFormed f
   cut : IsCut p (cut_between first second)
   cut = is_cut p first second order one two joined
 
-  pairing_of : (names : Kind → Option ℕ) (test : Kind → Bool) → MovesNames names → KeepsTest test → IsPairing first.calls names test → IsPairing second.calls names test → IsPairing p.calls names test
+  pairing_of : (names : Kind ℕ → Option ℕ) (test : Kind ℕ → Bool) → MovesNames names → KeepsTest test → IsPairing first.calls names test → IsPairing second.calls names test → IsPairing p.calls names test
   pairing_of names test moves keeps pair pair' =
       record {
         named = λ c o call there e. elim (cut.each c call there) [

@@ -12,12 +12,12 @@ use Rattle.callorder.specs.declared.calls.Call.{Call}
 use Rattle.callorder.specs.declared.calls.Kind.{Kind}
 use Rattle.callorder.specs.declared.calls.Kind.TheVariants.{Send, Receive, MatchedProbe, Probe, MatchedReceive, Wait}
 use Rattle.callorder.specs.declared.calls.Message.{Message}
-use Rattle.callorder.specs.Calls.{message_of, pattern_of, operation_of, receive_of, is_probe_kind, fits_between}
-use Rattle.callorder.specs.Programs.{MpiProgram, call_at, is_of_rank, are_of_one_rank, are_of_one_rank_calls, are_fit, fit_calls, is_probe, is_probe_call, takes}
+use Rattle.callorder.specs.Calls.{message_of, pattern_of, operation_of, receive_of, is_probe_kind, fits_between, both_hold, holds_of, fits}
+use Rattle.callorder.specs.Programs.{MpiProgram, call_at, is_of_rank, are_of_one_rank, are_fit, is_probe, takes, kind_holds, have_one_rank}
 use Rattle.semantics.specs.declared.state.Step.{Step}
 use Rattle.semantics.specs.declared.state.Step.TheVariants.{Issue, Match, See}
 use Rattle.callorder.proofs.Lookups.{slice_get-none_past}
-use Rattle.semantics.specs.Machine.{Configuration, IsConfigurationOf, after, CanFind, is_issued, is_matched, is_buffered, is_fetched, is_done, is_done_call, is_done_kind, is_returned, is_returned_call, is_returned_kind, fetches, fetches_call, fetches_partner, has_returned_before, may_be, can_issue, can_issue_next, can_issue_call}
+use Rattle.semantics.specs.Machine.{Configuration, IsConfigurationOf, after, CanFind, is_issued, is_matched, is_buffered, is_fetched, is_done, is_done_kind, is_returned, is_returned_kind, fetches, fetches_partner, has_returned_before, may_be, can_issue, can_issue_next, can_issue_call}
 use Rattle.semantics.proofs.Lengths.{matched_is}
 use Rattle.run_laws.specs.Laws.{IsOpenPair}
 use Rattle.phases.specs.Parts.{IsPart, IsFrom, IsWellFormed, moved_kind, moved_call}
@@ -31,7 +31,7 @@ of_rank (Some x) r e = (x, refl, eqb-true x.rank r e)
 pub rank_is : (o : Option Call) (x : Call) (r : ℕ) → o ≡ Some x → x.rank ≡ r → is_of_rank o r ≡ true
 rank_is o x r there own = ap (λ (z : Option Call). is_of_rank z r) there ∙ eq-eqb x.rank r own
 
-pub one_there : (o : Option Call) (b : Call) → are_of_one_rank_calls o (Some b) ≡ true → (y : Call) × (o ≡ Some y) × (y.rank ≡ b.rank)
+pub one_there : (o : Option Call) (b : Call) → both_hold have_one_rank o (Some b) ≡ true → (y : Call) × (o ≡ Some y) × (y.rank ≡ b.rank)
 one_there None b e = absurd (cc)
 one_there (Some y) b e = (y, refl, sym (eqb-true b.rank y.rank e))
 
@@ -66,14 +66,14 @@ pub record IssueParts (p : MpiProgram) (m : Configuration) (r : ℕ) (b : Bool) 
   pub before : has_returned_before p m r place ≡ true
   pub may : may_be p.policy call.kind b ≡ true
 
-issue_call : (p : MpiProgram) (m : Configuration) (r : ℕ) (b : Bool) (c : ℕ) → slice_get m.next r ≡ Some c → (o : Option Call) → call_at p c ≡ o → can_issue_call p m r b c o ≡ true → IssueParts p m r b
+issue_call : (p : MpiProgram) (m : Configuration) (r : ℕ) (b : Bool) (c : ℕ) → slice_get m.next r ≡ Some c → (o : Option Call) → call_at p c ≡ o → holds_of (can_issue_call p m r b c) o ≡ true → IssueParts p m r b
 issue_call p m r b c next None there h = absurd (cc)
 issue_call p m r b c next (Some call) there h =
     let outer = and_true ((call.rank == r) && has_returned_before p m r c) (may_be p.policy call.kind b) h in
     let inner = and_true (call.rank == r) (has_returned_before p m r c) outer.0 in
     record { place = c; call = call; next = next; there = there; own = eqb-true call.rank r inner.0; before = inner.1; may = outer.1 }
 
-issue_next : (p : MpiProgram) (m : Configuration) (r : ℕ) (b : Bool) (o : Option ℕ) → slice_get m.next r ≡ o → can_issue_next p m r b o ≡ true → IssueParts p m r b
+issue_next : (p : MpiProgram) (m : Configuration) (r : ℕ) (b : Bool) (o : Option ℕ) → slice_get m.next r ≡ o → holds_of (can_issue_next p m r b) o ≡ true → IssueParts p m r b
 issue_next p m r b None next h = absurd (cc)
 issue_next p m r b (Some c) next h = issue_call p m r b c next (call_at p c) refl h
 
@@ -82,36 +82,24 @@ issue_parts p m r b h = issue_next p m r b (slice_get m.next r) refl h
 
 pub issue_made : (p : MpiProgram) (m : Configuration) (r : ℕ) (b : Bool) (c : ℕ) (call : Call) → slice_get m.next r ≡ Some c → call_at p c ≡ Some call → call.rank ≡ r → has_returned_before p m r c ≡ true → may_be p.policy call.kind b ≡ true → can_issue p m r b ≡ true
 issue_made p m r b c call next there own before may =
-    ap (can_issue_next p m r b) next ∙ ap (can_issue_call p m r b c) there
+    ap (holds_of (can_issue_next p m r b)) next ∙ ap (holds_of (can_issue_call p m r b c)) there
     ∙ and_both ((call.rank == r) && has_returned_before p m r c) (may_be p.policy call.kind b) (and_both (call.rank == r) (has_returned_before p m r c) (eq-eqb call.rank r own) before) may
 
 -- ---- a moved call does the same
 
-pub message_moved : (d : ℕ) (k : Kind) → message_of (moved_kind d k) ≡ message_of k
-message_moved d (Send mode blocking message) = refl
-message_moved d (Receive blocking pattern) = refl
-message_moved d (MatchedProbe pattern receive) = refl
-message_moved d (Probe pattern) = refl
-message_moved d (MatchedReceive blocking) = refl
+pub message_moved : (d : ℕ) (k : Kind ℕ) → message_of (moved_kind d k) ≡ message_of k
 message_moved d (Wait operation) = refl
+message_moved d kind = refl
 
-pub pattern_moved : (d : ℕ) (k : Kind) → pattern_of (moved_kind d k) ≡ pattern_of k
-pattern_moved d (Send mode blocking message) = refl
-pattern_moved d (Receive blocking pattern) = refl
-pattern_moved d (MatchedProbe pattern receive) = refl
-pattern_moved d (Probe pattern) = refl
-pattern_moved d (MatchedReceive blocking) = refl
+pub pattern_moved : (d : ℕ) (k : Kind ℕ) → pattern_of (moved_kind d k) ≡ pattern_of k
 pattern_moved d (Wait operation) = refl
+pattern_moved d kind = refl
 
-probe_moved_kind : (d : ℕ) (k : Kind) → is_probe_kind (moved_kind d k) ≡ is_probe_kind k
-probe_moved_kind d (Send mode blocking message) = refl
-probe_moved_kind d (Receive blocking pattern) = refl
-probe_moved_kind d (MatchedProbe pattern receive) = refl
-probe_moved_kind d (Probe pattern) = refl
-probe_moved_kind d (MatchedReceive blocking) = refl
+probe_moved_kind : (d : ℕ) (k : Kind ℕ) → is_probe_kind (moved_kind d k) ≡ is_probe_kind k
 probe_moved_kind d (Wait operation) = refl
+probe_moved_kind d kind = refl
 
-pub may_be_moved : (policy : Policy) (d : ℕ) (k : Kind) (b : Bool) → may_be policy (moved_kind d k) b ≡ may_be policy k b
+pub may_be_moved : (policy : Policy) (d : ℕ) (k : Kind ℕ) (b : Bool) → may_be policy (moved_kind d k) b ≡ may_be policy k b
 may_be_moved policy d (Send mode blocking message) b = refl
 may_be_moved policy d (Receive blocking pattern) b = refl
 may_be_moved Any d (MatchedProbe pattern receive) b = refl
@@ -160,23 +148,23 @@ set_in_both {A} R xs ys N n C c v w d inside within back on old new =
 module _ (p q : MpiProgram) (moved : ℕ → ℕ) (part : IsPart p q moved) where
   pub fit_moved : (s t : ℕ) (a b : Call) → call_at q s ≡ Some a → call_at q t ≡ Some b → are_fit p (s + moved a.rank) (t + moved b.rank) ≡ are_fit q s t
   fit_moved s t a b at_s at_t =
-      ap (λ (z : Option Call). fit_calls z (call_at p (t + moved b.rank))) (part.calls s a at_s)
-      ∙ ap (fit_calls (Some (moved_call (moved a.rank) a))) (part.calls t b at_t)
+      ap (λ (z : Option Call). both_hold fits z (call_at p (t + moved b.rank))) (part.calls s a at_s)
+      ∙ ap (both_hold fits (Some (moved_call (moved a.rank) a))) (part.calls t b at_t)
       ∙ ap (λ (z : Option Message). fits_between a.rank z b.rank (pattern_of (moved_kind (moved b.rank) b.kind))) (message_moved (moved a.rank) a.kind)
       ∙ ap (fits_between a.rank (message_of a.kind) b.rank) (pattern_moved (moved b.rank) b.kind)
-      ∙ sym (ap (fit_calls (Some a)) at_t)
-      ∙ sym (ap (λ (z : Option Call). fit_calls z (call_at q t)) at_s)
+      ∙ sym (ap (both_hold fits (Some a)) at_t)
+      ∙ sym (ap (λ (z : Option Call). both_hold fits z (call_at q t)) at_s)
 
   pub probe_moved : (t : ℕ) (b : Call) → call_at q t ≡ Some b → is_probe p (t + moved b.rank) ≡ is_probe q t
   probe_moved t b at_t =
-      ap is_probe_call (part.calls t b at_t) ∙ probe_moved_kind (moved b.rank) b.kind ∙ sym (ap is_probe_call at_t)
+      ap (kind_holds is_probe_kind) (part.calls t b at_t) ∙ probe_moved_kind (moved b.rank) b.kind ∙ sym (ap (kind_holds is_probe_kind) at_t)
 
   pub one_rank_moved : (s t : ℕ) (a b : Call) → call_at q s ≡ Some a → call_at q t ≡ Some b → are_of_one_rank p (s + moved a.rank) (t + moved b.rank) ≡ are_of_one_rank q s t
   one_rank_moved s t a b at_s at_t =
-      ap (λ (z : Option Call). are_of_one_rank_calls z (call_at p (t + moved b.rank))) (part.calls s a at_s)
-      ∙ ap (are_of_one_rank_calls (Some (moved_call (moved a.rank) a))) (part.calls t b at_t)
-      ∙ sym (ap (are_of_one_rank_calls (Some a)) at_t)
-      ∙ sym (ap (λ (z : Option Call). are_of_one_rank_calls z (call_at q t)) at_s)
+      ap (λ (z : Option Call). both_hold have_one_rank z (call_at p (t + moved b.rank))) (part.calls s a at_s)
+      ∙ ap (both_hold have_one_rank (Some (moved_call (moved a.rank) a))) (part.calls t b at_t)
+      ∙ sym (ap (both_hold have_one_rank (Some a)) at_t)
+      ∙ sym (ap (λ (z : Option Call). both_hold have_one_rank z (call_at q t)) at_s)
 
   pub rank_moved : (c r : ℕ) (call : Call) → call_at q c ≡ Some call → call.rank ≡ r → is_of_rank (call_at p (c + moved r)) r ≡ true
   rank_moved c r call there own =
@@ -247,36 +235,32 @@ module _ (p q : MpiProgram) (moved : ℕ → ℕ) (part : IsPart p q moved) wher
         let other = program.probes.named c o call there names in
         subst (λ (z : ℕ). is_issued p m (o + moved z) ≡ is_issued q n o) other.2 (seen.issued o other.0 other.1)
 
-    fetches_moved : (d : ℕ) (k : Kind) → ((o : ℕ) → receive_of k ≡ Some o → is_issued p m (o + d) ≡ is_issued q n o) → fetches p m (moved_kind d k) ≡ fetches q n k
-    fetches_moved d (Send mode blocking message) h = refl
-    fetches_moved d (Receive blocking pattern) h = refl
+    fetches_moved : (d : ℕ) (k : Kind ℕ) → ((o : ℕ) → receive_of k ≡ Some o → is_issued p m (o + d) ≡ is_issued q n o) → fetches p m (moved_kind d k) ≡ fetches q n k
     fetches_moved d (MatchedProbe pattern receive) h = h receive refl
-    fetches_moved d (Probe pattern) h = refl
-    fetches_moved d (MatchedReceive blocking) h = refl
-    fetches_moved d (Wait operation) h = refl
+    fetches_moved d kind h = refl
 
-    fetches_same : (a b : Option ℕ) → SamePartner q moved a b → fetches_partner p m a ≡ fetches_partner q n b
+    fetches_same : (a b : Option ℕ) → SamePartner q moved a b → holds_of (fetches_partner p m) a ≡ holds_of (fetches_partner q n) b
     fetches_same None None s = refl
     fetches_same None (Some t) s = absurd s
     fetches_same (Some x) None s = absurd s
     fetches_same (Some x) (Some t) s =
         let call = s.0 in
-        ap (λ (z : ℕ). fetches_call p m (call_at p z)) s.2
-        ∙ ap (fetches_call p m) (part.calls t call s.1)
+        ap (λ (z : ℕ). kind_holds (fetches p m) (call_at p z)) s.2
+        ∙ ap (kind_holds (fetches p m)) (part.calls t call s.1)
         ∙ fetches_moved (moved call.rank) call.kind (λ o names. receive_issued t o call s.1 names)
-        ∙ sym (ap (fetches_call q n) s.1)
+        ∙ sym (ap (kind_holds (fetches q n)) s.1)
 
     fetched_moved : (c : ℕ) (call : Call) → call_at q c ≡ Some call → is_fetched p m (c + moved call.rank) ≡ is_fetched q n c
     fetched_moved c call there =
-        ap (fetches_partner p m) (unwrap_or-slice_get m.partner (c + moved call.rank) None)
+        ap (holds_of (fetches_partner p m)) (unwrap_or-slice_get m.partner (c + moved call.rank) None)
         ∙ fetches_same _ _ (seen.partner c call there)
-        ∙ sym (ap (fetches_partner q n) (unwrap_or-slice_get n.partner c None))
+        ∙ sym (ap (holds_of (fetches_partner q n)) (unwrap_or-slice_get n.partner c None))
 
     buffered_moved : (c : ℕ) (call : Call) → call_at q c ≡ Some call → is_buffered m (c + moved call.rank) ≡ is_buffered n c
     buffered_moved c call there =
         unwrap_or-slice_get m.buffered (c + moved call.rank) false ∙ seen.buffered c call there ∙ sym (unwrap_or-slice_get n.buffered c false)
 
-    done_kind_moved : (d c e : ℕ) (k : Kind) → is_buffered m c ≡ is_buffered n e → is_fetched p m c ≡ is_fetched q n e → is_matched m c ≡ is_matched n e → is_done_kind p m c (moved_kind d k) ≡ is_done_kind q n e k
+    done_kind_moved : (d c e : ℕ) (k : Kind ℕ) → is_buffered m c ≡ is_buffered n e → is_fetched p m c ≡ is_fetched q n e → is_matched m c ≡ is_matched n e → is_done_kind p m c (moved_kind d k) ≡ is_done_kind q n e k
     done_kind_moved d c e (Send Standard blocking message) b f h = ap (λ (z : Bool). z || is_fetched p m c) b ∙ ap (λ (z : Bool). is_buffered n e || z) f
     done_kind_moved d c e (Send Synchronous blocking message) b f h = f
     done_kind_moved d c e (Send Buffered blocking message) b f h = refl
@@ -288,11 +272,11 @@ module _ (p q : MpiProgram) (moved : ℕ → ℕ) (part : IsPart p q moved) wher
 
     done_moved : (c : ℕ) (call : Call) → call_at q c ≡ Some call → is_done p m (c + moved call.rank) ≡ is_done q n c
     done_moved c call there =
-        ap (is_done_call p m (c + moved call.rank)) (part.calls c call there)
+        ap (kind_holds (is_done_kind p m (c + moved call.rank))) (part.calls c call there)
         ∙ done_kind_moved (moved call.rank) (c + moved call.rank) c call.kind (buffered_moved c call there) (fetched_moved c call there) (matched_moved c call there)
-        ∙ sym (ap (is_done_call q n c) there)
+        ∙ sym (ap (kind_holds (is_done_kind q n c)) there)
 
-    returned_kind_moved : (d c e : ℕ) (k : Kind) → is_done p m c ≡ is_done q n e → ((o : ℕ) → operation_of k ≡ Some o → is_done p m (o + d) ≡ is_done q n o) → is_returned_kind p m c (moved_kind d k) ≡ is_returned_kind q n e k
+    returned_kind_moved : (d c e : ℕ) (k : Kind ℕ) → is_done p m c ≡ is_done q n e → ((o : ℕ) → operation_of k ≡ Some o → is_done p m (o + d) ≡ is_done q n o) → is_returned_kind p m c (moved_kind d k) ≡ is_returned_kind q n e k
     returned_kind_moved d c e (Send mode blocking message) h w = ap (λ (z : Bool). not blocking || z) h
     returned_kind_moved d c e (Receive blocking pattern) h w = ap (λ (z : Bool). not blocking || z) h
     returned_kind_moved d c e (MatchedProbe pattern receive) h w = h
@@ -307,9 +291,9 @@ module _ (p q : MpiProgram) (moved : ℕ → ℕ) (part : IsPart p q moved) wher
 
     pub returned_moved : (c : ℕ) (call : Call) → call_at q c ≡ Some call → is_returned p m (c + moved call.rank) ≡ is_returned q n c
     returned_moved c call there =
-        ap (is_returned_call p m (c + moved call.rank)) (part.calls c call there)
+        ap (kind_holds (is_returned_kind p m (c + moved call.rank))) (part.calls c call there)
         ∙ returned_kind_moved (moved call.rank) (c + moved call.rank) c call.kind (done_moved c call there) (λ o names. operation_done c o call there names)
-        ∙ sym (ap (is_returned_call q n c) there)
+        ∙ sym (ap (kind_holds (is_returned_kind q n c)) there)
 
     pub returned_from : (k : ℕ) → (f : IsFrom q moved k) → is_returned q n f.place ≡ true → is_returned p m k ≡ true
     returned_from k f h = ap (is_returned p m) f.is ∙ returned_moved f.place f.call f.there ∙ h
@@ -334,8 +318,8 @@ module _ (p q : MpiProgram) (moved : ℕ → ℕ) (part : IsPart p q moved) wher
           send_open = sym (matched_moved s a at_s) ∙ can.send_open;
           finder_open = sym (matched_moved t b at_t) ∙ can.finder_open;
           fit = sym (fit_moved s t a b at_s at_t) ∙ can.fit;
-          sends = λ e below same fit. let y = one_there (call_at q e) a (ap (are_of_one_rank_calls (call_at q e)) (sym at_s) ∙ same) in send e y.0 y.1 y.2 below same fit;
-          takers = λ e below same taken. let y = one_there (call_at q e) b (ap (are_of_one_rank_calls (call_at q e)) (sym at_t) ∙ same) in taker e y.0 y.1 y.2 below same taken;
+          sends = λ e below same fit. let y = one_there (call_at q e) a (ap (both_hold have_one_rank (call_at q e)) (sym at_s) ∙ same) in send e y.0 y.1 y.2 below same fit;
+          takers = λ e below same taken. let y = one_there (call_at q e) b (ap (both_hold have_one_rank (call_at q e)) (sym at_t) ∙ same) in taker e y.0 y.1 y.2 below same taken;
         }
       where
         send : (e : ℕ) (y : Call) → call_at q e ≡ Some y → y.rank ≡ a.rank → e < s → are_of_one_rank q e s ≡ true → are_fit q e t ≡ true → is_matched n e ≡ true
@@ -360,7 +344,7 @@ module _ (p q : MpiProgram) (moved : ℕ → ℕ) (part : IsPart p q moved) wher
 
 -- ---- the calls that fit
 
-fit_there : (a b : Option Call) → fit_calls a b ≡ true → ((x : Call) × (a ≡ Some x)) × ((y : Call) × (b ≡ Some y))
+fit_there : (a b : Option Call) → both_hold fits a b ≡ true → ((x : Call) × (a ≡ Some x)) × ((y : Call) × (b ≡ Some y))
 fit_there None b holds = absurd (cc)
 fit_there (Some x) None holds = absurd (cc)
 fit_there (Some x) (Some y) holds = ((x, refl), (y, refl))

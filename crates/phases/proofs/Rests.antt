@@ -6,7 +6,7 @@ use Rattle.std.proofs.lemmas.Option.{same_Some}
 use Rattle.calltext.proofs.Conjunctions.{and_both}
 use Rattle.callorder.specs.declared.calls.Call.{Call}
 use Rattle.callorder.specs.declared.calls.Kind.{Kind}
-use Rattle.callorder.specs.declared.calls.Kind.TheVariants.{Send, Receive, MatchedProbe, Probe, MatchedReceive, Wait}
+use Rattle.callorder.specs.declared.calls.Kind.TheVariants.{MatchedProbe, Wait}
 use Rattle.callorder.specs.declared.calls.Message.{Message}
 use Rattle.callorder.specs.declared.calls.Pattern.{Pattern}
 use Rattle.callorder.specs.Calls.{operation_of, is_start, receive_of, is_matched_receive}
@@ -25,13 +25,10 @@ use Rattle.phases.proofs.Joining.{rising_order, none_lower, rises_of, MovesNames
 use Rattle.phases.proofs.Dropping.{Fits, fits, drop_lower, drop_rises, drop_place, lowered_rises, lowered_lower, lowered_from}
 
 -- a lowered call is moved back where the calls that it names aren't in front
-raised_kind : (b : ℕ) (k : Kind) → ((o : ℕ) → operation_of k ≡ Some o → b ≤ o) → ((o : ℕ) → receive_of k ≡ Some o → b ≤ o) → moved_kind b (lowered_kind b k) ≡ k
-raised_kind b (Send mode blocking message) high_o high_r = refl
-raised_kind b (Receive blocking pattern) high_o high_r = refl
+raised_kind : (b : ℕ) (k : Kind ℕ) → ((o : ℕ) → operation_of k ≡ Some o → b ≤ o) → ((o : ℕ) → receive_of k ≡ Some o → b ≤ o) → moved_kind b (lowered_kind b k) ≡ k
 raised_kind b (MatchedProbe pattern receive) high_o high_r = ap (λ (z : ℕ). MatchedProbe pattern z) (let h = high_r receive refl in let e : (receive - b) + b ≡ receive = omega (arith, h) in e)
-raised_kind b (Probe pattern) high_o high_r = refl
-raised_kind b (MatchedReceive blocking) high_o high_r = refl
 raised_kind b (Wait operation) high_o high_r = ap (λ (z : ℕ). Wait z) (let h = high_o operation refl in let e : (operation - b) + b ≡ operation = omega (arith, h) in e)
+raised_kind b kind high_o high_r = refl
 
 module _ (q d : MpiProgram) (is_q : IsWellFormed q) (is_d : IsWellFormed d) (front : IsFront q d) where
   -- ---- how many calls of each rank are in front
@@ -76,7 +73,7 @@ module _ (q d : MpiProgram) (is_q : IsWellFormed q) (is_d : IsWellFormed d) (fro
 
   -- ---- calls behind the front name calls behind it
 
-  module _ (names : Kind → Option ℕ) (test : Kind → Bool) (moves : MovesNames names) (keeps : KeepsTest test) (pair_q : IsPairing q.calls names test) (pair_d : IsPairing d.calls names test) where
+  module _ (names : Kind ℕ → Option ℕ) (test : Kind ℕ → Bool) (moves : MovesNames names) (keeps : KeepsTest test) (pair_q : IsPairing q.calls names test) (pair_d : IsPairing d.calls names test) where
     -- a place of a rank that is in front
     in_front : (r o : ℕ) → first_call q r ≤ o → o + first_call d r < first_call q r + first_call d (r + 1) → (y : Call) × (k : ℕ) × (call_at d k ≡ Some y) × (y.rank ≡ r) × (o ≡ k + (first_call q y.rank - first_call d y.rank))
     in_front r o from low = at (o - (first_call q r - first_call d r)) (omega (arith, from, low, fewer r))
@@ -125,9 +122,9 @@ module _ (q d : MpiProgram) (is_q : IsWellFormed q) (is_d : IsWellFormed d) (fro
           (λ o e. let h = names_behind operation_of is_start operation_moves start_keeps is_q.waits is_d.waits (c + shift y) o y at_q e behind_y in omega (arith, h, fewer y.rank))
           (λ o e. let h = names_behind receive_of is_matched_receive receive_moves matched_receive_keeps is_q.probes is_d.probes (c + shift y) o y at_q e behind_y in omega (arith, h, fewer y.rank)) in
           subst (λ (z : Call). call_at q (c + first_call d (z.rank + 1)) ≡ Some (moved_call (first_call d (z.rank + 1)) z)) (sym is)
-          (at_q ∙ ap (λ (k : Kind). Some (of_kind y.rank k)) (sym back))
+          (at_q ∙ ap (λ (k : Kind ℕ). Some (of_kind y.rank k)) (sym back))
         where
-          of_kind : ℕ → Kind → Call
+          of_kind : ℕ → Kind ℕ → Call
           of_kind rank kind = record { rank = rank; kind = kind }
 
   pub joined : IsJoined q d b
@@ -158,7 +155,7 @@ module _ (q d : MpiProgram) (is_q : IsWellFormed q) (is_d : IsWellFormed d) (fro
           let z = of_rank (call_at b k) r (of_next b order r k (omega (arith, low, is, sizes r, fewer r)) (omega (arith, is, high, sizes (r + 1))) (call_at b k) refl) in
           (z.0, k, z.1, z.2, is)
 
-  module _ (names : Kind → Option ℕ) (test : Kind → Bool) (moves : MovesNames names) (keeps : KeepsTest test) (pair_q : IsPairing q.calls names test) (pair_d : IsPairing d.calls names test) where
+  module _ (names : Kind ℕ → Option ℕ) (test : Kind ℕ → Bool) (moves : MovesNames names) (keeps : KeepsTest test) (pair_q : IsPairing q.calls names test) (pair_d : IsPairing d.calls names test) where
     named_moved : (n o : ℕ) (call : Call) → names call.kind ≡ Some o → names (moved_kind n call.kind) ≡ Some (o + n)
     named_moved n o call e = moves n call.kind ∙ ap (option_map (λ z. z + n)) e
 

@@ -53,7 +53,7 @@ ok_more (Err e) P Q f h = tt
 
 -- ---- what a call does at an address
 
-abbrev takes_at : ℕ → ℕ → ℕ → Kind → Bool
+abbrev takes_at : ℕ → ℕ → ℕ → Kind ℕ → Bool
 takes_at rank communicator own kind = (own == rank && finds_on communicator (pattern_of kind)) && not (is_probe_kind kind)
 
 never : (b : Bool) → (b && false) ≡ false
@@ -68,7 +68,7 @@ pub unless : (b : Bool) → (b ≡ true → ⊥) → b ≡ false
 unless true h = absurd (h refl)
 unless false h = refl
 
-sends_here : (own : ℕ) (kind : Kind) (a : Address) → address_sent own kind (message_of kind) ≡ Some a → is_some (message_of kind) ≡ true → (goes_to a.rank a.communicator (message_of kind) ≡ true) × (takes_at a.rank a.communicator own kind ≡ false)
+sends_here : (own : ℕ) (kind : Kind ℕ) (a : Address) → address_sent own kind (message_of kind) ≡ Some a → is_some (message_of kind) ≡ true → (goes_to a.rank a.communicator (message_of kind) ≡ true) × (takes_at a.rank a.communicator own kind ≡ false)
 sends_here own (Send mode blocking message) a e on =
     let s = same_Some (address_at message.communicator message.destination) a e in (
       and_both (message.destination == a.rank) (message.communicator == a.communicator) (eq-eqb message.destination a.rank (ap (λ (z : Address). z.rank) s)) (eq-eqb message.communicator a.communicator (ap (λ (z : Address). z.communicator) s)),
@@ -87,13 +87,10 @@ here own pattern a e =
     and_both (own == a.rank && pattern.communicator == a.communicator) true
     (and_both (own == a.rank) (pattern.communicator == a.communicator) (eq-eqb own a.rank (ap (λ (z : Address). z.rank) s)) (eq-eqb pattern.communicator a.communicator (ap (λ (z : Address). z.communicator) s))) refl
 
-takes_here : (own : ℕ) (kind : Kind) (a : Address) → address_sent own kind (message_of kind) ≡ Some a → is_some (message_of kind) ≡ false → (goes_to a.rank a.communicator (message_of kind) ≡ false) × (takes_at a.rank a.communicator own kind ≡ true)
-takes_here own (Send mode blocking message) a e off = absurd (cc)
+takes_here : (own : ℕ) (kind : Kind ℕ) (a : Address) → address_sent own kind (message_of kind) ≡ Some a → is_some (message_of kind) ≡ false → (goes_to a.rank a.communicator (message_of kind) ≡ false) × (takes_at a.rank a.communicator own kind ≡ true)
 takes_here own (Receive blocking pattern) a e off = (refl, here own pattern a e)
 takes_here own (MatchedProbe pattern receive) a e off = (refl, here own pattern a e)
-takes_here own (Probe pattern) a e off = absurd (cc)
-takes_here own (MatchedReceive blocking) a e off = absurd (cc)
-takes_here own (Wait operation) a e off = absurd (cc)
+takes_here own kind a e off = absurd (cc)
 
 -- a taker of this pattern is at no other address
 not_here : (own : ℕ) (pattern : Pattern) (a : Address) → (Some (address_at pattern.communicator own) ≡ Some a → ⊥) → ((own == a.rank && pattern.communicator == a.communicator) && true) ≡ false
@@ -101,7 +98,7 @@ not_here own pattern a elsewhere = unless ((own == a.rank && pattern.communicato
     let w = and_true (own == a.rank) (pattern.communicator == a.communicator) (and_true (own == a.rank && pattern.communicator == a.communicator) true on).0 in
     elsewhere (ap Some (both_parts (address_at pattern.communicator own) a (eqb-true own a.rank w.0) (eqb-true pattern.communicator a.communicator w.1))))
 
-nothing_here : (own : ℕ) (kind : Kind) (a : Address) → (address_sent own kind (message_of kind) ≡ Some a → ⊥) → (goes_to a.rank a.communicator (message_of kind) ≡ false) × (takes_at a.rank a.communicator own kind ≡ false)
+nothing_here : (own : ℕ) (kind : Kind ℕ) (a : Address) → (address_sent own kind (message_of kind) ≡ Some a → ⊥) → (goes_to a.rank a.communicator (message_of kind) ≡ false) × (takes_at a.rank a.communicator own kind ≡ false)
 nothing_here own (Send mode blocking message) a elsewhere = (
   unless (message.destination == a.rank && message.communicator == a.communicator) (λ on.
       let w = and_true (message.destination == a.rank) (message.communicator == a.communicator) on in

@@ -12,11 +12,11 @@ use Rattle.calltext.proofs.Conjunctions.{and_true}
 use Rattle.callorder.specs.declared.calls.Call.{Call}
 use Rattle.callorder.specs.declared.calls.Kind.{Kind}
 use Rattle.callorder.specs.declared.calls.Kind.TheVariants.{Send, Receive, MatchedProbe, Probe, MatchedReceive, Wait}
-use Rattle.callorder.specs.Calls.{operation_of, is_start}
-use Rattle.callorder.specs.Programs.{MpiProgram, call_at, is_of_rank, are_fit}
+use Rattle.callorder.specs.Calls.{operation_of, is_start, fits}
+use Rattle.callorder.specs.Programs.{MpiProgram, call_at, is_of_rank, are_fit, kind_holds}
 use Rattle.semantics.specs.declared.state.Step.{Step}
 use Rattle.semantics.specs.declared.state.Step.TheVariants.{Issue, Match, See}
-use Rattle.semantics.specs.Machine.{Configuration, first_call, opening, after, after_all, IsEnabled, IsRun, is_matched, is_done, is_done_call, is_done_kind, is_returned, is_returned_call, is_returned_kind, is_rank_finished, has_next, has_returned_before}
+use Rattle.semantics.specs.Machine.{Configuration, first_call, opening, after, after_all, IsEnabled, IsRun, is_matched, is_done, is_done_kind, is_returned, is_returned_kind, is_rank_finished, has_next, has_returned_before}
 use Rattle.semantics.proofs.Lengths.{matched_grows, matched_is, runs_are_short}
 use Rattle.phases.specs.Parts.{IsWellFormed}
 use Rattle.phases.specs.Order.{IsFinder, Needs}
@@ -24,23 +24,21 @@ use Rattle.phases.proofs.Parts.{rank_is, before_to, IssueParts, issue_parts, of_
 
 -- ---- what a call waits for
 
-done_kind : (p : MpiProgram) (m : Configuration) (c : ℕ) (k : Kind) → IsFinder k → is_done_kind p m c k ≡ is_matched m c
-done_kind p m c (Send mode blocking message) f = absurd f
+done_kind : (p : MpiProgram) (m : Configuration) (c : ℕ) (k : Kind ℕ) → IsFinder k → is_done_kind p m c k ≡ is_matched m c
 done_kind p m c (Receive blocking pattern) f = refl
 done_kind p m c (MatchedProbe pattern receive) f = refl
 done_kind p m c (Probe pattern) f = refl
-done_kind p m c (MatchedReceive blocking) f = absurd f
-done_kind p m c (Wait operation) f = absurd f
+done_kind p m c kind f = absurd f
 
 done_finder : (p : MpiProgram) (m : Configuration) (c : ℕ) (call : Call) → call_at p c ≡ Some call → IsFinder call.kind → is_done p m c ≡ is_matched m c
-done_finder p m c call there f = ap (is_done_call p m c) there ∙ done_kind p m c call.kind f
+done_finder p m c call there f = ap (kind_holds (is_done_kind p m c)) there ∙ done_kind p m c call.kind f
 
 or_done : (b d : Bool) → b ≡ true → (not b || d) ≡ true → d ≡ true
 or_done true d e h = h
 or_done false d e h = absurd (cc)
 
 -- the finder that the returned call needs has found a message
-returned_kind : (p : MpiProgram) (m : Configuration) (c o : ℕ) (call : Call) → call_at p c ≡ Some call → (k : Kind) → call.kind ≡ k → is_returned_kind p m c k ≡ true → Needs p c k o → is_matched m o ≡ true
+returned_kind : (p : MpiProgram) (m : Configuration) (c o : ℕ) (call : Call) → call_at p c ≡ Some call → (k : Kind ℕ) → call.kind ≡ k → is_returned_kind p m c k ≡ true → Needs p c k o → is_matched m o ≡ true
 returned_kind p m c o call there (Send mode blocking message) e h needs = absurd needs
 returned_kind p m c o call there (Receive blocking pattern) e h needs =
     ap (is_matched m) needs.1 ∙ sym (done_finder p m c call there (subst IsFinder (sym e) tt)) ∙ or_done blocking (is_done p m c) needs.0 h
@@ -54,7 +52,7 @@ returned_kind p m c o call there (Wait operation) e h needs =
 
 pub returned_finder : (p : MpiProgram) (m : Configuration) (c o : ℕ) (call : Call) → call_at p c ≡ Some call → is_returned p m c ≡ true → Needs p c call.kind o → is_matched m o ≡ true
 returned_finder p m c o call there h needs =
-    returned_kind p m c o call there call.kind refl (sym (ap (is_returned_call p m c) there) ∙ h) needs
+    returned_kind p m c o call there call.kind refl (sym (ap (kind_holds (is_returned_kind p m c)) there) ∙ h) needs
 
 -- ---- where a rank has gone past a call
 
@@ -163,9 +161,9 @@ pub record Waiter (p : MpiProgram) (f : ℕ) (rank : ℕ) : Type 0 where
 pub waiter : (p : MpiProgram) → IsWellFormed p → (f : ℕ) (call : Call) → call_at p f ≡ Some call → IsFinder call.kind → Waiter p f call.rank
 waiter p is f call there finder = by call.kind refl
   where
-    by : (k : Kind) → call.kind ≡ k → Waiter p f call.rank
+    by : (k : Kind ℕ) → call.kind ≡ k → Waiter p f call.rank
     by (Send mode blocking message) e = absurd (subst IsFinder e finder)
-    by (Receive true pattern) e = record { place = f; call = call; there = there; own = refl; needs = subst (λ (z : Kind). Needs p f z f) (sym e) (refl, refl) }
+    by (Receive true pattern) e = record { place = f; call = call; there = there; own = refl; needs = subst (λ (z : Kind ℕ). Needs p f z f) (sym e) (refl, refl) }
     by (Receive false pattern) e =
         let w = is.waits.each f call there (ap is_start e) in
         let n = is.waits.named w.0 f w.1 w.2 w.3 in
@@ -178,15 +176,11 @@ waiter p is f call there finder = by call.kind refl
           needs = waits w.0 w.1.kind w.3;
         }
       where
-        waits : (c : ℕ) (k : Kind) → operation_of k ≡ Some f → Needs p c k f
-        waits c (Send mode blocking message) e = absurd (cc)
-        waits c (Receive blocking pattern) e = absurd (cc)
-        waits c (MatchedProbe pattern receive) e = absurd (cc)
-        waits c (Probe pattern) e = absurd (cc)
-        waits c (MatchedReceive blocking) e = absurd (cc)
+        waits : (c : ℕ) (k : Kind ℕ) → operation_of k ≡ Some f → Needs p c k f
         waits c (Wait operation) e = (sym (same_Some operation f e), call, there, finder)
-    by (MatchedProbe pattern receive) e = record { place = f; call = call; there = there; own = refl; needs = subst (λ (z : Kind). Needs p f z f) (sym e) refl }
-    by (Probe pattern) e = record { place = f; call = call; there = there; own = refl; needs = subst (λ (z : Kind). Needs p f z f) (sym e) refl }
+        waits c kind e = absurd (cc)
+    by (MatchedProbe pattern receive) e = record { place = f; call = call; there = there; own = refl; needs = subst (λ (z : Kind ℕ). Needs p f z f) (sym e) refl }
+    by (Probe pattern) e = record { place = f; call = call; there = there; own = refl; needs = subst (λ (z : Kind ℕ). Needs p f z f) (sym e) refl }
     by (MatchedReceive blocking) e = absurd (subst IsFinder e finder)
     by (Wait operation) e = absurd (subst IsFinder e finder)
 

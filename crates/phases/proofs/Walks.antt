@@ -7,6 +7,7 @@ use Rattle.std.proofs.lemmas.Option.{same_Some, slice_get_within, slice_get-get_
 use Rattle.calltext.proofs.Conjunctions.{and_true, and_both}
 use Rattle.callorder.specs.declared.calls.Call.{Call}
 use Rattle.callorder.specs.Programs.{MpiProgram, call_at, is_of_rank}
+use Rattle.callorder.specs.Calls.{holds_of}
 use Rattle.semantics.specs.declared.state.Step.{Step}
 use Rattle.semantics.specs.declared.state.Step.TheVariants.{Issue, Match, See}
 use Rattle.semantics.specs.Machine.{Configuration, IsConfigurationOf, first_call, opening, after, after_all, CanFind, CanMatch, CanSee, IsEnabled, IsRun, IsStuck, is_issued_call, is_rank_finished, has_next, has_returned_before, is_returned, can_issue}
@@ -165,9 +166,9 @@ module _ (p : MpiProgram) (x : Cut) (one : IsWellFormed x.first) (two : IsWellFo
       record {
         issued = λ c call there.
             let range : call.rank < p.ranks = omega (arith, (one.in_range c call there).own, cut.first.ranks) in
-            ap (is_issued_call m (c + x.moved_first call.rank)) (cut.first.calls c call there)
+            ap (holds_of (is_issued_call m (c + x.moved_first call.rank))) (cut.first.calls c call there)
             ∙ issued_first call.rank _ _ _ c (both.stage call.rank range) (rank_is (call_at x.first c) call call.rank there refl)
-            ∙ sym (ap (is_issued_call m1 c) there);
+            ∙ sym (ap (holds_of (is_issued_call m1 c)) there);
         buffered = both.buffered_first;
         partner = both.partner_first;
       }
@@ -177,9 +178,9 @@ module _ (p : MpiProgram) (x : Cut) (one : IsWellFormed x.first) (two : IsWellFo
       record {
         issued = λ c call there.
             let range : call.rank < p.ranks = omega (arith, (two.in_range c call there).own, cut.second.ranks) in
-            ap (is_issued_call m (c + x.moved_second call.rank)) (cut.second.calls c call there)
+            ap (holds_of (is_issued_call m (c + x.moved_second call.rank))) (cut.second.calls c call there)
             ∙ issued_second call.rank _ _ _ c range (both.stage call.rank range) (rank_is (call_at x.second c) call call.rank there refl)
-            ∙ sym (ap (is_issued_call m2 c) there);
+            ∙ sym (ap (holds_of (is_issued_call m2 c)) there);
         buffered = both.buffered_second;
         partner = both.partner_second;
       }

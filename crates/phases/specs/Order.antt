@@ -13,7 +13,7 @@ use Rattle.phases.specs.Cuts.{Cut}
 use Rattle.phases.specs.Conditions.{IsOfOnlySender}
 
 -- a receive, a matched probe or a probe
-abbrev pub IsFinder : Kind → Type 0
+abbrev pub IsFinder : Kind ℕ → Type 0
 IsFinder (Send mode blocking message) = ⊥
 IsFinder (Receive blocking pattern) = Unit {0}
 IsFinder (MatchedProbe pattern receive) = Unit {0}
@@ -22,7 +22,7 @@ IsFinder (MatchedReceive blocking) = ⊥
 IsFinder (Wait operation) = ⊥
 
 -- the call at a place, of this kind, returns only after that finder has found a message
-abbrev pub Needs : MpiProgram → ℕ → Kind → ℕ → Type 0
+abbrev pub Needs : MpiProgram → ℕ → Kind ℕ → ℕ → Type 0
 Needs p c (Send mode blocking message) o = ⊥
 Needs p c (Receive blocking pattern) o = (blocking ≡ true) × (o ≡ c)
 Needs p c (MatchedProbe pattern receive) o = o ≡ c

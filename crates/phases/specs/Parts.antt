@@ -2,8 +2,7 @@
 use Rattle.std.specs.Prelude.{◌≡◌, ℕ, ◌+◌, ◌<◌, Some}
 use Rattle.callorder.specs.declared.calls.Call.{Call}
 use Rattle.callorder.specs.declared.calls.Kind.{Kind}
-use Rattle.callorder.specs.declared.calls.Kind.TheVariants.{Send, Receive, MatchedProbe, Probe, MatchedReceive, Wait}
-use Rattle.callorder.specs.Calls.{operation_of, is_start, receive_of, is_matched_receive}
+use Rattle.callorder.specs.Calls.{operation_of, is_start, receive_of, is_matched_receive, map_link}
 use Rattle.callorder.specs.Programs.{MpiProgram, HasRanksBelow, IsPairing, call_at}
 use Rattle.run_laws.specs.Laws.{IsInRankOrder}
 
@@ -18,13 +17,8 @@ pub record IsWellFormed (p : MpiProgram) : Type 0 where
 
 -- what a call does where all calls of its rank stand so many places further on: the calls that it
 -- names stand there too
-abbrev pub moved_kind : ℕ → Kind → Kind
-moved_kind by (Send mode blocking message) = Send mode blocking message
-moved_kind by (Receive blocking pattern) = Receive blocking pattern
-moved_kind by (MatchedProbe pattern receive) = MatchedProbe pattern (receive + by)
-moved_kind by (Probe pattern) = Probe pattern
-moved_kind by (MatchedReceive blocking) = MatchedReceive blocking
-moved_kind by (Wait operation) = Wait (operation + by)
+abbrev pub moved_kind : ℕ → Kind ℕ → Kind ℕ
+moved_kind by kind = map_link (λ (o : ℕ). o + by) kind
 
 abbrev pub moved_call : ℕ → Call → Call
 moved_call by call = record { rank = call.rank; kind = moved_kind by call.kind }

@@ -3,7 +3,7 @@ use Rattle.std.specs.Prelude.{◌≡◌, ℕ, ◌+◌, ◌-◌, ◌<◌, ◌≤�
 use Rattle.std.specs.List.{count_by}
 use Rattle.callorder.specs.declared.calls.Call.{Call}
 use Rattle.callorder.specs.declared.calls.Kind.{Kind}
-use Rattle.callorder.specs.declared.calls.Kind.TheVariants.{Send, Receive, MatchedProbe, Probe, MatchedReceive, Wait}
+use Rattle.callorder.specs.Calls.{map_link}
 use Rattle.callorder.specs.Programs.{MpiProgram}
 use Rattle.semantics.specs.Machine.{first_call}
 use Rattle.phases.specs.Parts.{IsPart, IsWellFormed}
@@ -15,13 +15,8 @@ abbrev pub IsFront : MpiProgram → MpiProgram → Type 0
 IsFront q d = IsPart q d (λ rank. first_call q rank - first_call d rank)
 
 -- what a call does where all calls of its rank stand so many places further in front
-abbrev pub lowered_kind : ℕ → Kind → Kind
-lowered_kind by (Send mode blocking message) = Send mode blocking message
-lowered_kind by (Receive blocking pattern) = Receive blocking pattern
-lowered_kind by (MatchedProbe pattern receive) = MatchedProbe pattern (receive - by)
-lowered_kind by (Probe pattern) = Probe pattern
-lowered_kind by (MatchedReceive blocking) = MatchedReceive blocking
-lowered_kind by (Wait operation) = Wait (operation - by)
+abbrev pub lowered_kind : ℕ → Kind ℕ → Kind ℕ
+lowered_kind by kind = map_link (λ (o : ℕ). o - by) kind
 
 abbrev pub lowered_call : ℕ → Call → Call
 lowered_call by call = record { rank = call.rank; kind = lowered_kind by call.kind }

@@ -15,10 +15,10 @@ abbrev pub address_found : ℕ → Option Pattern → Option Address
 address_found rank None = None
 address_found rank (Some pattern) = Some (record { rank = rank; communicator = pattern.communicator })
 
-abbrev pub address_taken : ℕ → Kind → Option Address
+abbrev pub address_taken : ℕ → Kind ℕ → Option Address
 address_taken rank kind = if is_probe_kind kind then None else address_found rank (pattern_of kind)
 
-abbrev pub address_sent : ℕ → Kind → Option Message → Option Address
+abbrev pub address_sent : ℕ → Kind ℕ → Option Message → Option Address
 address_sent rank kind None = address_taken rank kind
 address_sent rank kind (Some message) = Some (record { rank = message.destination; communicator = message.communicator })
 

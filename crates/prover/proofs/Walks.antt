@@ -11,8 +11,8 @@ use Rattle.callorder.specs.declared.calls.Call.{Call}
 use Rattle.callorder.specs.declared.calls.Message.{Message}
 use Rattle.callorder.specs.declared.calls.Pattern.{Pattern}
 use Rattle.callorder.specs.declared.calls.Kind.{Kind}
-use Rattle.callorder.specs.Calls.{message_of, pattern_of, is_probe_kind, fits_between}
-use Rattle.callorder.specs.Programs.{MpiProgram, call_at, fit_calls, is_probe, is_probe_call}
+use Rattle.callorder.specs.Calls.{message_of, pattern_of, is_probe_kind, fits_between, both_hold, holds_of, fits}
+use Rattle.callorder.specs.Programs.{MpiProgram, call_at, is_probe, kind_holds}
 use Rattle.semantics.specs.declared.state.Step.{Step}
 use Rattle.semantics.specs.declared.state.Step.TheVariants.{Issue, Match, See}
 use Rattle.semantics.specs.Machine.{Configuration, opening, after, after_all, is_issued, is_matched, is_open, is_rank_finished, can_issue_next, CanFind, IsConfigurationOf, IsEnabled, IsRun, IsStuckRun, IsFinishedRun}
@@ -41,7 +41,7 @@ either : (b : Bool) → (b ≡ true) ⊎ (b ≡ false)
 either true = inl refl
 either false = inr refl
 
-issues_in_range : (p : MpiProgram) (m : Configuration) (rank : ℕ) (buffered : Bool) (c : Option ℕ) → slice_get m.next rank ≡ c → can_issue_next p m rank buffered c ≡ true → rank < length m.next
+issues_in_range : (p : MpiProgram) (m : Configuration) (rank : ℕ) (buffered : Bool) (c : Option ℕ) → slice_get m.next rank ≡ c → holds_of (can_issue_next p m rank buffered) c ≡ true → rank < length m.next
 issues_in_range p m rank buffered None there can = absurd cc
 issues_in_range p m rank buffered (Some c) there can = slice_get_within m.next rank c there
 
@@ -80,12 +80,12 @@ between_some sender None taker pattern e = absurd cc
 between_some sender (Some message) taker None e = absurd cc
 between_some sender (Some message) taker (Some pattern) e = (refl, refl)
 
-finds_where : (sees : Bool) (kind : Kind) → is_some (pattern_of kind) ≡ true → is_probe_kind kind ≡ sees → finds sees kind ≡ true
+finds_where : (sees : Bool) (kind : Kind ℕ) → is_some (pattern_of kind) ≡ true → is_probe_kind kind ≡ sees → finds sees kind ≡ true
 finds_where true kind some is = is
 finds_where false kind some is = and_from (is_some (pattern_of kind)) (not (is_probe_kind kind)) some (ap not is)
 
 module _ (p : MpiProgram) (m : Configuration) (sees : Bool) (s f : ℕ) (send_open : is_open p m s ≡ true) (finder_open : is_open p m f ≡ true) where
-  both_open : (a b : Option Call) → call_at p s ≡ a → call_at p f ≡ b → fit_calls a b ≡ true → is_probe_call b ≡ sees
+  both_open : (a b : Option Call) → call_at p s ≡ a → call_at p f ≡ b → both_hold fits a b ≡ true → kind_holds is_probe_kind b ≡ sees
       → (s < length p.calls) × (is_open_send_call p m s a ≡ true) × (f < length p.calls) × (is_open_finder_call p m sees f b ≡ true)
   both_open None b at_s at_f fit kind = absurd cc
   both_open (Some x) None at_s at_f fit kind = absurd cc

@@ -38,7 +38,7 @@ abbrev pub is_open_send : MpiProgram → Configuration → ℕ → Bool
 is_open_send p m c = is_open_send_call p m c (call_at p c)
 
 -- calls of this kind are probes, which see messages, or takers, which take them out
-abbrev pub finds : Bool → Kind → Bool
+abbrev pub finds : Bool → Kind ℕ → Bool
 finds true kind = is_probe_kind kind
 finds false kind = is_some (pattern_of kind) && not (is_probe_kind kind)
 

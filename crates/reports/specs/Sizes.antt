@@ -39,7 +39,7 @@ has_choice calls finder = has_star (pattern_of finder.kind) && nat_lt 1 (senders
 abbrev pub choices : List Call → ℕ
 choices calls = length (filter (has_choice calls) calls)
 
-abbrev pub is_standard : Kind → Bool
+abbrev pub is_standard : Kind ℕ → Bool
 is_standard (Send Standard blocking message) = true
 is_standard _ = false
 

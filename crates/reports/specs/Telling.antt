@@ -15,7 +15,7 @@ use Rattle.prooflog.specs.Steps.{step_line, written}
 
 -- the verb of a call of this kind, as a program's text has it; a nonblocking call is one that is
 -- started
-abbrev pub verb_of : Kind → Verb
+abbrev pub verb_of : Kind ℕ → Verb
 verb_of (Send mode blocking message) = verb.Send mode (not blocking)
 verb_of (Receive blocking pattern) = verb.Receive (not blocking)
 verb_of (MatchedProbe pattern receive) = verb.MatchedProbe

@@ -6,8 +6,9 @@ use Rattle.std.proofs.lemmas.Bool.{cases_lt, and_parts, eq-eqb}
 use Rattle.std.proofs.lemmas.Bool.Decides.{nat_tests}
 use Rattle.std.proofs.lemmas.Option.{slice_get_within}
 use Rattle.callorder.specs.declared.calls.Call.{Call}
-use Rattle.callorder.specs.Programs.{MpiProgram, IsProgram, call_at, is_of_rank, are_fit, takes, are_of_one_rank}
-use Rattle.semantics.specs.Machine.{Configuration, CanFind, IsStuck, first_call, is_issued, is_issued_call, is_buffered, is_fetched, is_matched, partner_of, fetches_call, is_returned, has_returned_before, may_be, can_issue, can_issue_next, can_issue_call, is_rank_finished}
+use Rattle.callorder.specs.Programs.{MpiProgram, IsProgram, call_at, is_of_rank, are_fit, takes, are_of_one_rank, kind_holds}
+use Rattle.callorder.specs.Calls.{holds_of, fits}
+use Rattle.semantics.specs.Machine.{Configuration, CanFind, IsStuck, first_call, is_issued, is_issued_call, is_buffered, is_fetched, is_matched, partner_of, is_returned, has_returned_before, may_be, can_issue, can_issue_next, can_issue_call, is_rank_finished, fetches}
 use Rattle.semantics.proofs.Lengths.{Issues, issues}
 use Rattle.semantics.proofs.Runs.{IsStuck-made}
 use Rattle.candidates.specs.Pairs.{places}
@@ -33,7 +34,7 @@ use Rattle.run_from_formula.proofs.Stages.{IsStage, before_first, first_most}
 
 -- ---- what the end says of the world
 
-within_if_issued : (p : MpiProgram) (m : Configuration) (c : ℕ) (x : Option Call) → call_at p c ≡ x → is_issued_call m c x ≡ true → c < length p.calls
+within_if_issued : (p : MpiProgram) (m : Configuration) (c : ℕ) (x : Option Call) → call_at p c ≡ x → holds_of (is_issued_call m c) x ≡ true → c < length p.calls
 within_if_issued p m c None e h = absurd (cc)
 within_if_issued p m c (Some x) e h = slice_get_within p.calls c x e
 
@@ -68,7 +69,7 @@ module _ (p : MpiProgram) (world : World) (is : IsProgram p) (says : Consequence
 
   -- ---- what follows where a call has returned
 
-  unless_off : (t : ℕ) (o : Option ℕ) → receive_on_handle p t ≡ o → fetches_call p m (call_at p t) ≡ true → list_any (is_right world) (unless_issued o) ≡ false
+  unless_off : (t : ℕ) (o : Option ℕ) → receive_on_handle p t ≡ o → kind_holds (fetches p m) (call_at p t) ≡ true → list_any (is_right world) (unless_issued o) ≡ false
   unless_off t None e h = refl
   unless_off t (Some receive) e h =
       let i = issued_end receive (handle_issued p m t receive h e) in
@@ -120,7 +121,7 @@ module _ (p : MpiProgram) (world : World) (is : IsProgram p) (says : Consequence
       let returned = or_then (is_of_rank (call_at p d) r) (is_returned p m d) back of_rank in
       let at : slice_index m.next other.0.rank ≡ suc d = ap (slice_index m.next) rank ∙ next in
       let past : nat_lt d (slice_index m.next other.0.rank) ≡ true = rw at (grind (arith, nat_tests)) in
-      let there_issued : is_issued p m d ≡ true = ap (is_issued_call m d) other.1 ∙ past in
+      let there_issued : is_issued p m d ≡ true = ap (holds_of (is_issued_call m d)) other.1 ∙ past in
       after_return d (is_true (issued (suc d))) (says.next (suc d) d (slice_get_within p.calls (suc d) call there) (previous_is p d same)) there_issued returned
 
   place_said : (c r : ℕ) (call : Call) → call_at p c ≡ Some call → call.rank ≡ r → slice_index m.next r ≡ c → has_returned_before p m r c ≡ true → world.has (issued c) ≡ true
@@ -129,8 +130,8 @@ module _ (p : MpiProgram) (world : World) (is : IsProgram p) (says : Consequence
 
   back_before : (r : ℕ) (b : Bool) → can_issue p m r b ≡ true → (w : Issues p m r) → has_returned_before p m r w.place ≡ true
   back_before r b h w =
-      let one : can_issue_call p m r b w.place (call_at p w.place) ≡ true = subst (λ (z : Option ℕ). can_issue_next p m r b z ≡ true) w.next h in
-      let two : can_issue_call p m r b w.place (Some w.call) ≡ true = subst (λ (z : Option Call). can_issue_call p m r b w.place z ≡ true) w.there one in
+      let one : holds_of (can_issue_call p m r b w.place) (call_at p w.place) ≡ true = subst (λ (z : Option ℕ). holds_of (can_issue_next p m r b) z ≡ true) w.next h in
+      let two : holds_of (can_issue_call p m r b w.place) (Some w.call) ≡ true = subst (λ (z : Option Call). holds_of (can_issue_call p m r b w.place) z ≡ true) w.there one in
       let front = (and_parts (w.call.rank == r && has_returned_before p m r w.place) (may_be p.policy w.call.kind b) two).0 in
       (and_parts (w.call.rank == r) (has_returned_before p m r w.place) front).1
 
@@ -196,7 +197,7 @@ module _ (p : MpiProgram) (world : World) (is : IsProgram p) (says : Consequence
       let back : has_returned_before p m call.rank (suc c) ≡ true = subst (λ (z : ℕ). has_returned_before p m call.rank z ≡ true) next parts.1 in
       let of_rank : is_of_rank (call_at p c) call.rank ≡ true = ap (λ (z : Option Call). is_of_rank z call.rank) there ∙ eq-eqb call.rank call.rank refl in
       let past : nat_lt c (slice_index m.next call.rank) ≡ true = rw next (grind (arith, nat_tests)) in
-      let wrong : not (world.has (unfinished (rank_of p c))) ≡ true = after_return c (is_false (unfinished (rank_of p c))) h (ap (is_issued_call m c) there ∙ past) (or_then (is_of_rank (call_at p c) call.rank) (is_returned p m c) back of_rank) in
+      let wrong : not (world.has (unfinished (rank_of p c))) ≡ true = after_return c (is_false (unfinished (rank_of p c))) h (ap (holds_of (is_issued_call m c)) there ∙ past) (or_then (is_of_rank (call_at p c) call.rank) (is_returned p m c) back of_rank) in
       let right : not (world.has (unfinished (rank_of p c))) ≡ false = ap not left in
       absurd (cc)
 

@@ -10,7 +10,8 @@ use Rattle.calltext.specs.declared.call.Policy.TheVariants.{Any, Never, Always}
 use Rattle.callorder.specs.declared.calls.Call.{Call}
 use Rattle.callorder.specs.declared.calls.Kind.{Kind}
 use Rattle.callorder.specs.declared.calls.Kind.TheVariants.{Send}
-use Rattle.callorder.specs.Programs.{MpiProgram, IsProgram, call_at, is_of_rank, are_of_one_rank_calls}
+use Rattle.callorder.specs.Programs.{MpiProgram, IsProgram, call_at, is_of_rank, have_one_rank}
+use Rattle.callorder.specs.Calls.{both_hold, holds_of, fits}
 use Rattle.semantics.specs.declared.state.Step.TheVariants.{Issue}
 use Rattle.semantics.specs.Machine.{Configuration, first_call, after, is_issued, is_issued_call, is_buffered, has_returned_before, may_be, can_issue, can_issue_next, can_issue_call}
 use Rattle.semantics.proofs.Lengths.{Issues}
@@ -32,7 +33,7 @@ use Rattle.run_from_formula.proofs.Returning.{has_returned}
 -- ---- the choice of buffering
 
 -- what the policy's clause says is what the policy allows
-allowed : (world : World) (c : ℕ) (policy : Policy) (k : Kind) → (is_standard_kind k ≡ true → Hold world (buffered_under policy c)) → may_be policy k (is_standard_kind k && world.has (buffered c)) ≡ true
+allowed : (world : World) (c : ℕ) (policy : Policy) (k : Kind ℕ) → (is_standard_kind k ≡ true → Hold world (buffered_under policy c)) → may_be policy k (is_standard_kind k && world.has (buffered c)) ≡ true
 allowed world c Any (Send Standard blocking message) says = refl
 allowed world c Never (Send Standard blocking message) says = or_only _ (and_parts (not (world.has (buffered c)) || false) true (says refl)).0
 allowed world c Always (Send Standard blocking message) says = or_only _ (and_parts (world.has (buffered c) || false) true (says refl)).0
@@ -48,7 +49,7 @@ first_start p d before call is there next apart =
     before_first p call.rank d before is there (grind (arith, nat_tests))
 
 -- an issue leaves other calls as they are
-other_issued : (m : Configuration) (r c d : ℕ) (b : Bool) (x : Option Call) → r < length m.next → slice_index m.next r ≡ c → d ≢ c → is_issued_call (after m (Issue r b)) d x ≡ is_issued_call m d x
+other_issued : (m : Configuration) (r c d : ℕ) (b : Bool) (x : Option Call) → r < length m.next → slice_index m.next r ≡ c → d ≢ c → holds_of (is_issued_call (after m (Issue r b)) d) x ≡ holds_of (is_issued_call m d) x
 other_issued m r c d b None within at differ = refl
 other_issued m r c d b (Some x) within at differ =
     elim (cases_eq x.rank r) [
@@ -72,10 +73,10 @@ module _ (p : MpiProgram) (world : World) (is : IsProgram p) (says : Consequence
       let before = there_within p.calls d (omega (arith, at, below)) in
       let here : call_at p (suc d) ≡ Some call = subst (λ (z : ℕ). call_at p z ≡ Some call) at there in
       let rank : before.0.rank ≡ call.rank = eqb-true before.0.rank call.rank (subst (λ (z : Option Call). is_of_rank z call.rank ≡ true) before.1 same) in
-      let ranks : are_of_one_rank_calls (Some before.0) (Some call) ≡ true = eq-eqb call.rank before.0.rank (sym rank) in
-      let one : are_of_one_rank_calls (call_at p d) (call_at p (suc d)) ≡ true = rw (before.1, here) ranks in
+      let ranks : both_hold have_one_rank (Some before.0) (Some call) ≡ true = eq-eqb call.rank before.0.rank (sym rank) in
+      let one : both_hold have_one_rank (call_at p d) (call_at p (suc d)) ≡ true = rw (before.1, here) ranks in
       let back = has_returned p world is says m (issue_of c ∷ rest) c stage (omega arith, later) d at below one does in
-      let past : nat_lt d (slice_index m.next before.0.rank) ≡ true = subst (λ (z : Option Call). is_issued_call m d z ≡ true) before.1 back.0 in
+      let past : nat_lt d (slice_index m.next before.0.rank) ≡ true = subst (λ (z : Option Call). holds_of (is_issued_call m d) z ≡ true) before.1 back.0 in
       let own : nat_lt d (slice_index m.next call.rank) ≡ true = subst (λ (z : ℕ). nat_lt d (slice_index m.next z) ≡ true) rank past in
       (grind (arith, nat_tests), or_right (not (is_of_rank (call_at p d) call.rank)) _ back.1)
   after_call d false at apart =
@@ -96,7 +97,7 @@ module _ (p : MpiProgram) (world : World) (is : IsProgram p) (says : Consequence
   next_at : slice_index m.next call.rank ≡ c
   next_at =
       let ready = ready_at c refl in
-      let open_yet : nat_lt c (slice_index m.next call.rank) ≡ false = subst (λ (z : Option Call). is_issued_call m c z ≡ false) there not_yet in
+      let open_yet : nat_lt c (slice_index m.next call.rank) ≡ false = subst (λ (z : Option Call). holds_of (is_issued_call m c) z ≡ false) there not_yet in
       let most : slice_index m.next call.rank ≤ c = grind (arith, nat_tests) in
       omega (arith, ready.0, most)
 
@@ -116,9 +117,9 @@ module _ (p : MpiProgram) (world : World) (is : IsProgram p) (says : Consequence
       let kind : is_standard p c ≡ is_standard_kind call.kind = ap is_standard_call there in
       let may : may_be p.policy call.kind (is_standard_kind call.kind && world.has (buffered c)) ≡ true = allowed world c p.policy call.kind (λ h. says.policy c below (kind ∙ h)) in
       let may_here : may_be p.policy call.kind choice ≡ true = subst (λ (z : Bool). may_be p.policy call.kind (z && world.has (buffered c)) ≡ true) (sym kind) may in
-      let one : can_issue_call p m call.rank choice c (Some call) ≡ true = and_both _ _ (and_both _ _ (eq-eqb call.rank call.rank refl) (ready_at c refl).1) may_here in
-      let two : can_issue_call p m call.rank choice c (call_at p c) ≡ true = subst (λ (z : Option Call). can_issue_call p m call.rank choice c z ≡ true) (sym there) one in
-      subst (λ (z : Option ℕ). can_issue_next p m call.rank choice z ≡ true) (sym next_there) two
+      let one : holds_of (can_issue_call p m call.rank choice c) (Some call) ≡ true = and_both _ _ (and_both _ _ (eq-eqb call.rank call.rank refl) (ready_at c refl).1) may_here in
+      let two : holds_of (can_issue_call p m call.rank choice c) (call_at p c) ≡ true = subst (λ (z : Option Call). holds_of (can_issue_call p m call.rank choice c) z ≡ true) (sym there) one in
+      subst (λ (z : Option ℕ). holds_of (can_issue_next p m call.rank choice) z ≡ true) (sym next_there) two
 
   -- ---- the stage after it
 

@@ -7,6 +7,7 @@ use Rattle.std.proofs.lemmas.Bool.Decides.{nat_tests}
 use Rattle.std.proofs.lemmas.Option.{same_Some}
 use Rattle.callorder.specs.declared.calls.Call.{Call}
 use Rattle.callorder.specs.Programs.{MpiProgram, call_at, are_fit, is_probe, takes, sees}
+use Rattle.callorder.specs.Calls.{holds_of, fits}
 use Rattle.semantics.specs.declared.state.Step.TheVariants.{Match, See}
 use Rattle.semantics.specs.Machine.{Configuration, CanFind, CanMatch, CanSee, after, is_issued_call, partner_of}
 use Rattle.run_laws.proofs.Matched.{no_send_is_taker}
@@ -54,11 +55,11 @@ kept_out true true h = refl
 kept_out true false h = absurd (h refl refl)
 kept_out false b h = refl
 
-same_issued : (m : Configuration) (s t c : ℕ) (x : Option Call) → is_issued_call (after m (Match s t)) c x ≡ is_issued_call m c x
+same_issued : (m : Configuration) (s t c : ℕ) (x : Option Call) → holds_of (is_issued_call (after m (Match s t)) c) x ≡ holds_of (is_issued_call m c) x
 same_issued m s t c None = refl
 same_issued m s t c (Some x) = refl
 
-same_issued_by_see : (m : Configuration) (s t c : ℕ) (x : Option Call) → is_issued_call (after m (See s t)) c x ≡ is_issued_call m c x
+same_issued_by_see : (m : Configuration) (s t c : ℕ) (x : Option Call) → holds_of (is_issued_call (after m (See s t)) c) x ≡ holds_of (is_issued_call m c) x
 same_issued_by_see m s t c None = refl
 same_issued_by_see m s t c (Some x) = refl
 

@@ -8,9 +8,9 @@ use Rattle.callorder.specs.declared.calls.Call.{Call}
 use Rattle.callorder.specs.declared.calls.Kind.{Kind}
 use Rattle.callorder.specs.declared.calls.Kind.TheVariants.{Send, Receive, MatchedProbe, Probe, MatchedReceive, Wait}
 use Rattle.callorder.specs.declared.calls.Pattern.{Pattern}
-use Rattle.callorder.specs.Calls.{receive_of, pattern_of, is_probe_kind}
-use Rattle.callorder.specs.Programs.{MpiProgram, IsProgram, call_at, are_of_one_rank, are_of_one_rank_calls, is_probe, is_probe_call, fit_calls}
-use Rattle.semantics.specs.Machine.{Configuration, is_issued, is_buffered, is_fetched, partner_of, fetches, fetches_call, fetches_partner, is_returned}
+use Rattle.callorder.specs.Calls.{receive_of, pattern_of, is_probe_kind, both_hold, holds_of, fits}
+use Rattle.callorder.specs.Programs.{MpiProgram, IsProgram, call_at, are_of_one_rank, is_probe, kind_holds, have_one_rank}
+use Rattle.semantics.specs.Machine.{Configuration, is_issued, is_buffered, is_fetched, partner_of, fetches, fetches_partner, is_returned}
 use Rattle.semantics.proofs.RankOrder.{one_rank_between}
 use Rattle.formula.specs.declared.facts.Event.{Event}
 use Rattle.formula.specs.declared.facts.Event.TheVariants.{Issue as issue_of, Match as match_of}
@@ -31,7 +31,7 @@ use Rattle.run_from_formula.proofs.Stages.{IsStage, issued_by, sent_by, received
 
 -- ---- calls of one rank
 
-one_rank_both : (x y z : Option Call) → are_of_one_rank_calls x z ≡ true → are_of_one_rank_calls y z ≡ true → are_of_one_rank_calls x y ≡ true
+one_rank_both : (x y z : Option Call) → both_hold have_one_rank x z ≡ true → both_hold have_one_rank y z ≡ true → both_hold have_one_rank x y ≡ true
 one_rank_both None y z h k = absurd (cc)
 one_rank_both (Some x) None z h k = absurd (cc)
 one_rank_both (Some x) (Some y) None h k = absurd (cc)
@@ -45,7 +45,7 @@ previous_is p c same = ap (λ (b : Bool). if b then Some c else None) same
 
 -- ---- a send that a condition names is a standard one
 
-standard_kind : (k : Kind) (o s : ℕ) → when_done_kind k o ≡ if_buffered_or_fetched s → is_standard_kind k ≡ true
+standard_kind : (k : Kind ℕ) (o s : ℕ) → when_done_kind k o ≡ if_buffered_or_fetched s → is_standard_kind k ≡ true
 standard_kind (Send Standard blocking message) o s e = refl
 standard_kind (Send Synchronous blocking message) o s e = absurd (cc)
 standard_kind (Send Buffered blocking message) o s e = absurd (cc)
@@ -64,7 +64,7 @@ standard_done p o s e =
     let same : o ≡ s = done_names (call_at p o) o s e in
     subst (λ (z : ℕ). is_standard p z ≡ true) same (standard_call (call_at p o) o s e)
 
-standard_returned : (p : MpiProgram) (c s : ℕ) (k : Kind) → when_returned_kind p k c ≡ if_buffered_or_fetched s → is_standard p s ≡ true
+standard_returned : (p : MpiProgram) (c s : ℕ) (k : Kind ℕ) → when_returned_kind p k c ≡ if_buffered_or_fetched s → is_standard p s ≡ true
 standard_returned p c s (Send mode blocking message) e = standard_done p c s (blocking_names blocking (when_done p c) s e)
 standard_returned p c s (Receive blocking pattern) e = standard_done p c s (blocking_names blocking (when_done p c) s e)
 standard_returned p c s (MatchedProbe pattern receive) e = standard_done p c s e
@@ -80,9 +80,9 @@ names_standard p c s call there e = standard_returned p c s call.kind (subst (λ
 when_probe : (p : MpiProgram) (t receive : ℕ) (call : Call) (pattern : Pattern) → call_at p t ≡ Some call → call.kind ≡ MatchedProbe pattern receive → when_returned p t ≡ if_matched t
 when_probe p t receive call pattern there kind =
     ap (λ (z : Option Call). when_returned_call p z t) there ∙
-    ap (λ (k : Kind). when_returned_kind p k t) kind ∙
+    ap (λ (k : Kind ℕ). when_returned_kind p k t) kind ∙
     ap (λ (z : Option Call). when_done_call z t) there ∙
-    ap (λ (k : Kind). when_done_kind k t) kind
+    ap (λ (k : Kind ℕ). when_done_kind k t) kind
 
 module _ (p : MpiProgram) (world : World) (is : IsProgram p) (says : Consequences p world) where
   -- where a call is issued, an earlier one of its rank is, and no later
@@ -106,8 +106,8 @@ module _ (p : MpiProgram) (world : World) (is : IsProgram p) (says : Consequence
       let other = is.probes.named t receive call there named in
       let after_it = is.receives_later t receive call there named in
       let below = slice_get_within p.calls receive other.0 other.1 in
-      let ranks : are_of_one_rank_calls (Some call) (Some other.0) ≡ true = eq-eqb other.0.rank call.rank other.2 in
-      let same : are_of_one_rank_calls (call_at p t) (call_at p receive) ≡ true = rw (there, other.1) ranks in
+      let ranks : both_hold have_one_rank (Some call) (Some other.0) ≡ true = eq-eqb other.0.rank call.rank other.2 in
+      let same : both_hold have_one_rank (call_at p t) (call_at p receive) ≡ true = rw (there, other.1) ranks in
       let rest = one_rank_between short p is t (suc t) receive (omega arith) (omega (arith, after_it)) same in
       let pair = one_rank_both (call_at p t) (call_at p (suc t)) (call_at p receive) same rest in
       let reach = chain (receive - suc t) (suc t) receive (omega (arith, after_it)) below rest i in
@@ -117,12 +117,12 @@ module _ (p : MpiProgram) (world : World) (is : IsProgram p) (says : Consequence
 
 -- ---- what a call waits for
 
-fetched_from : (p : MpiProgram) (m : Configuration) (s t : ℕ) (call : Call) (k : Kind) → partner_of m s ≡ Some t → call_at p t ≡ Some call → call.kind ≡ k → fetches p m k ≡ true → is_fetched p m s ≡ true
+fetched_from : (p : MpiProgram) (m : Configuration) (s t : ℕ) (call : Call) (k : Kind ℕ) → partner_of m s ≡ Some t → call_at p t ≡ Some call → call.kind ≡ k → fetches p m k ≡ true → is_fetched p m s ≡ true
 fetched_from p m s t call k partner there kind h =
-    ap (fetches_partner p m) partner ∙ ap (fetches_call p m) there ∙ ap (fetches p m) kind ∙ h
+    ap (holds_of (fetches_partner p m)) partner ∙ ap (kind_holds (fetches p m)) there ∙ ap (fetches p m) kind ∙ h
 
 module _ (p : MpiProgram) (world : World) (is : IsProgram p) (says : Consequences p world) (m : Configuration) (left : List Event) (c : ℕ) (stage : IsStage p world m left) (later : Each (λ y. world.clock (issue_of c) ≤ world.clock y) left) where
-  fetched_kind : (s : ℕ) (w : FetchedBefore p world c s) (call : Call) → call_at p w.taker ≡ Some call → (k : Kind) → call.kind ≡ k → is_fetched p m s ≡ true
+  fetched_kind : (s : ℕ) (w : FetchedBefore p world c s) (call : Call) → call_at p w.taker ≡ Some call → (k : Kind ℕ) → call.kind ≡ k → is_fetched p m s ≡ true
   fetched_kind s w call there (Receive blocking pattern) kind =
       let none : receive_on_handle p w.taker ≡ None = ap receive_of_call there ∙ ap receive_of kind in
       let earlier : world.clock (match_of w.taker) < world.clock (issue_of c) = subst (λ (o : Option ℕ). world.clock (event_of_fetch o w.taker) < world.clock (issue_of c)) none w.earlier in
@@ -136,13 +136,13 @@ module _ (p : MpiProgram) (world : World) (is : IsProgram p) (says : Consequence
       fetched_from p m s w.taker call (MatchedProbe pattern receive) partner there kind (issued_by p world m left (issue_of c) stage later receive first.0 i earlier)
   fetched_kind s w call there (Probe pattern) kind =
       absurd (
-      let yes : is_probe p w.taker ≡ true = ap is_probe_call there ∙ ap is_probe_kind kind in
+      let yes : is_probe p w.taker ≡ true = ap (kind_holds is_probe_kind) there ∙ ap is_probe_kind kind in
       let no_see = no_probe p s w.taker w.fits in
       cc
       )
-  fetched_kind s w call there (Send mode blocking message) kind = absurd (no_pattern call (call_at p s) (ap pattern_of kind) (subst (λ (z : Option Call). fit_calls (call_at p s) z ≡ true) there (takes_fit p s w.taker w.fits)))
-  fetched_kind s w call there (MatchedReceive blocking) kind = absurd (no_pattern call (call_at p s) (ap pattern_of kind) (subst (λ (z : Option Call). fit_calls (call_at p s) z ≡ true) there (takes_fit p s w.taker w.fits)))
-  fetched_kind s w call there (Wait operation) kind = absurd (no_pattern call (call_at p s) (ap pattern_of kind) (subst (λ (z : Option Call). fit_calls (call_at p s) z ≡ true) there (takes_fit p s w.taker w.fits)))
+  fetched_kind s w call there (Send mode blocking message) kind = absurd (no_pattern call (call_at p s) (ap pattern_of kind) (subst (λ (z : Option Call). both_hold fits (call_at p s) z ≡ true) there (takes_fit p s w.taker w.fits)))
+  fetched_kind s w call there (MatchedReceive blocking) kind = absurd (no_pattern call (call_at p s) (ap pattern_of kind) (subst (λ (z : Option Call). both_hold fits (call_at p s) z ≡ true) there (takes_fit p s w.taker w.fits)))
+  fetched_kind s w call there (Wait operation) kind = absurd (no_pattern call (call_at p s) (ap pattern_of kind) (subst (λ (z : Option Call). both_hold fits (call_at p s) z ≡ true) there (takes_fit p s w.taker w.fits)))
 
   fetched_now : (s : ℕ) → FetchedBefore p world c s → is_fetched p m s ≡ true
   fetched_now s w =

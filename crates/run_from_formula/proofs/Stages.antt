@@ -7,8 +7,8 @@ use Rattle.std.proofs.lemmas.Option.{slice_get_within}
 use Rattle.callorder.specs.declared.calls.Call.{Call}
 use Rattle.callorder.specs.declared.calls.Message.{Message}
 use Rattle.callorder.specs.declared.calls.Pattern.{Pattern}
-use Rattle.callorder.specs.Calls.{fits_between, message_of, pattern_of}
-use Rattle.callorder.specs.Programs.{MpiProgram, IsProgram, call_at, is_of_rank, are_fit, takes, fit_calls}
+use Rattle.callorder.specs.Calls.{fits_between, message_of, pattern_of, both_hold, holds_of, fits}
+use Rattle.callorder.specs.Programs.{MpiProgram, IsProgram, call_at, is_of_rank, are_fit, takes}
 use Rattle.semantics.specs.Machine.{Configuration, IsConfigurationOf, first_call, opening, is_issued, is_issued_call, is_buffered, partner_of}
 use Rattle.semantics.proofs.Runs.{IsConfigurationOf-opening}
 use Rattle.run_laws.proofs.Issued.{issued_before}
@@ -46,7 +46,7 @@ pattern_there r q None pattern h = absurd (cc)
 pattern_there r q (Some message) None h = absurd (cc)
 pattern_there r q (Some message) (Some pattern) h = refl
 
-taker_there : (x y : Option Call) → fit_calls x y ≡ true → is_finder_call y ≡ true
+taker_there : (x y : Option Call) → both_hold fits x y ≡ true → is_finder_call y ≡ true
 taker_there None y h = absurd (cc)
 taker_there (Some x) None h = absurd (cc)
 taker_there (Some x) (Some y) h = pattern_there x.rank y.rank (message_of x.kind) (pattern_of y.kind) h
@@ -84,7 +84,7 @@ unissued p is c false e = refl
 -- no call stands before its rank's first one
 pub first_most : (p : MpiProgram) (c : ℕ) (call : Call) → IsProgram p → call_at p c ≡ Some call → first_call p call.rank ≤ c
 first_most p c call is there =
-    let off : nat_lt c (slice_index (opening p).next call.rank) ≡ false = subst (λ (z : Option Call). is_issued_call (opening p) c z ≡ false) there (unissued p is c (is_issued p (opening p) c) refl) in
+    let off : nat_lt c (slice_index (opening p).next call.rank) ≡ false = subst (λ (z : Option Call). holds_of (is_issued_call (opening p) c) z ≡ false) there (unissued p is c (is_issued p (opening p) c) refl) in
     let first = opening_next p call.rank (is.in_range c call there).own in
     let most : slice_index (opening p).next call.rank ≤ c = grind (arith, nat_tests) in
     omega (arith, first, most)

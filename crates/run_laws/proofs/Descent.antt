@@ -3,7 +3,8 @@ use Rattle.std.proofs.Common.{◌≡◌, ℕ, zero, suc, ◌+◌, ◌<◌, ◌�
 use Rattle.std.proofs.lemmas.Bool.{cases_eq, eqb-true, eq-eqb}
 use Rattle.std.proofs.lemmas.Bool.Decides.{nat_tests}
 use Rattle.callorder.specs.declared.calls.Call.{Call}
-use Rattle.callorder.specs.Programs.{MpiProgram, call_at, are_fit, is_probe, takes, fit_calls, are_of_one_rank, are_of_one_rank_calls}
+use Rattle.callorder.specs.Programs.{MpiProgram, call_at, are_fit, is_probe, takes, are_of_one_rank, have_one_rank}
+use Rattle.callorder.specs.Calls.{both_hold, holds_of, fits}
 use Rattle.calltext.proofs.Conjunctions.{and_true}
 use Rattle.semantics.specs.Machine.{Configuration, IsEnabled, is_issued_call, is_matched}
 use Rattle.semantics.proofs.Runs.{IsStuck-no_find}
@@ -13,7 +14,7 @@ use Rattle.run_laws.specs.Laws.{IsOpenPair, SomeFindUpTo, SomeFindIsPossible, So
 -- ---- calls of one rank
 
 -- an earlier call of the rank of an issued call is issued
-issued_earlier_call : (m : Configuration) (e s : ℕ) (x y : Option Call) → e < s → are_of_one_rank_calls x y ≡ true → is_issued_call m s y ≡ true → is_issued_call m e x ≡ true
+issued_earlier_call : (m : Configuration) (e s : ℕ) (x y : Option Call) → e < s → both_hold have_one_rank x y ≡ true → holds_of (is_issued_call m s) y ≡ true → holds_of (is_issued_call m e) x ≡ true
 issued_earlier_call m e s None y below same issued = absurd (cc)
 issued_earlier_call m e s (Some x) None below same issued = absurd (cc)
 issued_earlier_call m e s (Some x) (Some y) below same issued = at m.next x.rank y.rank below same issued
@@ -24,7 +25,7 @@ issued_earlier_call m e s (Some x) (Some y) below same issued = at m.next x.rank
         let i : nat_lt s (slice_index next a) ≡ true = rw r at issued in
         grind (arith, nat_tests)
 
-one_rank_over : (x y z : Option Call) → are_of_one_rank_calls x y ≡ true → are_of_one_rank_calls y z ≡ true → are_of_one_rank_calls x z ≡ true
+one_rank_over : (x y z : Option Call) → both_hold have_one_rank x y ≡ true → both_hold have_one_rank y z ≡ true → both_hold have_one_rank x z ≡ true
 one_rank_over None y z a b = absurd (cc)
 one_rank_over (Some x) None z a b = absurd (cc)
 one_rank_over (Some x) (Some y) None a b = absurd (cc)
@@ -33,7 +34,7 @@ one_rank_over (Some x) (Some y) (Some z) a b =
     let f : z.rank ≡ y.rank = eqb-true z.rank y.rank b in
     eq-eqb z.rank x.rank (cc)
 
-own_ranks : (x y : Option Call) → fit_calls x y ≡ true → (are_of_one_rank_calls x x ≡ true) × (are_of_one_rank_calls y y ≡ true)
+own_ranks : (x y : Option Call) → both_hold fits x y ≡ true → (both_hold have_one_rank x x ≡ true) × (both_hold have_one_rank y y ≡ true)
 own_ranks None y fit = absurd (cc)
 own_ranks (Some x) None fit = absurd (cc)
 own_ranks (Some x) (Some y) fit = (eq-eqb x.rank x.rank refl, eq-eqb y.rank y.rank refl)

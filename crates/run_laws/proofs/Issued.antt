@@ -13,11 +13,11 @@ use Rattle.callorder.specs.declared.calls.Call.{Call}
 use Rattle.callorder.specs.declared.calls.Kind.{Kind}
 use Rattle.callorder.specs.declared.calls.Kind.TheVariants.{Send, Receive, MatchedProbe, Probe, MatchedReceive, Wait}
 use Rattle.callorder.specs.declared.calls.Pattern.{Pattern}
-use Rattle.callorder.specs.Calls.{fits_between, message_of, pattern_of, is_probe_kind}
-use Rattle.callorder.specs.Programs.{MpiProgram, call_at, is_of_rank, fit_calls, is_probe_call, are_of_one_rank_calls}
+use Rattle.callorder.specs.Calls.{fits_between, message_of, pattern_of, is_probe_kind, both_hold, holds_of, fits}
+use Rattle.callorder.specs.Programs.{MpiProgram, call_at, is_of_rank, kind_holds, have_one_rank}
 use Rattle.semantics.specs.declared.state.Step.{Step}
 use Rattle.semantics.specs.declared.state.Step.TheVariants.{Issue, Match, See}
-use Rattle.semantics.specs.Machine.{Configuration, first_call, opening, after, after_all, IsRun, is_issued, is_issued_call, is_matched, is_done, is_done_call, is_done_kind, is_returned_call, is_returned_kind, has_returned_before, may_be, can_issue, can_issue_next, can_issue_call}
+use Rattle.semantics.specs.Machine.{Configuration, first_call, opening, after, after_all, IsRun, is_issued, is_issued_call, is_matched, is_done, is_done_kind, is_returned_kind, has_returned_before, may_be, can_issue, can_issue_next, can_issue_call}
 use Rattle.semantics.proofs.Lengths.{issues, runs_name_the_program}
 use Rattle.semantics.proofs.MachineLaws.{next_counts_issues}
 use Rattle.semantics.specs.Laws.{NamesOfProgram, is_issue_of}
@@ -62,7 +62,7 @@ next_of_opening p c r h =
 not_issued : (p : MpiProgram) (c : ℕ) → IsInRankOrder p → is_issued p (opening p) c ≡ false
 not_issued p c order = not_issued_call (call_at p c) refl
   where
-    not_issued_call : (x : Option Call) → call_at p c ≡ x → is_issued_call (opening p) c x ≡ false
+    not_issued_call : (x : Option Call) → call_at p c ≡ x → holds_of (is_issued_call (opening p) c) x ≡ false
     not_issued_call None e = refl
     not_issued_call (Some x) e = next_of_opening p c x.rank (lower_before x.rank p.calls c (λ d y h there. order c d x y h e there))
 
@@ -81,7 +81,7 @@ newly_below next r q c in_range before now =
       | inr differ ↦ absurd (let n : nat_lt c (get_or next q 0) ≡ true = rw (get_or-set_other next r q (get_or next r 0 + 1) 0 differ) at now in cc)
     ]
 
-newly_issued_call : (m : Configuration) (r c : ℕ) (b : Bool) (x : Option Call) → r < length m.next → is_issued_call m c x ≡ false → is_issued_call (after m (Issue r b)) c x ≡ true → slice_get m.next r ≡ Some c
+newly_issued_call : (m : Configuration) (r c : ℕ) (b : Bool) (x : Option Call) → r < length m.next → holds_of (is_issued_call m c) x ≡ false → holds_of (is_issued_call (after m (Issue r b)) c) x ≡ true → slice_get m.next r ≡ Some c
 newly_issued_call m r c b None in_range before now = absurd (cc)
 newly_issued_call m r c b (Some x) in_range before now = newly_below m.next r x.rank c in_range before now
 
@@ -149,14 +149,14 @@ own_call p m r b c can next =
     let e : i.place ≡ c = cc (next, i.next) in
     (i.call, subst (λ (z : ℕ). call_at p z ≡ Some i.call) e i.there, i.own)
 
-of_rank : (x y : Option Call) (call : Call) (r : ℕ) → y ≡ Some call → call.rank ≡ r → are_of_one_rank_calls x y ≡ true → is_of_rank x r ≡ true
+of_rank : (x y : Option Call) (call : Call) (r : ℕ) → y ≡ Some call → call.rank ≡ r → both_hold have_one_rank x y ≡ true → is_of_rank x r ≡ true
 of_rank None y call r e own same = absurd (cc)
 of_rank (Some x) y call r e own same =
     let s : is_of_rank (Some call) x.rank ≡ true = subst (λ (z : Option Call). is_of_rank z x.rank ≡ true) e same in
     let q : call.rank ≡ x.rank = eqb-true call.rank x.rank s in
     eq-eqb x.rank r (cc)
 
-issued_below : (m : Configuration) (d c r : ℕ) (x : Option Call) → slice_get m.next r ≡ Some c → d < c → is_of_rank x r ≡ true → is_issued_call m d x ≡ true
+issued_below : (m : Configuration) (d c r : ℕ) (x : Option Call) → slice_get m.next r ≡ Some c → d < c → is_of_rank x r ≡ true → holds_of (is_issued_call m d) x ≡ true
 issued_below m d c r None next below own = absurd (cc)
 issued_below m d c r (Some x) next below own =
     let e : x.rank ≡ r = eqb-true x.rank r own in
@@ -177,9 +177,9 @@ or_right false b e h = absurd (cc)
 
 returned_before : (p : MpiProgram) (m : Configuration) (r c : ℕ) (b : Bool) → slice_get m.next r ≡ Some c → can_issue p m r b ≡ true → has_returned_before p m r c ≡ true
 returned_before p m r c b e h =
-    calls (call_at p c) (subst (λ (z : Option ℕ). can_issue_next p m r b z ≡ true) e h)
+    calls (call_at p c) (subst (λ (z : Option ℕ). holds_of (can_issue_next p m r b) z ≡ true) e h)
   where
-    calls : (x : Option Call) → can_issue_call p m r b c x ≡ true → has_returned_before p m r c ≡ true
+    calls : (x : Option Call) → holds_of (can_issue_call p m r b c) x ≡ true → has_returned_before p m r c ≡ true
     calls None h = absurd (cc)
     calls (Some x) h = (and_true (x.rank == r) (has_returned_before p m r c) (and_true _ (may_be p.policy x.kind b) h).0).1
 
@@ -195,7 +195,7 @@ call_before_has_returned p steps i c run w same =
 -- ---- blocking takers
 
 -- a blocking taker that has returned is matched
-returned_taker : (p : MpiProgram) (m : Configuration) (c : ℕ) (k : Kind) → is_blocking_taker k ≡ true → is_returned_kind p m c k ≡ true → (is_done p m c ≡ true → is_done_kind p m c k ≡ true) → is_matched m c ≡ true
+returned_taker : (p : MpiProgram) (m : Configuration) (c : ℕ) (k : Kind ℕ) → is_blocking_taker k ≡ true → is_returned_kind p m c k ≡ true → (is_done p m c ≡ true → is_done_kind p m c k ≡ true) → is_matched m c ≡ true
 returned_taker p m c (Send mode blocking message) b h done = absurd (cc)
 returned_taker p m c (Receive true pattern) b h done = done h
 returned_taker p m c (Receive false pattern) b h done = absurd (cc)
@@ -204,33 +204,25 @@ returned_taker p m c (Probe pattern) b h done = absurd (cc)
 returned_taker p m c (MatchedReceive blocking) b h done = absurd (cc)
 returned_taker p m c (Wait operation) b h done = absurd (cc)
 
-no_send : (r q : ℕ) (k : Kind) (pattern : Option Pattern) → is_blocking_taker k ≡ true → fits_between r (message_of k) q pattern ≡ true → ⊥
-no_send r q (Send mode blocking message) pattern b h = cc
-no_send r q (Receive blocking pattern') pattern b h = cc
-no_send r q (MatchedProbe pattern' receive) pattern b h = cc
-no_send r q (Probe pattern') pattern b h = cc
-no_send r q (MatchedReceive blocking) pattern b h = cc
+no_send : (r q : ℕ) (k : Kind ℕ) (pattern : Option Pattern) → is_blocking_taker k ≡ true → fits_between r (message_of k) q pattern ≡ true → ⊥
 no_send r q (Wait operation) pattern b h = cc
+no_send r q kind pattern b h = cc
 
-no_send_call : (x : Call) (y : Option Call) → is_blocking_taker x.kind ≡ true → fit_calls (Some x) y ≡ true → ⊥
+no_send_call : (x : Call) (y : Option Call) → is_blocking_taker x.kind ≡ true → both_hold fits (Some x) y ≡ true → ⊥
 no_send_call x None b h = cc
 no_send_call x (Some y) b h = no_send x.rank y.rank x.kind (pattern_of y.kind) b h
 
-blocking_no_probe : (k : Kind) → is_blocking_taker k ≡ true → is_probe_kind k ≡ false
-blocking_no_probe (Send mode blocking message) b = refl
-blocking_no_probe (Receive blocking pattern) b = refl
-blocking_no_probe (MatchedProbe pattern receive) b = refl
+blocking_no_probe : (k : Kind ℕ) → is_blocking_taker k ≡ true → is_probe_kind k ≡ false
 blocking_no_probe (Probe pattern) b = absurd (cc)
-blocking_no_probe (MatchedReceive blocking) b = refl
-blocking_no_probe (Wait operation) b = refl
+blocking_no_probe kind b = refl
 
 pub blocking_takers_match_first : BlockingTakersMatchFirst
 blocking_takers_match_first p steps i c call run w there taker same =
     let m = after_all (opening p) (take i steps) in
-    let returned : is_returned_call p m c (Some call) ≡ true = subst (λ (z : Option Call). is_returned_call p m c z ≡ true) there (call_before_has_returned p steps i c run w same) in
-    let matched = returned_taker p m c call.kind taker returned (subst (λ (z : Option Call). is_done_call p m c z ≡ true) there) in
+    let returned : kind_holds (is_returned_kind p m c) (Some call) ≡ true = subst (λ (z : Option Call). kind_holds (is_returned_kind p m c) z ≡ true) there (call_before_has_returned p steps i c run w same) in
+    let matched = returned_taker p m c call.kind taker returned (subst (λ (z : Option Call). kind_holds (is_done_kind p m c) z ≡ true) there) in
     taker_before p steps i c run matched
-    (λ t fit. no_send_call call (call_at p t) taker (subst (λ (z : Option Call). fit_calls z (call_at p t) ≡ true) there fit)) (ap is_probe_call there ∙ blocking_no_probe call.kind taker)
+    (λ t fit. no_send_call call (call_at p t) taker (subst (λ (z : Option Call). both_hold fits z (call_at p t) ≡ true) there fit)) (ap (kind_holds is_probe_kind) there ∙ blocking_no_probe call.kind taker)
 
 -- ---- no call is issued twice
 

@@ -7,8 +7,8 @@ use Rattle.std.proofs.lemmas.List.{length-set, length-replicate}
 use Rattle.callorder.specs.declared.calls.Call.{Call}
 use Rattle.callorder.specs.declared.calls.Kind.{Kind}
 use Rattle.callorder.specs.declared.calls.Kind.TheVariants.{Send, Receive, MatchedProbe, Probe, MatchedReceive, Wait}
-use Rattle.callorder.specs.Calls.{fits_between, message_of, pattern_of}
-use Rattle.callorder.specs.Programs.{MpiProgram, call_at, are_fit, is_probe, takes, fit_calls}
+use Rattle.callorder.specs.Calls.{fits_between, message_of, pattern_of, both_hold, fits}
+use Rattle.callorder.specs.Programs.{MpiProgram, call_at, are_fit, is_probe, takes}
 use Rattle.semantics.specs.declared.state.Step.{Step}
 use Rattle.semantics.specs.declared.state.Step.TheVariants.{Issue, Match, See}
 use Rattle.semantics.specs.Machine.{Configuration, opening, after, after_all, CanFind, IsEnabled, IsRun, is_matched}
@@ -115,7 +115,7 @@ one_place At never i k w v =
 
 -- ---- a call that is matched as a send is no taker
 
-fits_apart : (r q u v : ℕ) (k l j : Kind) → fits_between r (message_of k) q (pattern_of l) ≡ true → fits_between u (message_of j) v (pattern_of k) ≡ true → ⊥
+fits_apart : (r q u v : ℕ) (k l j : Kind ℕ) → fits_between r (message_of k) q (pattern_of l) ≡ true → fits_between u (message_of j) v (pattern_of k) ≡ true → ⊥
 fits_apart r q u v (Send mode blocking message) l (Send mode' blocking' message') f g = cc
 fits_apart r q u v (Send mode blocking message) l (Receive b pattern) f g = cc
 fits_apart r q u v (Send mode blocking message) l (MatchedProbe pattern c) f g = cc
@@ -128,7 +128,7 @@ fits_apart r q u v (Probe pattern) l j f g = cc
 fits_apart r q u v (MatchedReceive b) l j f g = cc
 fits_apart r q u v (Wait o) l j f g = cc
 
-fits_apart_calls : (x y z : Option Call) → fit_calls x y ≡ true → fit_calls z x ≡ true → ⊥
+fits_apart_calls : (x y z : Option Call) → both_hold fits x y ≡ true → both_hold fits z x ≡ true → ⊥
 fits_apart_calls None y z f g = cc
 fits_apart_calls (Some x) None z f g = cc
 fits_apart_calls (Some x) (Some y) None f g = cc

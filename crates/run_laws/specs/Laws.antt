@@ -2,7 +2,7 @@
 use Rattle.std.specs.Prelude.{◌≡◌, ℕ, ◌+◌, ◌<◌, ◌≤◌, ◌⊎◌, Bool, true, false, IsTrue, List, Some, slice_get, take}
 use Rattle.callorder.specs.declared.calls.Call.{Call}
 use Rattle.callorder.specs.declared.calls.Kind.{Kind}
-use Rattle.callorder.specs.declared.calls.Kind.TheVariants.{Send, Receive, MatchedProbe, Probe, MatchedReceive, Wait}
+use Rattle.callorder.specs.declared.calls.Kind.TheVariants.{Receive, MatchedProbe}
 use Rattle.callorder.specs.Programs.{MpiProgram, call_at, are_fit, is_probe, takes, are_of_one_rank}
 use Rattle.semantics.specs.declared.state.Step.{Step}
 use Rattle.semantics.specs.declared.state.Step.TheVariants.{Match}
@@ -95,13 +95,10 @@ CallBeforeHasReturned =
     → IsTrue (are_of_one_rank p call (call + 1)) → IsTrue (is_returned p (after_all (opening p) (take place steps)) call)
 
 -- a blocking receive or a matched probe
-abbrev pub is_blocking_taker : Kind → Bool
-is_blocking_taker (Send mode blocking message) = false
+abbrev pub is_blocking_taker : Kind ℕ → Bool
 is_blocking_taker (Receive blocking pattern) = blocking
 is_blocking_taker (MatchedProbe pattern receive) = true
-is_blocking_taker (Probe pattern) = false
-is_blocking_taker (MatchedReceive blocking) = false
-is_blocking_taker (Wait operation) = false
+is_blocking_taker kind = false
 
 -- Where a step of a run issues a call, and the call before it in its rank is a blocking receive or
 -- a matched probe, that taker is matched by an earlier step.

@@ -108,13 +108,9 @@ side_of_send h call e =
     ∙ ap Some
     (same_parts call.rank h.source g.destination h.destination g.tag h.tag g.communicator h.communicator true u.rank u.destination u.tag u.communicator)
 
-no_message : (kind : Kind) (pattern : Pattern) → pattern_of kind ≡ Some pattern → message_of kind ≡ None
+no_message : (kind : Kind ℕ) (pattern : Pattern) → pattern_of kind ≡ Some pattern → message_of kind ≡ None
 no_message (Send mode blocking message) pattern e = absurd (cc)
-no_message (Receive blocking q) pattern e = refl
-no_message (MatchedProbe q receive) pattern e = refl
-no_message (Probe q) pattern e = refl
-no_message (MatchedReceive blocking) pattern e = refl
-no_message (Wait operation) pattern e = refl
+no_message kind pattern e = refl
 
 abbrev wanted_with : ℕ → Pattern → Wanted
 wanted_with rank pattern = record { source = pattern.source; destination = rank; tag = pattern.tag; communicator = pattern.communicator }
@@ -173,10 +169,10 @@ takes_so side rank pattern e =
     (eq-eqb pattern.communicator side.communicator n.on)))
     refl
 
-abbrev call_with : ℕ → Kind → Call
+abbrev call_with : ℕ → Kind ℕ → Call
 call_with rank kind = record { rank = rank; kind = kind }
 
-acts_by : (side : Side) (rank : ℕ) (kind : Kind) → side_of (call_with rank kind) ≡ Some side → acts_for side (call_with rank kind) ≡ true
+acts_by : (side : Side) (rank : ℕ) (kind : Kind ℕ) → side_of (call_with rank kind) ≡ Some side → acts_for side (call_with rank kind) ≡ true
 acts_by side rank (Send mode blocking message) e =
     let own = side_with rank message.destination message.tag message.communicator true in
     subst (λ (z : Side). acts_for z (call_with rank (Send mode blocking message)) ≡ true) (same_Some own side e)

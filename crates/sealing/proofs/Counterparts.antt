@@ -8,7 +8,7 @@ use Rattle.std.proofs.lemmas.Option.{same_Some}
 use Rattle.calltext.proofs.Conjunctions.{and_true}
 use Rattle.callorder.specs.declared.calls.Call.{Call}
 use Rattle.callorder.specs.Calls.{message_of, pattern_of, is_probe_kind}
-use Rattle.callorder.specs.Programs.{MpiProgram, call_at, are_fit, is_probe, is_probe_call}
+use Rattle.callorder.specs.Programs.{MpiProgram, call_at, are_fit, is_probe, kind_holds}
 use Rattle.semantics.specs.declared.state.Step.{Step}
 use Rattle.semantics.specs.Machine.{Configuration, opening, after, after_all, CanFind, IsEnabled, IsRun, is_matched, partner_of}
 use Rattle.run_laws.specs.Laws.{IsInRankOrder}
@@ -79,7 +79,7 @@ module _ (p : MpiProgram) (h : Envelope) (exact : IsExact p h) where
       no_both a.kind parts.message pattern.0 parts.sends pattern.1
 
   no_probe : (t : ℕ) (b : Call) → call_at p t ≡ Some b → takes_with h b ≡ true → is_probe p t ≡ false
-  no_probe t b at_t on = ap is_probe_call at_t ∙ (tests.takes b on).2
+  no_probe t b at_t on = ap (kind_holds is_probe_kind) at_t ∙ (tests.takes b on).2
 
   -- what a call of the envelope is matched with is one too
   taker_of : (m : Configuration) → Kept p m → (s t : ℕ) (a : Call) → call_at p s ≡ Some a → sends_with h a ≡ true → partner_of m s ≡ Some t
@@ -89,7 +89,7 @@ module _ (p : MpiProgram) (h : Envelope) (exact : IsExact p h) where
         | inl taken ↦
             let fit = takes_fit p s t taken in
             let b = (fit_calls_there p s t fit).1 in
-            (b.0, b.1, tests.taker s t a b.0 at_s b.1 fit (sym (ap is_probe_call b.1) ∙ takes_no_probe p s t taken) on, kept.both s t fit partner)
+            (b.0, b.1, tests.taker s t a b.0 at_s b.1 fit (sym (ap (kind_holds is_probe_kind) b.1) ∙ takes_no_probe p s t taken) on, kept.both s t fit partner)
         | inr fit ↦ absurd (no_send t s a at_s on fit)
       ]
 

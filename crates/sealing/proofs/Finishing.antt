@@ -9,9 +9,9 @@ use Rattle.calltext.specs.declared.call.Policy.TheVariants.{Never}
 use Rattle.callorder.specs.declared.calls.Call.{Call}
 use Rattle.callorder.specs.declared.calls.Kind.{Kind}
 use Rattle.callorder.specs.declared.calls.Kind.TheVariants.{Send, MatchedProbe, Wait}
-use Rattle.callorder.specs.Programs.{MpiProgram, call_at, are_fit, is_of_rank}
+use Rattle.callorder.specs.Programs.{MpiProgram, call_at, are_fit, is_of_rank, kind_holds}
 use Rattle.semantics.specs.declared.state.Step.{Step}
-use Rattle.semantics.specs.Machine.{Configuration, first_call, opening, after, after_all, IsRun, is_buffered, is_done_call, is_done_kind, is_fetched, is_issued, is_matched, is_rank_finished, is_returned, is_returned_call, is_returned_kind, partner_of, fetches, fetches_call, has_next, has_returned_before}
+use Rattle.semantics.specs.Machine.{Configuration, first_call, opening, after, after_all, IsRun, is_buffered, is_done_kind, is_fetched, is_issued, is_matched, is_rank_finished, is_returned, is_returned_kind, partner_of, fetches, has_next, has_returned_before}
 use Rattle.races.specs.Tells.{Table, IsJustified, knows_at, never_buffers, tells_done_call, tells_done_kind, tells_fetch, tells_fetch_by, tells_find, tells_receive, tells_receive_kind, tells_return_call, tells_return_kind}
 use Rattle.races.proofs.Steps.{matched_from, not_true, partner_from, within_issued}
 use Rattle.races.proofs.Kept.{Kept, takes_fit}
@@ -51,7 +51,7 @@ module _ (p : MpiProgram) (e m : Configuration) (knows : Table) (f : ℕ) (kept 
       (λ more. ⊎_elim (λ own. told t f own issued.0) other (or_cases (knows t f) (knows_at knows (partner_of e t) f) more))
       (or_cases (f == t) (knows t f || knows_at knows (partner_of e t) f) h)
 
-  receive_told : (k : Kind) → fetches p m k ≡ true → tells_receive_kind knows k f ≡ true → is_matched m f ≡ true
+  receive_told : (k : Kind ℕ) → fetches p m k ≡ true → tells_receive_kind knows k f ≡ true → is_matched m f ≡ true
   receive_told (MatchedProbe pattern receive) fetched h = told receive f h fetched
   receive_told k fetched h = absurd (cc)
 
@@ -62,22 +62,22 @@ module _ (p : MpiProgram) (e m : Configuration) (knows : Table) (f : ℕ) (kept 
       ⊎_elim (takes_fit p s w.0) (λ other. absurd (no_send_fetches_call p m (call_at p w.0) (call_at p s) other w.2)) (kept.fit s w.0 w.1) in
       let at = (fit_calls_there p s w.0 fit).1 in
       ⊎_elim (find_told w.0 (matched_from m w.0 s (kept.both s w.0 fit w.1)))
-      (λ receive. receive_told at.0.kind (sym (ap (fetches_call p m) at.1) ∙ w.2) (sym (ap (λ (o : Option Call). tells_receive knows o f) at.1) ∙ receive))
+      (λ receive. receive_told at.0.kind (sym (ap (kind_holds (fetches p m)) at.1) ∙ w.2) (sym (ap (λ (o : Option Call). tells_receive knows o f) at.1) ∙ receive))
       (or_cases (tells_find e knows w.0 f) (tells_receive knows (call_at p w.0) f)
       (at_partner s w.0 (λ (o : Option ℕ). tells_fetch_by p e knows o f) w.1 refl h))
 
-  done_told : (c : ℕ) (k : Kind) → is_done_kind p m c k ≡ true → tells_done_kind p e knows c k f ≡ true → is_matched m f ≡ true
+  done_told : (c : ℕ) (k : Kind ℕ) → is_done_kind p m c k ≡ true → tells_done_kind p e knows c k f ≡ true → is_matched m f ≡ true
   done_told c (Send Standard blocking message) done h =
       let parts = and_true (never_buffers p.policy) (tells_fetch p e knows c f) h in
       ⊎_elim (λ on. absurd (both_ways (is_buffered m c) on (kept.never (is_never p.policy parts.0) c))) (λ fetched. fetch_told c fetched parts.1)
       (or_cases (is_buffered m c) (is_fetched p m c) done)
   done_told c k done h = grind (arith, find_told c, fetch_told c)
 
-  done_call_told : (c : ℕ) (o : Option Call) → is_done_call p m c o ≡ true → tells_done_call p e knows c o f ≡ true → is_matched m f ≡ true
+  done_call_told : (c : ℕ) (o : Option Call) → kind_holds (is_done_kind p m c) o ≡ true → tells_done_call p e knows c o f ≡ true → is_matched m f ≡ true
   done_call_told c None done h = absurd (cc)
   done_call_told c (Some call) done h = done_told c call.kind done h
 
-  return_told : (c : ℕ) (k : Kind) → is_returned_kind p m c k ≡ true → tells_return_kind p e knows c k f ≡ true → is_matched m f ≡ true
+  return_told : (c : ℕ) (k : Kind ℕ) → is_returned_kind p m c k ≡ true → tells_return_kind p e knows c k f ≡ true → is_matched m f ≡ true
   return_told c (Wait operation) returned h = done_call_told operation (call_at p operation) returned h
   return_told c k returned h = grind (arith, done_call_told c (call_at p c))
 
@@ -139,5 +139,5 @@ finish_tells p e knows rank f is sure justified tells steps run finished =
     let told = told_all p e knows is sure justified (opening p) steps (reached_opening p) none run in
     ⊎_elim (λ known. told last f known ended.0)
     (λ returns. return_told p e m knows f (kept_run p steps is.rank_order run) (sure_partners_are_so p e is sure steps run) told last tells.call.kind
-    (sym (ap (is_returned_call p m last) tells.there) ∙ ended.1) (sym (ap (λ (o : Option Call). tells_return_call p e knows last o f) tells.there) ∙ returns))
+    (sym (ap (kind_holds (is_returned_kind p m last)) tells.there) ∙ ended.1) (sym (ap (λ (o : Option Call). tells_return_call p e knows last o f) tells.there) ∙ returns))
     (or_cases (knows last f) (tells_return_call p e knows last (call_at p last) f) tells.tells)

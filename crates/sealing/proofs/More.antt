@@ -41,13 +41,9 @@ module _ (p : MpiProgram) (m e : Configuration) (a b : Table) (f : ℕ) (within 
       (or_both (a t f) (knows_at a (partner_of m t) f) (b t f) (knows_at b (partner_of e t) f) (less t)
       (at_more (partner_of m t) (partner_of e t) (within t))) h
 
-  receive_kind_more : (k : Kind) → tells_receive_kind a k f ≡ true → tells_receive_kind b k f ≡ true
-  receive_kind_more (Send mode blocking message) h = h
-  receive_kind_more (Receive blocking pattern) h = h
+  receive_kind_more : (k : Kind ℕ) → tells_receive_kind a k f ≡ true → tells_receive_kind b k f ≡ true
   receive_kind_more (MatchedProbe pattern receive) h = less receive h
-  receive_kind_more (Probe pattern) h = h
-  receive_kind_more (MatchedReceive blocking) h = h
-  receive_kind_more (Wait operation) h = h
+  receive_kind_more kind h = h
 
   receive_more : (o : Option Call) → tells_receive a o f ≡ true → tells_receive b o f ≡ true
   receive_more None h = h
@@ -60,7 +56,7 @@ module _ (p : MpiProgram) (m e : Configuration) (a b : Table) (f : ℕ) (within 
       (or_both (tells_find m a t f) (tells_receive a (call_at p t) f) (tells_find e b t f) (tells_receive b (call_at p t) f) (find_more t)
       (receive_more (call_at p t)) h)
 
-  done_kind_more : (c : ℕ) (k : Kind) → tells_done_kind p m a c k f ≡ true → tells_done_kind p e b c k f ≡ true
+  done_kind_more : (c : ℕ) (k : Kind ℕ) → tells_done_kind p m a c k f ≡ true → tells_done_kind p e b c k f ≡ true
   done_kind_more c (Send Standard blocking message) h =
       and_more (never_buffers p.policy) (tells_fetch p m a c f) (tells_fetch p e b c f) (fetch_more (partner_of m c) (partner_of e c) (within c)) h
   done_kind_more c (Send Synchronous blocking message) h = fetch_more (partner_of m c) (partner_of e c) (within c) h
@@ -78,7 +74,7 @@ module _ (p : MpiProgram) (m e : Configuration) (a b : Table) (f : ℕ) (within 
   done_more : (c : ℕ) → tells_done p m a c f ≡ true → tells_done p e b c f ≡ true
   done_more c h = done_call_more c (call_at p c) h
 
-  return_kind_more : (c : ℕ) (k : Kind) → tells_return_kind p m a c k f ≡ true → tells_return_kind p e b c k f ≡ true
+  return_kind_more : (c : ℕ) (k : Kind ℕ) → tells_return_kind p m a c k f ≡ true → tells_return_kind p e b c k f ≡ true
   return_kind_more c (Send mode blocking message) h = and_more blocking (tells_done p m a c f) (tells_done p e b c f) (done_more c) h
   return_kind_more c (Receive blocking pattern) h = and_more blocking (tells_done p m a c f) (tells_done p e b c f) (done_more c) h
   return_kind_more c (MatchedProbe pattern receive) h = done_more c h

@@ -9,8 +9,8 @@ use Rattle.calltext.proofs.Conjunctions.{and_true, and_both}
 use Rattle.callorder.specs.declared.calls.Call.{Call}
 use Rattle.callorder.specs.declared.calls.Message.{Message}
 use Rattle.callorder.specs.declared.calls.Pattern.{Pattern}
-use Rattle.callorder.specs.Calls.{pattern_of, is_probe_kind, covers, fits_between}
-use Rattle.callorder.specs.Programs.{MpiProgram, call_at, are_fit, fit_calls}
+use Rattle.callorder.specs.Calls.{pattern_of, is_probe_kind, covers, fits_between, both_hold, fits}
+use Rattle.callorder.specs.Programs.{MpiProgram, call_at, are_fit}
 use Rattle.semantics.specs.Machine.{partner_of}
 use Rattle.phases.specs.Order.{Envelope, is_number, is_named, sends_with, takes_with, IsExact, AreCounterparts}
 use Rattle.phases.proofs.Counting.{fit_parts}
@@ -81,7 +81,7 @@ fit_wanted p h s t a b wanted at_s at_t sends w to on source tag =
     let by = eq-eqb g.communicator q.communicator (u.communicator ∙ sym on ∙ sym w.on) in
     let from = ap (λ (z : Option ℕ). covers z a.rank) w.source ∙ ap (covers wanted.source) u.rank ∙ source in
     let tagged = ap (λ (z : Option ℕ). covers z g.tag) w.tag ∙ ap (covers wanted.tag) u.tag ∙ tag in
-    ap (λ (z : Option Call). fit_calls z (call_at p t)) at_s ∙ ap (fit_calls (Some a)) at_t
+    ap (λ (z : Option Call). both_hold fits z (call_at p t)) at_s ∙ ap (both_hold fits (Some a)) at_t
     ∙ ap (λ (z : Option Message). fits_between a.rank z b.rank (pattern_of b.kind)) u.is ∙ ap (fits_between a.rank (Some g) b.rank) w.is
     ∙ and_both ((g.destination == b.rank && g.communicator == q.communicator) && covers q.source a.rank) (covers q.tag g.tag)
     (and_both (g.destination == b.rank && g.communicator == q.communicator) (covers q.source a.rank)

@@ -3,8 +3,8 @@ use Rattle.std.proofs.Common.{◌≡◌, ℕ, ◌+◌, ◌<◌, inl, inr, true, 
 use Rattle.calltext.proofs.Conjunctions.{and_both}
 use Rattle.callorder.specs.declared.calls.Call.{Call}
 use Rattle.callorder.specs.declared.calls.Message.{Message}
-use Rattle.callorder.specs.Calls.{message_of, pattern_of, fits_between}
-use Rattle.callorder.specs.Programs.{MpiProgram, call_at, fit_calls}
+use Rattle.callorder.specs.Calls.{message_of, pattern_of, fits_between, both_hold, fits}
+use Rattle.callorder.specs.Programs.{MpiProgram, call_at}
 use Rattle.semantics.specs.Headline.{NoStuckRun}
 use Rattle.semantics.specs.Machine.{Configuration, CanFind, is_matched, is_rank_finished, is_returned, has_next, has_returned_before}
 use Rattle.races.proofs.Kept.{Kept}
@@ -66,12 +66,12 @@ module _ (p : MpiProgram) (x : Cut) (whole : IsWellFormed p) (one : IsWellFormed
         both_ways (is_matched m1 wf.place) (sym (ap (λ (z : Configuration). is_matched z wf.place) first.is) ∙ matched) free
 
     -- the calls of the parts fit too
-    fit : fit_calls (Some ws.call) (Some wf.call) ≡ true
+    fit : both_hold fits (Some ws.call) (Some wf.call) ≡ true
     fit =
         let d = x.moved_second ws.call.rank in
         let e = x.moved_first wf.call.rank in
-        sym (ap (λ (z : Option Call). fit_calls z (call_at p f)) (at_second p x whole one two cut s ws)
-        ∙ ap (fit_calls (Some (moved_call d ws.call))) (at_first p x whole one two cut f wf)
+        sym (ap (λ (z : Option Call). both_hold fits z (call_at p f)) (at_second p x whole one two cut s ws)
+        ∙ ap (both_hold fits (Some (moved_call d ws.call))) (at_first p x whole one two cut f wf)
         ∙ ap (λ (z : Option Message). fits_between ws.call.rank z wf.call.rank (pattern_of (moved_call e wf.call).kind)) (message_moved d ws.call.kind)
         ∙ ap (fits_between ws.call.rank (message_of ws.call.kind) wf.call.rank) (pattern_moved e wf.call.kind))
         ∙ can.fit

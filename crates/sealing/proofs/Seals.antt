@@ -2,8 +2,8 @@
 use Rattle.std.proofs.Common.{◌≡◌, ℕ, ◌<◌, ◌⊎◌, inl, inr, Bool, true, false, [], ◌∷◌, Option, Some, None, is_some, refl, sym, ap, ◌∙◌, subst}
 use Rattle.std.proofs.lemmas.Bool.{eqb-true}
 use Rattle.callorder.specs.declared.calls.Call.{Call}
-use Rattle.callorder.specs.Calls.{pattern_of, covers}
-use Rattle.callorder.specs.Programs.{MpiProgram, fit_calls}
+use Rattle.callorder.specs.Calls.{pattern_of, covers, both_hold, fits}
+use Rattle.callorder.specs.Programs.{MpiProgram}
 use Rattle.semantics.specs.Machine.{opening, after_all, is_matched}
 use Rattle.races.specs.Races.{names_source}
 use Rattle.phases.proofs.Counting.{Fit, fit_parts}
@@ -14,7 +14,7 @@ use Rattle.sealing.specs.Sealing.{IsFoundBefore}
 use Rattle.sealing.proofs.Finishing.{finish_tells}
 
 -- two calls that fit, as the only ones of a program
-fit_of : (p : MpiProgram) (a b : Call) → fit_calls (Some a) (Some b) ≡ true → Fit a b
+fit_of : (p : MpiProgram) (a b : Call) → both_hold fits (Some a) (Some b) ≡ true → Fit a b
 fit_of p a b fit = fit_parts (record { policy = p.policy; ranks = p.ranks; calls = a ∷ b ∷ [] }) 0 1 a b refl refl fit
 
 -- what names no source takes messages of any

@@ -2,8 +2,8 @@
 -- them later finish the phase only after they have found.
 use Rattle.std.specs.Prelude.{◌≡◌, ℕ, ◌⊎◌, IsTrue, List, Some}
 use Rattle.callorder.specs.declared.calls.Call.{Call}
-use Rattle.callorder.specs.Calls.{pattern_of}
-use Rattle.callorder.specs.Programs.{MpiProgram, call_at, fit_calls}
+use Rattle.callorder.specs.Calls.{pattern_of, both_hold, fits}
+use Rattle.callorder.specs.Programs.{MpiProgram, call_at}
 use Rattle.semantics.specs.declared.state.Step.{Step}
 use Rattle.semantics.specs.Machine.{opening, after_all, IsRun, is_matched, is_rank_finished}
 use Rattle.races.specs.Races.{names_source}
@@ -19,5 +19,5 @@ IsFoundBefore p f rank =
 -- only after the finder has found a message.
 abbrev pub IsSealed : MpiProgram → MpiProgram → Type 0
 IsSealed p following =
-    (f s : ℕ) (finder send : Call) → call_at p f ≡ Some finder → call_at following s ≡ Some send → IsTrue (fit_calls (Some send) (Some finder))
+    (f s : ℕ) (finder send : Call) → call_at p f ≡ Some finder → call_at following s ≡ Some send → IsTrue (both_hold fits (Some send) (Some finder))
     → IsTrue (names_source (pattern_of finder.kind)) ⊎ IsFoundBefore p f send.rank

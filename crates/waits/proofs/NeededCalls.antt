@@ -3,7 +3,7 @@ use Rattle.std.proofs.Common.{◌≡◌, ℕ, suc, ◌≤◌, inl, inr, Bool, tr
 use Rattle.std.proofs.lemmas.Bool.{and_parts, and_from, or_cases, not-true, true≢false, lt-ltb, eqb-true}
 use Rattle.calltext.specs.declared.limits.Limits.{Limits}
 use Rattle.callorder.specs.declared.calls.Call.{Call}
-use Rattle.callorder.specs.Calls.{operation_of}
+use Rattle.callorder.specs.Calls.{operation_of, holds_of}
 use Rattle.callorder.specs.Programs.{MpiProgram, IsProgramWithin, call_at, is_of_rank}
 use Rattle.semantics.specs.Machine.{Configuration, is_issued, is_issued_call, is_matched, is_open, partner_of}
 use Rattle.run_laws.proofs.Descent.{no_open_pair_where_stuck}
@@ -23,7 +23,7 @@ fit_calls_are_not_both_open p m send finder stuck fit send_open finder_open =
 
 -- ---- the operation that a rank waits for is issued
 
-issued_at : (m : Configuration) (rank call o : ℕ) (known : Option Call) (other : Call) → slice_index m.next rank ≡ suc call → o ≤ call → known ≡ Some other → other.rank ≡ rank → is_issued_call m o known ≡ true
+issued_at : (m : Configuration) (rank call o : ℕ) (known : Option Call) (other : Call) → slice_index m.next rank ≡ suc call → o ≤ call → known ≡ Some other → other.rank ≡ rank → holds_of (is_issued_call m o) known ≡ true
 issued_at m rank call o None other next earlier there own = absurd (cc)
 issued_at m rank call o (Some x) other next earlier there own =
     let same : x ≡ other = cc in

@@ -9,11 +9,11 @@ use Rattle.std.proofs.lemmas.List.Quantifiers.{all_pairs_push}
 use Rattle.calltext.specs.declared.limits.Limits.{Limits}
 use Rattle.callorder.specs.declared.calls.Call.{Call}
 use Rattle.callorder.specs.declared.calls.Kind.{Kind}
-use Rattle.callorder.specs.declared.calls.Kind.TheVariants.{Send, Receive, MatchedProbe, Probe, MatchedReceive, Wait}
+use Rattle.callorder.specs.declared.calls.Kind.TheVariants.{Send}
 use Rattle.callorder.specs.declared.calls.Message.{Message}
 use Rattle.callorder.specs.declared.calls.Pattern.{Pattern}
-use Rattle.callorder.specs.Calls.{message_of, pattern_of, covers, fits_between}
-use Rattle.callorder.specs.Programs.{MpiProgram, IsProgramWithin, call_at, is_of_rank, fit_calls}
+use Rattle.callorder.specs.Calls.{message_of, pattern_of, covers, fits_between, both_hold, holds_of, fits}
+use Rattle.callorder.specs.Programs.{MpiProgram, IsProgramWithin, call_at, is_of_rank}
 use Rattle.semantics.specs.Machine.{Configuration, is_issued, is_issued_call}
 use Rattle.waits.specs.Waiting.{WaitsIn, WaitsFor, IsMissing, IsNeededBy, IsOnlyPeer, fits_with, operation_of_call}
 use Rattle.waits.proofs.NeededCalls.{own_rank}
@@ -25,7 +25,7 @@ use Rattle.waits.proofs.StuckRanks.{one_call}
 abbrev pub NoneFits : MpiProgram → ℕ → ℕ → ℕ → ℕ → Type 0
 NoneFits p o rank low high = (e : ℕ) → low ≤ e → e < high → IsTrue (is_of_rank (call_at p e) rank) → IsTrue (fits_with p o e) → ⊥
 
-issued_call : (m : Configuration) (e rank : ℕ) (known : Option Call) → IsTrue (is_of_rank known rank) → is_issued_call m e known ≡ nat_lt e (slice_index m.next rank)
+issued_call : (m : Configuration) (e rank : ℕ) (known : Option Call) → IsTrue (is_of_rank known rank) → holds_of (is_issued_call m e) known ≡ nat_lt e (slice_index m.next rank)
 issued_call m e rank None own = absurd (true≢false (sym own))
 issued_call m e rank (Some call) own = ap (λ (r : ℕ). nat_lt e (slice_index m.next r)) (eqb-true call.rank rank own)
 
@@ -94,30 +94,22 @@ sent_by sender taker s None pattern from fit = absurd (true≢false (sym fit))
 sent_by sender taker s (Some message) pattern from fit =
     covered pattern.source s sender from (and_parts _ _ (and_parts _ _ fit).0).1
 
-kind_has_one : (kind : Kind) (message : Message) → message_of kind ≡ Some message → pattern_of kind ≡ None
+kind_has_one : (kind : Kind ℕ) (message : Message) → message_of kind ≡ Some message → pattern_of kind ≡ None
 kind_has_one (Send mode blocking own) message some = refl
-kind_has_one (Receive blocking pattern) message some = absurd (none-some message some)
-kind_has_one (MatchedProbe pattern receive) message some = absurd (none-some message some)
-kind_has_one (Probe pattern) message some = absurd (none-some message some)
-kind_has_one (MatchedReceive blocking) message some = absurd (none-some message some)
-kind_has_one (Wait operation) message some = absurd (none-some message some)
+kind_has_one kind message some = absurd (none-some message some)
 
-kind_looks : (kind : Kind) (pattern : Pattern) → pattern_of kind ≡ Some pattern → message_of kind ≡ None
+kind_looks : (kind : Kind ℕ) (pattern : Pattern) → pattern_of kind ≡ Some pattern → message_of kind ≡ None
 kind_looks (Send mode blocking own) pattern some = absurd (none-some pattern some)
-kind_looks (Receive blocking own) pattern some = refl
-kind_looks (MatchedProbe own receive) pattern some = refl
-kind_looks (Probe own) pattern some = refl
-kind_looks (MatchedReceive blocking) pattern some = refl
-kind_looks (Wait operation) pattern some = refl
+kind_looks kind pattern some = refl
 
 -- what fits with a call of the program, by both calls
 fit_parts : (p : MpiProgram) (c e rank : ℕ) (known : Call) → call_at p c ≡ Some known → IsTrue (fits_with p c e) → IsTrue (is_of_rank (call_at p e) rank)
-    → (other : Call) × (other.rank ≡ rank) × (IsTrue (fit_calls (Some known) (Some other)) ⊎ IsTrue (fit_calls (Some other) (Some known)))
+    → (other : Call) × (other.rank ≡ rank) × (IsTrue (both_hold fits (Some known) (Some other)) ⊎ IsTrue (both_hold fits (Some other) (Some known)))
 fit_parts p c e rank known there fit own =
     let other = own_rank (call_at p e) rank own in
     elim (or_cases _ _ fit) [
-      | inl sends ↦ (other.0, other.2, inl (subst (λ (x : Option Call). IsTrue (fit_calls x (Some other.0))) there (subst (λ (x : Option Call). IsTrue (fit_calls (call_at p c) x)) other.1 (and_parts _ _ sends).0)))
-      | inr takes ↦ (other.0, other.2, inr (subst (λ (x : Option Call). IsTrue (fit_calls (Some other.0) x)) there (subst (λ (x : Option Call). IsTrue (fit_calls x (call_at p c))) other.1 takes)))
+      | inl sends ↦ (other.0, other.2, inl (subst (λ (x : Option Call). IsTrue (both_hold fits x (Some other.0))) there (subst (λ (x : Option Call). IsTrue (both_hold fits (call_at p c) x)) other.1 (and_parts _ _ sends).0)))
+      | inr takes ↦ (other.0, other.2, inr (subst (λ (x : Option Call). IsTrue (both_hold fits (Some other.0) x)) there (subst (λ (x : Option Call). IsTrue (both_hold fits x (call_at p c))) other.1 takes)))
     ]
 
 pub send_names_peer : (p : MpiProgram) (c : ℕ) (known : Call) (message : Message) → call_at p c ≡ Some known → message_of known.kind ≡ Some message → IsOnlyPeer p c message.destination

@@ -11,11 +11,11 @@ use Rattle.callorder.specs.declared.calls.Kind.{Kind}
 use Rattle.callorder.specs.declared.calls.Kind.TheVariants.{Send, Receive, MatchedProbe, Probe, MatchedReceive, Wait}
 use Rattle.callorder.specs.declared.calls.Message.{Message}
 use Rattle.callorder.specs.declared.calls.Pattern.{Pattern}
-use Rattle.callorder.specs.Calls.{message_of, pattern_of, receive_of, operation_of, is_probe_kind, fits_between}
-use Rattle.callorder.specs.Programs.{MpiProgram, IsProgramWithin, call_at, fit_calls, is_probe_call}
+use Rattle.callorder.specs.Calls.{message_of, pattern_of, receive_of, operation_of, is_probe_kind, fits_between, both_hold, holds_of, fits}
+use Rattle.callorder.specs.Programs.{MpiProgram, IsProgramWithin, call_at, kind_holds}
 use Rattle.semantics.specs.declared.state.Step.{Step}
 use Rattle.semantics.specs.declared.state.Step.TheVariants.{Issue, Match as MatchStep, See}
-use Rattle.semantics.specs.Machine.{Configuration, IsEnabled, IsRun, after, after_all, opening, partner_of, is_done, is_done_call, is_done_kind, is_returned, is_returned_call, is_returned_kind, is_issued, fetches, fetches_call, fetches_partner}
+use Rattle.semantics.specs.Machine.{Configuration, IsEnabled, IsRun, after, after_all, opening, partner_of, is_done, is_done_kind, is_returned, is_returned_kind, is_issued, fetches, fetches_partner}
 use Rattle.waits.specs.declared.needs.Need.TheVariants.{Match, Fetch}
 use Rattle.waits.specs.Waiting.{operation_of_call, operation_at, handled_receive, need_with, need_where, need_of_operation, fits_with}
 use Rattle.waits.specs.Laws.{HasNeed, WaitingRanksNeed}
@@ -73,20 +73,18 @@ no_pattern sender taker (Some message) fit = true≢false (sym fit)
 abbrev HasReceive : MpiProgram → Configuration → Option ℕ → Type 0
 HasReceive p m found = (receive : ℕ) × (found ≡ Some receive) × (is_issued p m receive ≡ false)
 
-receive_awaited : (p : MpiProgram) (m : Configuration) (sender taker : ℕ) (message : Option Message) (kind : Kind) → fits_between sender message taker (pattern_of kind) ≡ true → is_probe_kind kind ≡ false → fetches p m kind ≡ false → HasReceive p m (receive_of kind)
-receive_awaited p m sender taker message (Send mode blocking own) fit no_probe unfetched = absurd (no_pattern sender taker message fit)
+receive_awaited : (p : MpiProgram) (m : Configuration) (sender taker : ℕ) (message : Option Message) (kind : Kind ℕ) → fits_between sender message taker (pattern_of kind) ≡ true → is_probe_kind kind ≡ false → fetches p m kind ≡ false → HasReceive p m (receive_of kind)
 receive_awaited p m sender taker message (Receive blocking pattern) fit no_probe unfetched = absurd (true≢false unfetched)
 receive_awaited p m sender taker message (MatchedProbe pattern receive) fit no_probe unfetched = (receive, refl, unfetched)
 receive_awaited p m sender taker message (Probe pattern) fit no_probe unfetched = absurd (true≢false no_probe)
-receive_awaited p m sender taker message (MatchedReceive blocking) fit no_probe unfetched = absurd (no_pattern sender taker message fit)
-receive_awaited p m sender taker message (Wait operation) fit no_probe unfetched = absurd (no_pattern sender taker message fit)
+receive_awaited p m sender taker message kind fit no_probe unfetched = absurd (no_pattern sender taker message fit)
 
-receive_of_taker : (p : MpiProgram) (m : Configuration) (send : Call) (taker : Option Call) → fit_calls (Some send) taker ≡ true → is_probe_call taker ≡ false → fetches_call p m taker ≡ false → HasReceive p m (option_and_then (λ call. receive_of call.kind) taker)
+receive_of_taker : (p : MpiProgram) (m : Configuration) (send : Call) (taker : Option Call) → both_hold fits (Some send) taker ≡ true → kind_holds is_probe_kind taker ≡ false → kind_holds (fetches p m) taker ≡ false → HasReceive p m (option_and_then (λ call. receive_of call.kind) taker)
 receive_of_taker p m send None fit no_probe unfetched = absurd (true≢false (sym fit))
 receive_of_taker p m send (Some taker) fit no_probe unfetched =
     receive_awaited p m send.rank taker.rank (message_of send.kind) taker.kind fit no_probe unfetched
 
-no_taker : (send taker : Option Call) (known : Call) → taker ≡ Some known → pattern_of known.kind ≡ None → fit_calls send taker ≡ true → ⊥
+no_taker : (send taker : Option Call) (known : Call) → taker ≡ Some known → pattern_of known.kind ≡ None → both_hold fits send taker ≡ true → ⊥
 no_taker None taker known there none fit = true≢false (sym fit)
 no_taker (Some send) None known there none fit = none-some known there
 no_taker (Some send) (Some taker) known there none fit =
@@ -95,22 +93,22 @@ no_taker (Some send) (Some taker) known there none fit =
     no_pattern send.rank taker.rank (message_of send.kind) (subst (λ (x : Option Pattern). fits_between send.rank (message_of send.kind) taker.rank x ≡ true) pattern fit)
 
 -- a send that is matched and not fetched was found by a matched probe whose receive is not issued
-found_by_probe : (p : MpiProgram) (m : Configuration) (o t : ℕ) (known : Call) → call_at p o ≡ Some known → pattern_of known.kind ≡ None → IsTrue (fits_with p o t) → fetches_partner p m (Some t) ≡ false → HasReceive p m (handled_receive p t)
+found_by_probe : (p : MpiProgram) (m : Configuration) (o t : ℕ) (known : Call) → call_at p o ≡ Some known → pattern_of known.kind ≡ None → IsTrue (fits_with p o t) → holds_of (fetches_partner p m) (Some t) ≡ false → HasReceive p m (handled_receive p t)
 found_by_probe p m o t known there none fit unfetched =
     elim (or_cases _ _ fit) [
       | inl sends ↦
           let both = and_parts _ _ sends in
-          receive_of_taker p m known (call_at p t) (subst (λ (x : Option Call). fit_calls x (call_at p t) ≡ true) there both.0) (not-true _ both.1) unfetched
+          receive_of_taker p m known (call_at p t) (subst (λ (x : Option Call). both_hold fits x (call_at p t) ≡ true) there both.0) (not-true _ both.1) unfetched
       | inr takes ↦ absurd (no_taker (call_at p t) (call_at p o) known there none takes)
     ]
 
 -- ---- what is not done needs something
 
-unfetched_of : (p : MpiProgram) (m : Configuration) (o t : ℕ) (kind : Kind) → partner_of m o ≡ Some t → is_done_kind p m o kind ≡ false → (pattern_of kind ≡ None) × (fetches_partner p m (Some t) ≡ false)
+unfetched_of : (p : MpiProgram) (m : Configuration) (o t : ℕ) (kind : Kind ℕ) → partner_of m o ≡ Some t → is_done_kind p m o kind ≡ false → (pattern_of kind ≡ None) × (holds_of (fetches_partner p m) (Some t) ≡ false)
 unfetched_of p m o t (Send Standard blocking message) matched pending =
-    (refl, ap (fetches_partner p m) (sym matched) ∙ (or_parts _ _ pending).1)
+    (refl, ap (holds_of (fetches_partner p m)) (sym matched) ∙ (or_parts _ _ pending).1)
 unfetched_of p m o t (Send Synchronous blocking message) matched pending =
-    (refl, ap (fetches_partner p m) (sym matched) ∙ pending)
+    (refl, ap (holds_of (fetches_partner p m)) (sym matched) ∙ pending)
 unfetched_of p m o t (Send Buffered blocking message) matched pending = absurd (true≢false pending)
 unfetched_of p m o t (Receive blocking pattern) matched pending =
     absurd (true≢false (sym (ap is_some matched) ∙ pending))
@@ -130,7 +128,7 @@ need_there : (p : MpiProgram) (m : Configuration) (o : ℕ) (known : Call) (part
 need_there p m o known None there pending matched all =
     record { need = Match; needs = asked p m o known None there pending matched; outstanding = tt }
 need_there p m o known (Some t) there pending matched all =
-    let parts = unfetched_of p m o t known.kind matched (sym (ap (is_done_call p m o) there) ∙ pending) in
+    let parts = unfetched_of p m o t known.kind matched (sym (ap (kind_holds (is_done_kind p m o)) there) ∙ pending) in
     let fit : IsTrue (fits_with p o t) = all o t (sym (unwrap_or-slice_get m.partner o None) ∙ matched) in
     let found = found_by_probe p m o t known there parts.0 fit parts.1 in
     record {
@@ -141,15 +139,13 @@ need_there p m o known (Some t) there pending matched all =
 
 undone : (p : MpiProgram) (m : Configuration) (call : ℕ) (known : Call) → call_at p call ≡ Some known → is_returned p m call ≡ false → is_done p m (operation_of_call p call) ≡ false
 undone p m call known there pending =
-    ap (is_done p m) (ap (operation_at call) there) ∙ by_kind known.kind (sym (ap (is_returned_call p m call) there) ∙ pending)
+    ap (is_done p m) (ap (operation_at call) there) ∙ by_kind known.kind (sym (ap (kind_holds (is_returned_kind p m call)) there) ∙ pending)
   where
-    by_kind : (kind : Kind) → is_returned_kind p m call kind ≡ false → is_done p m (unwrap_or (operation_of kind) call) ≡ false
+    by_kind : (kind : Kind ℕ) → is_returned_kind p m call kind ≡ false → is_done p m (unwrap_or (operation_of kind) call) ≡ false
     by_kind (Send mode blocking message) unreturned = (or_parts _ _ unreturned).1
     by_kind (Receive blocking pattern) unreturned = (or_parts _ _ unreturned).1
-    by_kind (MatchedProbe pattern receive) unreturned = unreturned
-    by_kind (Probe pattern) unreturned = unreturned
     by_kind (MatchedReceive blocking) unreturned = absurd (true≢false unreturned)
-    by_kind (Wait operation) unreturned = unreturned
+    by_kind kind unreturned = unreturned
 
 operation_there : (l : Limits) (p : MpiProgram) (call : ℕ) (known : Call) → IsProgramWithin l p → call_at p call ≡ Some known → (operation : Call) × (call_at p (operation_of_call p call) ≡ Some operation)
 operation_there l p call known is there = by_operation (operation_of known.kind) refl

@@ -9,6 +9,7 @@ use Rattle.callorder.specs.declared.calls.Call.{Call}
 use Rattle.callorder.specs.declared.calls.Kind.{Kind}
 use Rattle.callorder.specs.declared.calls.Kind.TheVariants.{Send}
 use Rattle.callorder.specs.Programs.{MpiProgram, call_at, is_of_rank}
+use Rattle.callorder.specs.Calls.{holds_of}
 use Rattle.semantics.specs.declared.state.Step.TheVariants.{Issue}
 use Rattle.semantics.specs.Machine.{Configuration, IsStuck, has_next, has_returned_before, may_be, can_issue, can_issue_next, can_issue_call, is_rank_finished, is_returned}
 use Rattle.waits.specs.declared.standings.Standing.{Standing}
@@ -48,7 +49,7 @@ stands_exactly p m rank found stands other =
 -- ---- stuck ranks
 
 -- some choice of buffering is allowed
-may : (policy : Policy) (kind : Kind) → (buffered : Bool) × IsTrue (may_be policy kind buffered)
+may : (policy : Policy) (kind : Kind ℕ) → (buffered : Bool) × IsTrue (may_be policy kind buffered)
 may Any (Send Standard blocking message) = (true, refl)
 may Never (Send Standard blocking message) = (false, refl)
 may Always (Send Standard blocking message) = (true, refl)
@@ -56,7 +57,7 @@ may Any _ = (false, refl)
 may Never _ = (false, refl)
 may Always _ = (false, refl)
 
-issue_of : (p : MpiProgram) (m : Configuration) (rank n : ℕ) (o : Option Call) → IsTrue (is_of_rank o rank) → IsTrue (has_returned_before p m rank n) → (buffered : Bool) × IsTrue (can_issue_call p m rank buffered n o)
+issue_of : (p : MpiProgram) (m : Configuration) (rank n : ℕ) (o : Option Call) → IsTrue (is_of_rank o rank) → IsTrue (has_returned_before p m rank n) → (buffered : Bool) × IsTrue (holds_of (can_issue_call p m rank buffered n) o)
 issue_of p m rank n None own before = absurd (cc)
 issue_of p m rank n (Some call) own before =
     let choice = may p.policy call.kind in (choice.0, and_from _ _ (and_from _ _ own before) choice.1)
@@ -66,7 +67,7 @@ may_issue : (p : MpiProgram) (m : Configuration) (rank : ℕ) → rank < length 
 may_issue p m rank within own before =
     let n = slice_index m.next rank in
     let issue = issue_of p m rank n (call_at p n) own before in
-    (issue.0, subst (λ (o : Option ℕ). IsTrue (can_issue_next p m rank issue.0 o)) (sym (slice_get-get_or m.next rank 0 within)) issue.1)
+    (issue.0, subst (λ (o : Option ℕ). IsTrue (holds_of (can_issue_next p m rank issue.0) o)) (sym (slice_get-get_or m.next rank 0 within)) issue.1)
 
 waits_from : (p : MpiProgram) (m : Configuration) (rank n : ℕ) → n ≡ slice_index m.next rank → has_returned_before p m rank n ≡ false → (call : ℕ) × WaitsIn p m rank call
 waits_from p m rank zero next unreturned = absurd (cc)
