@@ -1,5 +1,5 @@
 -- The first of some numbers that passes a test.
-use Rattle.std.proofs.SearchContext.{◌≡◌, ℕ, ◌+◌, ◌-◌, ◌<◌, zero, suc, Bool, true, false, List, ◌++◌, Option, None, Some, cond, ap, refl, sym, arith, ◌∙◌}
+use Rattle.std.proofs.Common.{◌≡◌, ℕ, ◌+◌, ◌-◌, ◌<◌, zero, suc, Bool, true, false, List, ◌++◌, Option, None, Some, cond, ap, refl, sym, arith, ◌∙◌}
 use Rattle.std.specs.List.{find, range_with_len}
 use Rattle.std.specs.Option.{option_or}
 use Rattle.std.proofs.lemmas.List.Folds.{find-append}

@@ -1,4 +1,4 @@
-use Rattle.std.proofs.SearchContext.{sym}
+use Rattle.std.proofs.Common.{sym}
 use Rattle.std.specs.List.{range_with_len}
 use Rattle.workers.specs.Branching.{is_free}
 use Rattle.workers.proofs.FirstFree.{found_first, found_second}

@@ -1,4 +1,4 @@
-use Rattle.std.proofs.SearchContext.{◌≡◌, ◌+◌, Bool, true, false, not, ap, sym, ◌∙◌, arith}
+use Rattle.std.proofs.Common.{◌≡◌, ◌+◌, Bool, true, false, not, ap, sym, ◌∙◌, arith}
 use Rattle.workers.specs.Branching.{is_decided, is_free}
 use Rattle.workers.proofs.FirstFree.{found_later}
 use Rattle.workers.proofs.branching.first_below.Goals as goal

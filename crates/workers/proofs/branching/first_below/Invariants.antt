@@ -1,4 +1,4 @@
-use Rattle.std.proofs.SearchContext.{◌≡◌, ◌+◌, ◌-◌}
+use Rattle.std.proofs.Common.{◌≡◌, ◌+◌, ◌-◌}
 use Rattle.std.specs.List.{find, range_with_len}
 use Rattle.workers.specs.Branching.{is_free}
 use Rattle.workers.proofs.branching.first_below.Given as goal

@@ -1,4 +1,4 @@
-use Rattle.std.proofs.SearchContext.{IfSome}
+use Rattle.std.proofs.Common.{IfSome}
 use Rattle.workers.specs.Branching.{IsOneOf}
 use Rattle.workers.proofs.branching.most_active.Given as goal
 
