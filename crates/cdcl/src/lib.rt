@@ -16,6 +16,5 @@ mod reduction;
 mod search;
 mod solver;
 mod stamps;
-mod units;
 
 pub use solver::{Found, SolveFault, Solver};

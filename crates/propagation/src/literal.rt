@@ -5,7 +5,7 @@ use std::alloc::{AllocError, Global};
 
 /// A literal by its number: twice the place of its variable, from 0, and one more where the literal
 /// is negative.
-#[derive(Clone, Copy, PartialEq, Eq, PartialOrd, Ord)]
+#[derive(Clone, Copy, Default, PartialEq, Eq, PartialOrd, Ord)]
 pub struct LitIndex {
     number: u32,
 }
