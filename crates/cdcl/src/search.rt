@@ -1,7 +1,7 @@
 //! The search itself.
 
 ghost use Rattle.std.specs.Prelude.{◌≤◌};
-ghost use Rattle.cdcl.specs.Searches.{IsCounted, IsNoBudgetStep, IsRight, IsRightStep};
+ghost use Rattle.cdcl.specs.Searches.{IfEnded, IsCounted, IsNotBudget, IsRight};
 
 use crate::analysis::{Learnt, analyse, analyse_cube, analyse_root};
 use crate::engine::Engine;
@@ -25,7 +25,7 @@ enum Stop {
 
 /// How a search ends.
 #[derive(Drop)]
-pub(crate) enum Ending {
+pub enum Ending {
     /// Nothing satisfies the formula and the cube, by this clause.
     Closed(Hint),
     /// This assignment satisfies the formula and the cube.
@@ -36,23 +36,28 @@ pub(crate) enum Ending {
     Memory,
 }
 
-/// What comes of going on to the next stop.
+/// What comes of one step of a search.
 #[derive(Drop)]
-pub(crate) enum Step {
-    /// A conflict after which the search goes on. What would end it counts as one, too, where that
-    /// can't be told: a line that no number is left for, or an assignment that isn't a model.
-    Counted,
-    /// A conflict, which ended the search.
+pub enum Step {
+    /// The search goes on. A solver has counted a conflict then. What would end its search counts
+    /// as one, too, where that can't be told: a line that no number is left for, or an assignment
+    /// that isn't a model.
+    Going,
+    /// The search goes on, but all that was left of the budget is used up.
+    Spent,
+    /// A conflict ended the search, and counts.
     Last(Ending),
-    /// The search ended without a conflict.
+    /// The search ended otherwise.
     Ended(Ending),
 }
 
-/// How a search ended, and how many conflicts it counted.
+/// How a search ended, and how many conflicts it counted, or lines and conflicts.
 #[derive(Drop)]
-pub(crate) struct Counted {
-    pub(crate) ending: Ending,
-    pub(crate) conflicts: u64,
+pub struct Counted {
+    /// How it ended.
+    pub ending: Ending,
+    /// How much was counted.
+    pub conflicts: u64,
 }
 
 /// The clause that closes the cube: the one that is named alone, or one more line of these
@@ -218,18 +223,18 @@ impl Engine {
         conflict: ClauseRef,
         batch: &mut Batch,
     ) -> Step
-        ensures budget { IsNoBudgetStep result }
-        ensures right { IsRightStep formula.now cube.now result }
+        ensures budget { IfEnded IsNotBudget result }
+        ensures right { IfEnded (IsRight formula.now cube.now) result }
     {
         if self.known.level() == 0 {
             return match self.close_root(alloc, conflict, batch) {
                 Ok(Some(last)) => Step::Last(Ending::Closed(last)),
-                Ok(None) => Step::Counted,
+                Ok(None) => Step::Going,
                 Err(_) => Step::Last(Ending::Memory),
             };
         }
         match self.learn(alloc, conflict, batch) {
-            Ok(()) => Step::Counted,
+            Ok(()) => Step::Going,
             Err(_) => Step::Last(Ending::Memory),
         }
     }
@@ -243,27 +248,27 @@ impl Engine {
         falsified: LitIndex,
         batch: &mut Batch,
     ) -> Step
-        ensures budget { IsNoBudgetStep result }
-        ensures right { IsRightStep formula.now cube.now result }
+        ensures budget { IfEnded IsNotBudget result }
+        ensures right { IfEnded (IsRight formula.now cube.now) result }
     {
         match self.close_cube(alloc, falsified, batch) {
             Ok(Some(last)) => Step::Ended(Ending::Closed(last)),
-            Ok(None) => Step::Counted,
+            Ok(None) => Step::Going,
             Err(_) => Step::Ended(Ending::Memory),
         }
     }
 
     /// The end by a value for each variable.
     fn take_complete(&self, alloc: Global, formula: &Formula, cube: &[Lit]) -> Step
-        ensures budget { IsNoBudgetStep result }
-        ensures right { IsRightStep formula.now cube.now result }
+        ensures budget { IfEnded IsNotBudget result }
+        ensures right { IfEnded (IsRight formula.now cube.now) result }
     {
         let Ok(values) = self.known.values(alloc) else {
             return Step::Ended(Ending::Memory);
         };
         match checked(formula, cube, values) {
             Some(assignment) => Step::Ended(Ending::Model(assignment)),
-            None => Step::Counted,
+            None => Step::Going,
         }
     }
 
@@ -276,8 +281,8 @@ impl Engine {
         literals: &[LitIndex],
         batch: &mut Batch,
     ) -> Step
-        ensures budget { IsNoBudgetStep result }
-        ensures right { IsRightStep formula.now cube.now result }
+        ensures budget { IfEnded IsNotBudget result }
+        ensures right { IfEnded (IsRight formula.now cube.now) result }
     {
         match self.advance(alloc, literals) {
             Err(_) => Step::Ended(Ending::Memory),
@@ -313,7 +318,8 @@ impl Engine {
     {
         for before in 0..budget {
             match self.go_on(alloc, formula, cube, literals, batch) {
-                Step::Counted => {}
+                Step::Going => {}
+                Step::Spent => break,
                 Step::Last(ending) => {
                     return Counted {
                         ending,
