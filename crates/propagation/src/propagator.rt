@@ -1,5 +1,7 @@
 //! Clauses, and what follows from them.
 
+ghost use Rattle.std.specs.Prelude.{◌≤◌};
+
 use crate::lines::Lines;
 use crate::literal::{LitIndex, fill};
 use crate::reference::{ClauseRef, Origin};
@@ -171,8 +173,11 @@ impl Propagator {
         }
     }
 
-    /// Takes back all levels above this one.
-    pub fn back(&mut self, level: usize) {
+    /// Takes back all levels above this one. Of what stays, what wasn't propagated yet still is to
+    /// be.
+    pub fn back(&mut self, level: usize)
+        ensures { self.new.trail.head ≤ self.old.trail.head }
+    {
         self.trail.back(level);
     }
 

@@ -44,7 +44,7 @@ pub struct Trail {
     notes: Vec<Note>,
     literals: Vec<LitIndex>,
     top: usize,
-    head: usize,
+    pub(crate) head: usize,
     limits: Vec<usize>,
     keeps_phases: bool,
     ghost propagated: { head ≤ top },
