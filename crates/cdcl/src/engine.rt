@@ -5,7 +5,7 @@ use crate::order::Scores;
 use crate::probing::most_in_vain;
 use crate::stamps::Stamps;
 use clauses::{Clause, Formula, Lit};
-use propagation::{ClauseRef, LitIndex, Marks, Origin, Propagator, Refuting, Truth, indices_of};
+use propagation::{LitIndex, Marks, Origin, Propagator, Refuting, Truth, indices_of};
 use std::alloc::{AllocError, Global};
 
 /// All that the search knows.
@@ -93,11 +93,6 @@ impl Engine {
             self.learnt = self.learnt.saturating_add(1);
         }
         Ok(())
-    }
-
-    /// Propagates until nothing follows any more. Where a clause is false, it is answered.
-    pub(crate) fn propagate(&mut self, alloc: Global) -> Result<Option<ClauseRef>, AllocError> {
-        self.known.propagate(alloc)
     }
 
     /// The variables of the literals from this place of the trail on may be decided again.

@@ -34,7 +34,7 @@ impl Engine {
     ) -> Result<Option<ClauseRef>, AllocError> {
         self.known.set_keeps_phases(false);
         self.known.decide(literal)?;
-        let conflict = self.propagate(alloc)?;
+        let conflict = self.known.propagate(alloc)?;
         self.known.set_keeps_phases(true);
         Ok(conflict)
     }

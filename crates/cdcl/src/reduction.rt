@@ -75,7 +75,7 @@ impl Engine {
     /// Drops half of the learnt clauses, and those that level 0 settles, which are no longer
     /// watched either.
     fn reduce(&mut self, alloc: Global) -> Result<(), AllocError> {
-        if self.propagate(alloc)?.is_some() {
+        if self.known.propagate(alloc)?.is_some() {
             return Ok(());
         }
         self.limit = self.limit.saturating_add(MORE);

@@ -111,7 +111,7 @@ impl Engine {
     fn descend(&mut self, alloc: Global, cube: &[LitIndex]) -> Result<Stop, AllocError> {
         let most = self.known.most().saturating_add(cube.len());
         for _ in 0..most.saturating_add(1) {
-            if let Some(clause) = self.propagate(alloc)? {
+            if let Some(clause) = self.known.propagate(alloc)? {
                 return Ok(Stop::Conflict(clause));
             }
             if let Some(stop) = self.decide_next(cube)? {
@@ -123,7 +123,7 @@ impl Engine {
 
     /// Propagates, probes what is left to probe, and decides until a stop.
     fn advance(&mut self, alloc: Global, cube: &[LitIndex]) -> Result<Stop, AllocError> {
-        if let Some(clause) = self.propagate(alloc)? {
+        if let Some(clause) = self.known.propagate(alloc)? {
             return Ok(Stop::Conflict(clause));
         }
         if let Some(clause) = self.probe(alloc)? {

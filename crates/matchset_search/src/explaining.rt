@@ -69,16 +69,6 @@ impl Values<'_> {
         None
     }
 
-    fn mark_all(&self, marks: &mut Marks, clause: ClauseRef) -> Result<(), AllocError> {
-        for literal in self.known.literals(clause) {
-            let variable = literal.variable();
-            if !marks.has(variable) {
-                marks.mark(variable)?;
-            }
-        }
-        Ok(())
-    }
-
     /// Follows the reason of the value at this place, or takes it for a cause, where it follows
     /// from one decision alone and isn't that of `falsified`.
     fn follow(
@@ -100,7 +90,7 @@ impl Values<'_> {
             way.roots.push(place)?;
             return Ok(());
         }
-        self.mark_all(marks, self.known.reason_of(variable))
+        self.known.mark_all(marks, self.known.reason_of(variable))
     }
 
     /// Follows the reasons of the marked variables downwards, to what follows from one decision
@@ -177,7 +167,7 @@ impl Values<'_> {
         marks: &mut Marks,
         clause: ClauseRef,
     ) -> Result<Explained, AllocError> {
-        self.mark_all(marks, clause)?;
+        self.known.mark_all(marks, clause)?;
         let way = self.trace(alloc, marks, None)?;
         self.narrowed(alloc, way)
     }

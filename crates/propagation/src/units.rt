@@ -1,4 +1,4 @@
-//! Lines of one literal for variables that have their value at level 0.
+//! What values rest on, and lines of one literal for variables that have theirs at level 0.
 
 use crate::literal::LitIndex;
 use crate::marks::Marks;
@@ -8,6 +8,17 @@ use batches::Batch;
 use std::alloc::{AllocError, Global};
 
 impl Propagator {
+    /// Marks the variables of the clause.
+    pub fn mark_all(&self, marks: &mut Marks, clause: ClauseRef) -> Result<(), AllocError> {
+        for literal in self.literals(clause) {
+            let variable = literal.variable();
+            if !marks.has(variable) {
+                marks.mark(variable)?;
+            }
+        }
+        Ok(())
+    }
+
     fn mark_places(&self, marks: &mut Marks, places: &[usize]) -> Result<(), AllocError> {
         for place in places {
             marks.mark(self.literal(*place).variable())?;
