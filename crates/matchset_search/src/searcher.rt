@@ -29,7 +29,7 @@ impl<'e> Model for StateSearch<'e> {
 
     ghost Value = { SearchState (Unit {0}) };
 
-    ghost view = { λ s. record { formula = s.encoded.now.formula; spent = s.is_spent; conflicts = s.counted; learnt = tt } };
+    ghost view = { λ s. record { formula = s.encoded.now.formula; spent = s.is_spent; conflicts = s.counted; learnt = tt {0} } };
 }
 
 impl<'e> StateSearch<'e> {
