@@ -1,4 +1,4 @@
--- What a solver may answer.
+-- What a search may answer: a solver's, or one that takes no cube, for which it is [].
 use Rattle.std.specs.Prelude.{ℕ, ◌≡◌, ◌≤◌, Bool, true, false, not, ◌&&◌, ◌||◌, nat_eq, length, IsTrue, List, Result, Ok, Err}
 use Rattle.std.specs.List.{list_any, list_all}
 use Rattle.clauses.specs.Clauses.{Literal, Conjunction, holds, is_within, satisfies, value_of}
@@ -6,7 +6,7 @@ use Rattle.cdcl.specs.declared.solver.Found.{Found}
 use Rattle.cdcl.specs.declared.solver.Found.TheVariants.{Closed, Model, Budget}
 use Rattle.cdcl.specs.declared.solver.SolveFault.{SolveFault}
 use Rattle.cdcl.specs.declared.solver.SolveFault.TheVariants.{Memory, Spent, Foreign}
-use Rattle.cdcl.specs.States.{SolverState}
+use Rattle.cdcl.specs.States.{SearchState}
 
 -- the second is the negation of the first, which is positive
 abbrev pub are_opposite : Literal → Literal → Bool
@@ -20,27 +20,27 @@ has_both cube = list_any (λ l. list_any (are_opposite l) cube) cube
 abbrev pub is_foreign : ℕ → List Literal → Bool
 is_foreign variables cube = not (is_within variables cube) || has_both cube
 
--- a solver that has not searched yet
-pub record Started (formula : Conjunction) (solver : SolverState) : Type 0 where
-  pub same : solver.formula ≡ formula
-  pub not_spent : solver.spent ≡ false
-  pub no_conflicts : solver.conflicts ≡ 0
+-- nothing was searched yet
+pub record Started {L : Type 0} (formula : Conjunction) (search : SearchState L) : Type 0 where
+  pub same : search.formula ≡ formula
+  pub not_spent : search.spent ≡ false
+  pub no_conflicts : search.conflicts ≡ 0
 
 -- what is found is right; with no budget nothing is found and no line is learnt
-abbrev pub IsFound : SolverState → List Literal → ℕ → Found → Type 0
+abbrev pub IsFound : {L : Type 0} → SearchState L → List Literal → ℕ → Found → Type 0
 IsFound new cube budget (Closed batch last) = (1 ≤ budget) × (new.conflicts ≤ budget)
 IsFound new cube budget (Model values) =
     (1 ≤ budget) × (new.conflicts ≤ budget) × IsTrue (satisfies (value_of values) new.formula.clauses) × IsTrue (list_all (holds (value_of values)) cube)
 IsFound new cube budget (Budget batch) = (new.conflicts ≡ budget) × (budget ≡ 0 → length batch.lines.items ≡ 0)
 
 -- a search that was begun
-pub record Begun (old new : SolverState) (cube : List Literal) : Type 0 where
+pub record Begun {L : Type 0} (old new : SearchState L) (cube : List Literal) : Type 0 where
   pub not_spent : old.spent ≡ false
   pub not_foreign : is_foreign old.formula.variables cube ≡ false
   pub same : new.formula ≡ old.formula
 
 -- a search answers so
-abbrev pub Searched : SolverState → SolverState → List Literal → ℕ → Result Found SolveFault → Type 0
+abbrev pub Searched : {L : Type 0} → SearchState L → SearchState L → List Literal → ℕ → Result Found SolveFault → Type 0
 Searched old new cube budget (Ok found) =
     Begun old new cube × (new.spent ≡ false) × IsFound new cube budget found × (budget ≡ 0 → new.learnt ≡ old.learnt)
 Searched old new cube budget (Err Memory) = Begun old new cube × (new.spent ≡ true) × (1 ≤ budget) × (new.conflicts ≤ budget)
@@ -48,14 +48,14 @@ Searched old new cube budget (Err Spent) = (old.spent ≡ true) × (new ≡ old)
 Searched old new cube budget (Err Foreign) = (old.spent ≡ false) × (is_foreign old.formula.variables cube ≡ true) × (new ≡ old)
 
 -- an import that was begun
-pub record Taken (old new : SolverState) (clause : List Literal) : Type 0 where
+pub record Taken {L : Type 0} (old new : SearchState L) (clause : List Literal) : Type 0 where
   pub not_spent : old.spent ≡ false
   pub not_foreign : is_within old.formula.variables clause ≡ true
   pub same : new.formula ≡ old.formula
   pub same_conflicts : new.conflicts ≡ old.conflicts
 
 -- an import answers so
-abbrev pub Imported : SolverState → SolverState → List Literal → Result Unit SolveFault → Type 0
+abbrev pub Imported : {L : Type 0} → SearchState L → SearchState L → List Literal → Result Unit SolveFault → Type 0
 Imported old new clause (Ok done) = Taken old new clause × (new.spent ≡ false)
 Imported old new clause (Err Memory) = Taken old new clause × (new.spent ≡ true)
 Imported old new clause (Err Spent) = (old.spent ≡ true) × (new ≡ old)

@@ -5,7 +5,7 @@ use Rattle.clauses.specs.Clauses.{Literal, Conjunction, holds, satisfies, value_
 use Rattle.cdcl.specs.declared.search.Ending.{Ending}
 use Rattle.cdcl.specs.declared.search.Ending.TheVariants.{Closed, Model, Budget, Memory}
 use Rattle.cdcl.specs.declared.search.Step.{Step}
-use Rattle.cdcl.specs.declared.search.Step.TheVariants.{Counted, Last, Ended}
+use Rattle.cdcl.specs.declared.search.Step.TheVariants.{Going, Spent, Last, Ended}
 
 -- the budget isn't what ended it
 abbrev pub IsNotBudget : Ending → Type 0
@@ -14,13 +14,14 @@ IsNotBudget (Model _) = Unit {0}
 IsNotBudget Budget = ⊥
 IsNotBudget Memory = Unit {0}
 
--- where the step ends the search, the budget isn't what ended it
-abbrev pub IsNoBudgetStep : Step → Type 0
-IsNoBudgetStep Counted = Unit {0}
-IsNoBudgetStep (Last ending) = IsNotBudget ending
-IsNoBudgetStep (Ended ending) = IsNotBudget ending
+-- where the step ends the search, the ending is so
+abbrev pub IfEnded : (Ending → Type 0) → Step → Type 0
+IfEnded P Going = Unit {0}
+IfEnded P Spent = Unit {0}
+IfEnded P (Last ending) = P ending
+IfEnded P (Ended ending) = P ending
 
--- where the budget ended it, as many conflicts as the budget were counted
+-- where the budget ended it, as much as the budget was counted
 abbrev pub IsCounted : ℕ → ℕ → Ending → Type 0
 IsCounted budget conflicts (Closed _) = Unit {0}
 IsCounted budget conflicts (Model _) = Unit {0}
@@ -34,9 +35,3 @@ IsRight formula cube (Model values) =
     IsTrue (satisfies (value_of values) formula.clauses) × IsTrue (list_all (holds (value_of values)) cube)
 IsRight formula cube Budget = Unit {0}
 IsRight formula cube Memory = Unit {0}
-
--- where the step ends the search by an assignment, this satisfies the formula and the cube
-abbrev pub IsRightStep : Conjunction → List Literal → Step → Type 0
-IsRightStep formula cube Counted = Unit {0}
-IsRightStep formula cube (Last ending) = IsRight formula cube ending
-IsRightStep formula cube (Ended ending) = IsRight formula cube ending

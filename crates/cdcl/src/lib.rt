@@ -16,6 +16,6 @@ mod reduction;
 mod search;
 mod solver;
 mod stamps;
-mod units;
 
+pub use search::{Counted, Ending, Step};
 pub use solver::{Found, SolveFault, Solver};

@@ -1,7 +1,7 @@
 //! Leaving out literals of a learnt clause that follow from its other literals.
 
 use crate::analysis::{Literals, Resolved};
-use propagation::{ClauseArena, Marks, NONE, Trail, variable_of};
+use propagation::{ClauseRef, LitIndex, Marks, Propagator};
 use std::alloc::AllocError;
 
 /// The bit of a level, which it shares with each 64th.
@@ -10,10 +10,10 @@ fn level_bit(level: u32) -> u64 {
 }
 
 /// The bits of these literals' levels.
-fn level_bits(trail: &Trail, literals: &[u32]) -> u64 {
+fn level_bits(known: &Propagator, literals: &[LitIndex]) -> u64 {
     let mut bits = 0u64;
-    for code in literals {
-        bits |= level_bit(trail.level_of(variable_of(*code)));
+    for literal in literals {
+        bits |= level_bit(known.level_of(literal.variable()));
     }
     bits
 }
@@ -21,29 +21,28 @@ fn level_bits(trail: &Trail, literals: &[u32]) -> u64 {
 /// Takes in the variables of a reason that aren't marked. False where one of them rests on a
 /// decision, or on a level that no literal of the clause has.
 fn take_reason(
-    store: &ClauseArena,
-    trail: &Trail,
+    known: &Propagator,
     marks: &mut Marks,
     resolved: &mut Resolved,
     levels: u64,
-    clause: u32,
+    clause: ClauseRef,
 ) -> Result<bool, AllocError> {
-    for code in store.literals(clause) {
-        let variable = variable_of(*code);
+    for literal in known.literals(clause) {
+        let variable = literal.variable();
         if marks.has(variable) {
             continue;
         }
-        let level = trail.level_of(variable);
+        let level = known.level_of(variable);
         if level == 0 {
             marks.mark(variable)?;
-            resolved.roots.push(trail.place_of(variable))?;
+            resolved.roots.push(known.place_of(variable))?;
             continue;
         }
-        if trail.reason_of(variable) == NONE || levels & level_bit(level) == 0 {
+        if known.reason_of(variable).is_none() || levels & level_bit(level) == 0 {
             return Ok(false);
         }
         marks.mark(variable)?;
-        resolved.places.push(trail.place_of(variable))?;
+        resolved.places.push(known.place_of(variable))?;
     }
     Ok(true)
 }
@@ -51,19 +50,18 @@ fn take_reason(
 /// Resolves the variables from this place of the list on, and those that they rest on, down to
 /// marked ones.
 fn resolve_from(
-    store: &ClauseArena,
-    trail: &Trail,
+    known: &Propagator,
     marks: &mut Marks,
     resolved: &mut Resolved,
     levels: u64,
     start: usize,
 ) -> Result<bool, AllocError> {
-    for turn in start..start.saturating_add(trail.most()) {
+    for turn in start..start.saturating_add(known.most()) {
         let Some(place) = resolved.places.get(turn) else {
             return Ok(true);
         };
-        let clause = trail.reason_of(variable_of(trail.literal(*place)));
-        if !take_reason(store, trail, marks, resolved, levels, clause)? {
+        let clause = known.reason_at(*place);
+        if !take_reason(known, marks, resolved, levels, clause)? {
             return Ok(false);
         }
     }
@@ -73,22 +71,21 @@ fn resolve_from(
 /// Whether the literal follows from marked variables; then all that this rests on is resolved and
 /// marked.
 fn leave_out(
-    store: &ClauseArena,
-    trail: &Trail,
+    known: &Propagator,
     marks: &mut Marks,
     resolved: &mut Resolved,
     levels: u64,
-    code: u32,
+    literal: LitIndex,
 ) -> Result<bool, AllocError> {
-    let variable = variable_of(code);
-    if trail.reason_of(variable) == NONE {
+    let variable = literal.variable();
+    if known.reason_of(variable).is_none() {
         return Ok(false);
     }
     let marked = marks.count();
     let start = resolved.places.len();
     let roots = resolved.roots.len();
-    resolved.places.push(trail.place_of(variable))?;
-    if resolve_from(store, trail, marks, resolved, levels, start)? {
+    resolved.places.push(known.place_of(variable))?;
+    if resolve_from(known, marks, resolved, levels, start)? {
         return Ok(true);
     }
     marks.back_to(marked);
@@ -99,19 +96,18 @@ fn leave_out(
 
 /// Leaves out the literals that follow from the others.
 pub(crate) fn minimise(
-    store: &ClauseArena,
-    trail: &Trail,
+    known: &Propagator,
     marks: &mut Marks,
     literals: &mut Literals,
     resolved: &mut Resolved,
 ) -> Result<(), AllocError> {
-    let levels = level_bits(trail, literals.as_slice());
-    let codes = literals.as_mut_slice();
+    let levels = level_bits(known, literals.as_slice());
+    let kept = literals.as_mut_slice();
     let mut end = 0;
-    for read in 0..codes.len() {
-        let code = codes[read];
-        if !leave_out(store, trail, marks, resolved, levels, code)? {
-            codes[end] = code;
+    for read in 0..kept.len() {
+        let literal = kept[read];
+        if !leave_out(known, marks, resolved, levels, literal)? {
+            kept[end] = literal;
             end += 1;
         }
     }

@@ -1,7 +1,7 @@
 //! Probing: what follows at level 0 because a variable can't be true alone.
 
 use crate::engine::Engine;
-use propagation::Truth;
+use propagation::{ClauseRef, LitIndex, Truth};
 use std::alloc::{AllocError, Global};
 
 /// How many variables in a row are probed in vain at most. A probe is as dear as a conflict where
@@ -15,36 +15,40 @@ pub(crate) fn most_in_vain(variables: usize) -> usize {
 
 impl Engine {
     /// The variable to probe next, as its positive literal.
-    fn next_probe(&mut self) -> Option<u32> {
+    fn next_probe(&mut self) -> Option<LitIndex> {
         self.probes_left = self.probes_left.saturating_sub(1);
-        let code = self.probes.get(self.probe_place).copied();
-        self.probe_place = match code {
+        let literal = self.probes.get(self.probe_place).copied();
+        self.probe_place = match literal {
             Some(_) => self.probe_place.saturating_add(1),
             None => 0,
         };
-        code
+        literal
     }
 
     /// Makes this literal true alone. What follows isn't kept as phases: they would be those of
     /// many different cases.
-    fn propagate_alone(&mut self, alloc: Global, code: u32) -> Result<Option<u32>, AllocError> {
-        self.trail.set_keeps_phases(false);
-        self.decide(code)?;
-        let conflict = self.propagate(alloc)?;
-        self.trail.set_keeps_phases(true);
+    fn propagate_alone(
+        &mut self,
+        alloc: Global,
+        literal: LitIndex,
+    ) -> Result<Option<ClauseRef>, AllocError> {
+        self.known.set_keeps_phases(false);
+        self.known.decide(literal)?;
+        let conflict = self.known.propagate(alloc)?;
+        self.known.set_keeps_phases(true);
         Ok(conflict)
     }
 
     /// Makes the next variable true alone, and takes that back unless a clause has become false,
     /// which is answered.
-    fn probe_next(&mut self, alloc: Global) -> Result<Option<u32>, AllocError> {
-        let Some(code) = self.next_probe() else {
+    fn probe_next(&mut self, alloc: Global) -> Result<Option<ClauseRef>, AllocError> {
+        let Some(literal) = self.next_probe() else {
             return Ok(None);
         };
-        if self.trail.value(code) != Truth::Open {
+        if self.known.value(literal) != Truth::Open {
             return Ok(None);
         }
-        let conflict = self.propagate_alone(alloc, code)?;
+        let conflict = self.propagate_alone(alloc, literal)?;
         if conflict.is_some() {
             self.probes_left = most_in_vain(self.probes.len().saturating_add(1));
         } else {
@@ -54,7 +58,7 @@ impl Engine {
     }
 
     /// Probes the variables that are left, until a clause has become false, which is answered.
-    pub(crate) fn probe(&mut self, alloc: Global) -> Result<Option<u32>, AllocError> {
+    pub(crate) fn probe(&mut self, alloc: Global) -> Result<Option<ClauseRef>, AllocError> {
         for _ in 0..self.probes_left {
             let conflict = self.probe_next(alloc)?;
             if conflict.is_some() {

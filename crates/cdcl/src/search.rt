@@ -1,14 +1,14 @@
 //! The search itself.
 
 ghost use Rattle.std.specs.Prelude.{◌≤◌};
-ghost use Rattle.cdcl.specs.Searches.{IsCounted, IsNoBudgetStep, IsRight, IsRightStep};
+ghost use Rattle.cdcl.specs.Searches.{IfEnded, IsCounted, IsNotBudget, IsRight};
 
 use crate::analysis::{Learnt, analyse, analyse_cube, analyse_root};
 use crate::engine::Engine;
 use crate::models::checked;
 use batches::{Batch, Hint};
 use clauses::{Assignment, Formula, Lit};
-use propagation::{Truth, add_line, hint_of, variable_of};
+use propagation::{ClauseRef, LitIndex, Origin, Truth, add_line};
 use std::alloc::{AllocError, Global};
 use std::mem;
 
@@ -16,16 +16,16 @@ use std::mem;
 #[derive(Clone, Copy)]
 enum Stop {
     /// This clause is false.
-    Conflict(u32),
+    Conflict(ClauseRef),
     /// This literal of the cube is false.
-    Falsified(u32),
+    Falsified(LitIndex),
     /// Each variable has a value.
     Complete,
 }
 
 /// How a search ends.
 #[derive(Drop)]
-pub(crate) enum Ending {
+pub enum Ending {
     /// Nothing satisfies the formula and the cube, by this clause.
     Closed(Hint),
     /// This assignment satisfies the formula and the cube.
@@ -36,77 +36,82 @@ pub(crate) enum Ending {
     Memory,
 }
 
-/// What comes of going on to the next stop.
+/// What comes of one step of a search.
 #[derive(Drop)]
-pub(crate) enum Step {
-    /// A conflict after which the search goes on. What would end it counts as one, too, where that
-    /// can't be told: a line that no number is left for, or an assignment that isn't a model.
-    Counted,
-    /// A conflict, which ended the search.
+pub enum Step {
+    /// The search goes on. A solver has counted a conflict then. What would end its search counts
+    /// as one, too, where that can't be told: a line that no number is left for, or an assignment
+    /// that isn't a model.
+    Going,
+    /// The search goes on, but all that was left of the budget is used up.
+    Spent,
+    /// A conflict ended the search, and counts.
     Last(Ending),
-    /// The search ended without a conflict.
+    /// The search ended otherwise.
     Ended(Ending),
 }
 
-/// How a search ended, and how many conflicts it counted.
+/// How a search ended, and how many conflicts it counted, or lines and conflicts.
 #[derive(Drop)]
-pub(crate) struct Counted {
-    pub(crate) ending: Ending,
-    pub(crate) conflicts: u64,
+pub struct Counted {
+    /// How it ended.
+    pub ending: Ending,
+    /// How much was counted.
+    pub conflicts: u64,
 }
 
 /// The clause that closes the cube: the one that is named alone, or one more line of these
 /// literals, which are sorted for it.
 fn close(
     alloc: Global,
-    literals: &mut [u32],
-    tags: &[u32],
+    literals: &mut [LitIndex],
+    origins: &[Origin],
     batch: &mut Batch,
 ) -> Result<Option<Hint>, AllocError> {
-    if let [tag] = tags {
-        return Ok(Some(hint_of(*tag)));
+    if let [origin] = origins {
+        return Ok(Some(origin.hint()));
     }
     literals.sort_unstable();
-    let Some(tag) = add_line(alloc, batch, literals, tags)? else {
+    let Some(origin) = add_line(alloc, batch, literals, origins)? else {
         return Ok(None);
     };
-    Ok(Some(hint_of(tag)))
+    Ok(Some(origin.hint()))
 }
 
 impl Engine {
     /// The literal to decide next.
-    fn choose(&mut self) -> Option<u32> {
-        for _ in 0..=self.trail.most() {
+    fn choose(&mut self) -> Option<LitIndex> {
+        for _ in 0..=self.known.most() {
             let variable = self.order.take()?;
-            let code = variable.saturating_mul(2);
-            if self.trail.value(code) == Truth::Open {
-                return Some(self.trail.with_phase(code));
+            let positive = LitIndex::positive(variable);
+            if self.known.value(positive) == Truth::Open {
+                return Some(self.known.with_phase(positive));
             }
         }
         None
     }
 
     /// Decides the cube's next literal, or one of a variable without value.
-    fn decide_next(&mut self, cube: &[u32]) -> Result<Option<Stop>, AllocError> {
-        if let Some(code) = cube.get(self.trail.level()) {
-            if self.trail.value(*code) == Truth::False {
-                return Ok(Some(Stop::Falsified(*code)));
+    fn decide_next(&mut self, cube: &[LitIndex]) -> Result<Option<Stop>, AllocError> {
+        if let Some(literal) = cube.get(self.known.level()) {
+            if self.known.value(*literal) == Truth::False {
+                return Ok(Some(Stop::Falsified(*literal)));
             }
-            self.decide(*code)?;
+            self.known.decide(*literal)?;
             return Ok(None);
         }
-        let Some(code) = self.choose() else {
+        let Some(literal) = self.choose() else {
             return Ok(Some(Stop::Complete));
         };
-        self.decide(code)?;
+        self.known.decide(literal)?;
         Ok(None)
     }
 
     /// Propagates and decides, below what is decided so far.
-    fn descend(&mut self, alloc: Global, cube: &[u32]) -> Result<Stop, AllocError> {
-        let most = self.trail.most().saturating_add(cube.len());
+    fn descend(&mut self, alloc: Global, cube: &[LitIndex]) -> Result<Stop, AllocError> {
+        let most = self.known.most().saturating_add(cube.len());
         for _ in 0..most.saturating_add(1) {
-            if let Some(clause) = self.propagate(alloc)? {
+            if let Some(clause) = self.known.propagate(alloc)? {
                 return Ok(Stop::Conflict(clause));
             }
             if let Some(stop) = self.decide_next(cube)? {
@@ -117,8 +122,8 @@ impl Engine {
     }
 
     /// Propagates, probes what is left to probe, and decides until a stop.
-    fn advance(&mut self, alloc: Global, cube: &[u32]) -> Result<Stop, AllocError> {
-        if let Some(clause) = self.propagate(alloc)? {
+    fn advance(&mut self, alloc: Global, cube: &[LitIndex]) -> Result<Stop, AllocError> {
+        if let Some(clause) = self.known.propagate(alloc)? {
             return Ok(Stop::Conflict(clause));
         }
         if let Some(clause) = self.probe(alloc)? {
@@ -127,32 +132,12 @@ impl Engine {
         self.descend(alloc, cube)
     }
 
-    /// The tags of the reasons of what stands at these places.
-    fn tags(&self, alloc: Global, places: &[usize]) -> Result<Vec<u32>, AllocError> {
-        let mut tags = Vec::with_capacity(alloc, places.len())?;
-        for place in places {
-            let clause = self
-                .trail
-                .reason_of(variable_of(self.trail.literal(*place)));
-            tags.push(self.store.tag(clause))?;
-        }
-        Ok(tags)
-    }
-
-    /// Takes in a learnt clause with this tag, and what follows from it at its level.
-    fn take_learnt(&mut self, learnt: &Learnt, tag: u32) -> Result<(), AllocError> {
-        let literals = learnt.literals.as_slice();
-        let Some(place) = self.store.add(literals, tag, learnt.glue)? else {
-            return Ok(());
-        };
-        self.pending.push(place)?;
-        if learnt.glue > 1 {
+    /// Has a learnt clause watched, and what follows from it at its level become true.
+    fn take_learnt(&mut self, glue: u32, clause: ClauseRef) -> Result<(), AllocError> {
+        if glue > 1 {
             self.learnt = self.learnt.saturating_add(1);
         }
-        self.watches.add_clause(literals, place)?;
-        if let Some(first) = literals.first() {
-            self.trail.assign(*first, place);
-        }
+        self.known.attach_learnt(clause)?;
         self.order.decay();
         Ok(())
     }
@@ -161,32 +146,42 @@ impl Engine {
     fn learn_in(
         &mut self,
         alloc: Global,
-        conflict: u32,
+        conflict: ClauseRef,
         batch: &mut Batch,
         learnt: &mut Learnt,
     ) -> Result<(), AllocError> {
         analyse(
-            &self.store,
-            &self.trail,
+            &self.known,
             &mut self.marks,
             &mut self.order,
             &mut self.stamps,
             learnt,
             conflict,
         )?;
-        self.derive_units(alloc, &learnt.resolved.roots, batch)?;
-        let mut tags = self.tags(alloc, &learnt.resolved.places)?;
-        tags.push(self.store.tag(conflict))?;
-        let tag = add_line(alloc, batch, &learnt.rising, &tags)?;
+        let roots = &learnt.resolved.roots;
+        self.known
+            .derive_units(alloc, &mut self.marks, roots, batch)?;
+        let places = &learnt.resolved.places;
+        let origins = self.known.origins(alloc, places, Some(conflict))?;
+        let literals = learnt.literals.as_slice();
+        let glue = learnt.glue;
+        let line = self
+            .known
+            .add_line(alloc, literals, &learnt.rising, &origins, glue, batch)?;
         self.back(learnt.level);
-        match tag {
-            Some(tag) => self.take_learnt(learnt, tag),
+        match line {
+            Some(clause) => self.take_learnt(glue, clause),
             None => Ok(()),
         }
     }
 
     /// Learns from the clause that is false.
-    fn learn(&mut self, alloc: Global, conflict: u32, batch: &mut Batch) -> Result<(), AllocError> {
+    fn learn(
+        &mut self,
+        alloc: Global,
+        conflict: ClauseRef,
+        batch: &mut Batch,
+    ) -> Result<(), AllocError> {
         let mut learnt = mem::replace(&mut self.scratch, Learnt::new(alloc));
         let result = self.learn_in(alloc, conflict, batch, &mut learnt);
         self.scratch = learnt;
@@ -196,31 +191,27 @@ impl Engine {
     fn close_root(
         &mut self,
         alloc: Global,
-        conflict: u32,
+        conflict: ClauseRef,
         batch: &mut Batch,
     ) -> Result<Option<Hint>, AllocError> {
-        let mut closing = analyse_root(alloc, &self.store, &self.trail, &mut self.marks, conflict)?;
-        let mut tags = self.tags(alloc, &closing.places)?;
-        tags.push(self.store.tag(conflict))?;
-        close(alloc, closing.literals.as_mut_slice(), &tags, batch)
+        let mut closing = analyse_root(alloc, &self.known, &mut self.marks, conflict)?;
+        let places = &closing.places;
+        let origins = self.known.origins(alloc, places, Some(conflict))?;
+        close(alloc, closing.literals.as_mut_slice(), &origins, batch)
     }
 
     fn close_cube(
         &mut self,
         alloc: Global,
-        falsified: u32,
+        falsified: LitIndex,
         batch: &mut Batch,
     ) -> Result<Option<Hint>, AllocError> {
-        let mut closing = analyse_cube(
-            alloc,
-            &self.store,
-            &self.trail,
-            &mut self.marks,
-            falsified,
-        )?;
-        self.derive_units(alloc, &closing.roots, batch)?;
-        let tags = self.tags(alloc, &closing.places)?;
-        close(alloc, closing.literals.as_mut_slice(), &tags, batch)
+        let mut closing = analyse_cube(alloc, &self.known, &mut self.marks, falsified)?;
+        let roots = &closing.roots;
+        self.known
+            .derive_units(alloc, &mut self.marks, roots, batch)?;
+        let origins = self.known.origins(alloc, &closing.places, None)?;
+        close(alloc, closing.literals.as_mut_slice(), &origins, batch)
     }
 
     /// What a clause that is false brings: the end at level 0, and else a learnt clause.
@@ -229,21 +220,21 @@ impl Engine {
         alloc: Global,
         formula: &Formula,
         cube: &[Lit],
-        conflict: u32,
+        conflict: ClauseRef,
         batch: &mut Batch,
     ) -> Step
-        ensures budget { IsNoBudgetStep result }
-        ensures right { IsRightStep formula.now cube.now result }
+        ensures budget { IfEnded IsNotBudget result }
+        ensures right { IfEnded (IsRight formula.now cube.now) result }
     {
-        if self.trail.level() == 0 {
+        if self.known.level() == 0 {
             return match self.close_root(alloc, conflict, batch) {
                 Ok(Some(last)) => Step::Last(Ending::Closed(last)),
-                Ok(None) => Step::Counted,
+                Ok(None) => Step::Going,
                 Err(_) => Step::Last(Ending::Memory),
             };
         }
         match self.learn(alloc, conflict, batch) {
-            Ok(()) => Step::Counted,
+            Ok(()) => Step::Going,
             Err(_) => Step::Last(Ending::Memory),
         }
     }
@@ -254,30 +245,30 @@ impl Engine {
         alloc: Global,
         formula: &Formula,
         cube: &[Lit],
-        falsified: u32,
+        falsified: LitIndex,
         batch: &mut Batch,
     ) -> Step
-        ensures budget { IsNoBudgetStep result }
-        ensures right { IsRightStep formula.now cube.now result }
+        ensures budget { IfEnded IsNotBudget result }
+        ensures right { IfEnded (IsRight formula.now cube.now) result }
     {
         match self.close_cube(alloc, falsified, batch) {
             Ok(Some(last)) => Step::Ended(Ending::Closed(last)),
-            Ok(None) => Step::Counted,
+            Ok(None) => Step::Going,
             Err(_) => Step::Ended(Ending::Memory),
         }
     }
 
     /// The end by a value for each variable.
     fn take_complete(&self, alloc: Global, formula: &Formula, cube: &[Lit]) -> Step
-        ensures budget { IsNoBudgetStep result }
-        ensures right { IsRightStep formula.now cube.now result }
+        ensures budget { IfEnded IsNotBudget result }
+        ensures right { IfEnded (IsRight formula.now cube.now) result }
     {
-        let Ok(values) = self.trail.values(alloc) else {
+        let Ok(values) = self.known.values(alloc) else {
             return Step::Ended(Ending::Memory);
         };
         match checked(formula, cube, values) {
             Some(assignment) => Step::Ended(Ending::Model(assignment)),
-            None => Step::Counted,
+            None => Step::Going,
         }
     }
 
@@ -287,26 +278,28 @@ impl Engine {
         alloc: Global,
         formula: &Formula,
         cube: &[Lit],
-        codes: &[u32],
+        literals: &[LitIndex],
         batch: &mut Batch,
     ) -> Step
-        ensures budget { IsNoBudgetStep result }
-        ensures right { IsRightStep formula.now cube.now result }
+        ensures budget { IfEnded IsNotBudget result }
+        ensures right { IfEnded (IsRight formula.now cube.now) result }
     {
-        match self.advance(alloc, codes) {
+        match self.advance(alloc, literals) {
             Err(_) => Step::Ended(Ending::Memory),
             Ok(Stop::Conflict(conflict)) => {
                 self.take_conflict(alloc, formula, cube, conflict, batch)
             }
-            Ok(Stop::Falsified(code)) => self.take_falsified(alloc, formula, cube, code, batch),
+            Ok(Stop::Falsified(falsified)) => {
+                self.take_falsified(alloc, formula, cube, falsified, batch)
+            },
             Ok(Stop::Complete) => self.take_complete(alloc, formula, cube),
         }
     }
 
     /// The cube's literals, where the search can begin.
-    fn begin_with(&mut self, alloc: Global, cube: &[Lit]) -> Result<Vec<u32>, AllocError> {
+    fn begin_with(&mut self, alloc: Global, cube: &[Lit]) -> Result<Vec<LitIndex>, AllocError> {
         self.begin(alloc)?;
-        self.cube_codes(alloc, cube)
+        self.cube_literals(alloc, cube)
     }
 
     /// Goes on until an end is met or as many conflicts as the budget were counted.
@@ -315,7 +308,7 @@ impl Engine {
         alloc: Global,
         formula: &Formula,
         cube: &[Lit],
-        codes: &[u32],
+        literals: &[LitIndex],
         budget: u64,
         batch: &mut Batch,
     ) -> Counted
@@ -324,8 +317,9 @@ impl Engine {
         ensures right { IsRight formula.now cube.now result.ending }
     {
         for before in 0..budget {
-            match self.go_on(alloc, formula, cube, codes, batch) {
-                Step::Counted => {}
+            match self.go_on(alloc, formula, cube, literals, batch) {
+                Step::Going => {}
+                Step::Spent => break,
                 Step::Last(ending) => {
                     return Counted {
                         ending,
@@ -361,7 +355,7 @@ impl Engine {
         ensures right { IsRight formula.now cube.now result.ending }
     {
         match self.begin_with(alloc, cube) {
-            Ok(codes) => self.go_on_within(alloc, formula, cube, &codes, budget, batch),
+            Ok(literals) => self.go_on_within(alloc, formula, cube, &literals, budget, batch),
             Err(_) => Counted {
                 ending: Ending::Memory,
                 conflicts: 0,

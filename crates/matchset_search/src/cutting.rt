@@ -4,7 +4,7 @@ use crate::engine::Engine;
 use crate::others::SharedClosed;
 use batches::Batch;
 use matchsets::{Cycle, Shape};
-use propagation::{Trail, negated};
+use propagation::{LitIndex, Trail};
 use std::alloc::{AllocError, Global};
 
 /// The pairs of neighbours on the cycle.
@@ -27,15 +27,15 @@ fn base_of(
     shape: &Shape<'_>,
     trail: &Trail,
     edges: &[(usize, usize)],
-) -> Result<Vec<u32>, AllocError> {
-    let mut codes = Vec::new(alloc);
+) -> Result<Vec<LitIndex>, AllocError> {
+    let mut literals = Vec::new(alloc);
     for (first, second) in edges {
-        let code = shape.earlier(*first, *second);
-        if !trail.is_true(code) {
-            codes.push(negated(code))?;
+        let literal = shape.earlier(*first, *second);
+        if !trail.is_true(literal) {
+            literals.push(literal.negated())?;
         }
     }
-    Ok(codes)
+    Ok(literals)
 }
 
 /// Where all edges hold, so many bits of the clocks are the same at each.
@@ -44,15 +44,15 @@ fn make_bits(
     shape: &Shape<'_>,
     engine: &mut Engine,
     others: &mut SharedClosed,
-    base: &[u32],
+    base: &[LitIndex],
     edges: &[(usize, usize)],
     bits: usize,
     batch: &mut Batch,
 ) -> Result<(), AllocError> {
     for (first, second) in edges {
-        let mut codes = base.to_vec(alloc)?;
-        codes.push(shape.same(*first, *second, bits))?;
-        engine.make_lemma(alloc, others, &codes, batch)?;
+        let mut literals = base.to_vec(alloc)?;
+        literals.push(shape.same(*first, *second, bits))?;
+        engine.make_lemma(alloc, others, &literals, batch)?;
     }
     Ok(())
 }
@@ -69,7 +69,7 @@ pub(crate) fn cut_cycle(
 ) -> Result<bool, AllocError> {
     let edges = edges_of(alloc, cycle.events())?;
     engine.to_root(alloc)?;
-    let base = base_of(alloc, shape, &engine.trail, &edges)?;
+    let base = base_of(alloc, shape, engine.known.trail(), &edges)?;
     for bits in 1..shape.clock_size() {
         make_bits(alloc, shape, engine, others, &base, &edges, bits, batch)?;
     }

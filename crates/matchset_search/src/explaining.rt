@@ -2,7 +2,7 @@
 
 use crate::engine::{Conflict, Engine, Written};
 use batches::Batch;
-use propagation::{ClauseArena, Marks, NONE, Trail, negated, variable_of};
+use propagation::{ClauseRef, LitIndex, Marks, Propagator};
 use std::alloc::{AllocError, Global};
 
 /// For how many places there is room at first.
@@ -12,7 +12,7 @@ const FIRST_PLACES: usize = 64;
 /// `roots` are those of them at level 0, where the way ends.
 #[derive(Drop)]
 struct Explained {
-    literals: Vec<u32>,
+    literals: Vec<LitIndex>,
     places: Vec<usize>,
     roots: Vec<usize>,
 }
@@ -33,26 +33,25 @@ struct Way {
     roots: Vec<usize>,
 }
 
-/// The values that a conflict follows from, and the clauses that gave them.
+/// What a conflict follows from, by the clauses that gave values.
 #[derive(Clone, Copy)]
 struct Values<'v> {
-    store: &'v ClauseArena,
-    trail: &'v Trail,
+    known: &'v Propagator,
 }
 
 impl Values<'_> {
     /// The variable from whose value alone this one's follows, by a clause of two literals; none
     /// where that one has its value at level 0.
     fn single_cause(&self, variable: usize) -> Option<usize> {
-        let &[one, other] = self.store.literals(self.trail.reason_of(variable)) else {
+        let &[one, other] = self.known.literals(self.known.reason_of(variable)) else {
             return None;
         };
-        let cause = if variable_of(one) == variable {
-            variable_of(other)
+        let cause = if one.variable() == variable {
+            other.variable()
         } else {
-            variable_of(one)
+            one.variable()
         };
-        if self.trail.level_of(cause) == 0 {
+        if self.known.level_of(cause) == 0 {
             return None;
         }
         Some(cause)
@@ -61,23 +60,13 @@ impl Values<'_> {
     /// The place of the decision from which the variable's value follows by such clauses alone.
     fn decision_of(&self, variable: usize) -> Option<usize> {
         let mut cause = variable;
-        for _ in 0..self.trail.len() {
-            if self.trail.reason_of(cause) == NONE {
-                return Some(self.trail.place_of(cause));
+        for _ in 0..self.known.len() {
+            if self.known.reason_of(cause).is_none() {
+                return Some(self.known.place_of(cause));
             }
             cause = self.single_cause(cause)?;
         }
         None
-    }
-
-    fn mark_all(&self, marks: &mut Marks, clause: u32) -> Result<(), AllocError> {
-        for code in self.store.literals(clause) {
-            let variable = variable_of(*code);
-            if !marks.has(variable) {
-                marks.mark(variable)?;
-            }
-        }
-        Ok(())
     }
 
     /// Follows the reason of the value at this place, or takes it for a cause, where it follows
@@ -89,7 +78,7 @@ impl Values<'_> {
         place: usize,
         falsified: Option<usize>,
     ) -> Result<(), AllocError> {
-        let variable = variable_of(self.trail.literal(place));
+        let variable = self.known.literal(place).variable();
         if falsified != Some(variable)
             && let Some(decision) = self.decision_of(variable)
         {
@@ -97,11 +86,11 @@ impl Values<'_> {
             return Ok(());
         }
         way.places.push(place)?;
-        if self.trail.level_of(variable) == 0 {
+        if self.known.level_of(variable) == 0 {
             way.roots.push(place)?;
             return Ok(());
         }
-        self.mark_all(marks, self.trail.reason_of(variable))
+        self.known.mark_all(marks, self.known.reason_of(variable))
     }
 
     /// Follows the reasons of the marked variables downwards, to what follows from one decision
@@ -117,8 +106,8 @@ impl Values<'_> {
             places: Vec::with_capacity(alloc, FIRST_PLACES)?,
             roots: Vec::new(alloc),
         };
-        for place in (0..self.trail.len()).rev() {
-            if marks.has(variable_of(self.trail.literal(place))) {
+        for place in (0..self.known.len()).rev() {
+            if marks.has(self.known.literal(place).variable()) {
                 self.follow(marks, &mut way, place, falsified)?;
             }
         }
@@ -128,13 +117,13 @@ impl Values<'_> {
 
     /// Puts the cause of this one in, unless it is there.
     fn go_back(&self, causes: &mut Vec<Cause>, cause: Cause) -> Result<(), AllocError> {
-        let variable = variable_of(self.trail.literal(cause.place));
+        let variable = self.known.literal(cause.place).variable();
         let Some(single) = self.single_cause(variable) else {
             return Ok(());
         };
         let before = Cause {
             decision: cause.decision,
-            place: self.trail.place_of(single),
+            place: self.known.place_of(single),
         };
         if let Err(at) = causes.binary_search(&before) {
             causes.insert(at, before)?;
@@ -152,7 +141,7 @@ impl Values<'_> {
         } = way;
         let mut literals = Vec::with_capacity(alloc, causes.len().saturating_add(1))?;
         causes.sort_unstable();
-        for _ in 0..self.trail.len() {
+        for _ in 0..self.known.len() {
             let Some(cause) = causes.pop() else {
                 break;
             };
@@ -161,7 +150,7 @@ impl Values<'_> {
                     places.push(cause.place)?;
                     self.go_back(&mut causes, cause)?;
                 }
-                _ => literals.push(negated(self.trail.literal(cause.place)))?,
+                _ => literals.push(self.known.literal(cause.place).negated())?,
             }
         }
         places.sort_unstable();
@@ -176,9 +165,9 @@ impl Values<'_> {
         &self,
         alloc: Global,
         marks: &mut Marks,
-        clause: u32,
+        clause: ClauseRef,
     ) -> Result<Explained, AllocError> {
-        self.mark_all(marks, clause)?;
+        self.known.mark_all(marks, clause)?;
         let way = self.trace(alloc, marks, None)?;
         self.narrowed(alloc, way)
     }
@@ -187,58 +176,35 @@ impl Values<'_> {
         &self,
         alloc: Global,
         marks: &mut Marks,
-        falsified: u32,
+        falsified: LitIndex,
     ) -> Result<Explained, AllocError> {
-        let variable = variable_of(falsified);
+        let variable = falsified.variable();
         marks.mark(variable)?;
         let way = self.trace(alloc, marks, Some(variable))?;
         let mut explained = self.narrowed(alloc, way)?;
-        explained.literals.push(negated(falsified))?;
+        explained.literals.push(falsified.negated())?;
         Ok(explained)
     }
 }
 
 /// The clause that is named alone: the one that is false, or the reason against the assumption.
-fn named_alone(trail: &Trail, conflict: Conflict, places: &[usize]) -> Option<u32> {
+fn named_alone(known: &Propagator, conflict: Conflict, places: &[usize]) -> Option<ClauseRef> {
     match conflict {
         Conflict::Clause(clause) if places.is_empty() => Some(clause),
-        Conflict::Falsified(_) if places.len() == 1 => {
-            Some(trail.reason_of(variable_of(trail.literal(places[0]))))
-        }
+        Conflict::Falsified(_) if places.len() == 1 => Some(known.reason_at(places[0])),
         _ => None,
     }
 }
 
 impl Engine {
     fn explain(&mut self, alloc: Global, conflict: Conflict) -> Result<Explained, AllocError> {
-        let values = Values {
-            store: &self.store,
-            trail: &self.trail,
-        };
+        let values = Values { known: &self.known };
         match conflict {
             Conflict::Clause(clause) => values.explain_clause(alloc, &mut self.marks, clause),
-            Conflict::Falsified(code) => values.explain_falsified(alloc, &mut self.marks, code),
+            Conflict::Falsified(literal) => {
+                values.explain_falsified(alloc, &mut self.marks, literal)
+            },
         }
-    }
-
-    /// The tags of the reasons of what stands at these places, and of the clause that is false.
-    fn tags(
-        &self,
-        alloc: Global,
-        places: &[usize],
-        conflict: Conflict,
-    ) -> Result<Vec<u32>, AllocError> {
-        let mut tags = Vec::with_capacity(alloc, places.len().saturating_add(1))?;
-        for place in places {
-            let reason = self
-                .trail
-                .reason_of(variable_of(self.trail.literal(*place)));
-            tags.push(self.store.tag(reason))?;
-        }
-        if let Conflict::Clause(clause) = conflict {
-            tags.push(self.store.tag(clause))?;
-        }
-        Ok(tags)
     }
 
     /// The clause by which there is no such conflict: the one that is named alone, or one more
@@ -256,8 +222,9 @@ impl Engine {
             places,
             roots,
         } = self.explain(alloc, conflict)?;
-        self.derive_units(alloc, &roots, batch)?;
-        if let Some(clause) = named_alone(&self.trail, conflict, &places) {
+        self.known
+            .derive_units(alloc, &mut self.marks, &roots, batch)?;
+        if let Some(clause) = named_alone(&self.known, conflict, &places) {
             let is_new = false;
             return Ok(Some(Written {
                 clause,
@@ -265,8 +232,12 @@ impl Engine {
                 is_new,
             }));
         }
-        let tags = self.tags(alloc, &places, conflict)?;
-        let Some(clause) = self.add_line(alloc, &literals, &tags, batch)? else {
+        let last = match conflict {
+            Conflict::Clause(clause) => Some(clause),
+            Conflict::Falsified(_) => None,
+        };
+        let origins = self.known.origins(alloc, &places, last)?;
+        let Some(clause) = self.add_line(alloc, &literals, &origins, batch)? else {
             return Ok(None);
         };
         let is_new = true;

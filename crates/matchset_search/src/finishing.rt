@@ -5,6 +5,7 @@ use crate::explorer::Explorer;
 use crate::tasks::{Branch, Branching, Purpose, Task};
 use batches::Batch;
 use matchsets::Key;
+use propagation::{ClauseRef, LitIndex};
 use std::alloc::{AllocError, Global};
 
 /// What comes of a literal.
@@ -15,25 +16,25 @@ enum Excluding {
     /// No clause against it follows.
     Gap(usize),
     /// The state is closed by this clause.
-    Closed(u32),
+    Closed(ClauseRef),
     /// All literals are false or can't be, so that this clause is false.
-    Conflict(u32),
+    Conflict(ClauseRef),
 }
 
 /// The clause against a literal.
 #[derive(Clone, Copy)]
 enum Against {
     /// This one.
-    Clause(u32),
+    Clause(ClauseRef),
     /// This one, which closes the state without it.
-    Closed(u32),
+    Closed(ClauseRef),
     /// None that follows.
     Nothing,
 }
 
 impl<'e> Explorer<'e> {
     /// The clause of the state below the literal.
-    fn clause_below(&self, branch: &Branch) -> Option<u32> {
+    fn clause_below(&self, branch: &Branch) -> Option<ClauseRef> {
         self.clause_of(branch.key?)
     }
 
@@ -42,7 +43,7 @@ impl<'e> Explorer<'e> {
         &mut self,
         alloc: Global,
         branch: &Branch,
-    ) -> Result<Option<u32>, AllocError> {
+    ) -> Result<Option<ClauseRef>, AllocError> {
         let conflict = self.engine.decide(alloc, branch.literal)?;
         if conflict.is_some() {
             return Ok(conflict);
@@ -60,7 +61,7 @@ impl<'e> Explorer<'e> {
         branch: &Branch,
         batch: &mut Batch,
     ) -> Result<Option<(Written, bool)>, AllocError> {
-        let level = self.engine.trail.level();
+        let level = self.engine.known.level();
         let falsified = self.falsified_below(alloc, branch)?;
         let written = match falsified {
             Some(clause) => self.engine.write(alloc, Conflict::Clause(clause), batch)?,
@@ -70,7 +71,7 @@ impl<'e> Explorer<'e> {
             Some(written) => self.engine.is_above(level, &written.literals),
             None => false,
         };
-        self.engine.trail.back(level);
+        self.engine.known.back(level);
         match written {
             Some(written) => Ok(Some((written, takes_it))),
             None => Ok(None),
@@ -148,13 +149,13 @@ impl<'e> Explorer<'e> {
         branch: &mut Branch,
         batch: &mut Batch,
     ) -> Result<Excluding, AllocError> {
-        if self.engine.trail.is_false(branch.literal) {
+        if self.engine.known.trail().is_false(branch.literal) {
             return Ok(Excluding::Going);
         }
-        let is_first = self.engine.trail.len() == assumed;
+        let is_first = self.engine.known.len() == assumed;
         match self.propagate_below(alloc, is_first, branch)? {
-            Excluding::Going if self.engine.trail.is_unset(branch.literal) => {
-                let is_first = self.engine.trail.len() == assumed;
+            Excluding::Going if self.engine.known.trail().is_unset(branch.literal) => {
+                let is_first = self.engine.known.len() == assumed;
                 self.exclude(alloc, place, is_first, branch, batch)
             }
             end => Ok(end),
@@ -168,7 +169,7 @@ impl<'e> Explorer<'e> {
         branches: &mut [Branch],
         batch: &mut Batch,
     ) -> Result<Excluding, AllocError> {
-        let assumed = self.engine.trail.len();
+        let assumed = self.engine.known.len();
         let mut place = 0usize;
         for branch in branches.iter_mut() {
             match self.take_branch(alloc, place, assumed, branch, batch)? {
@@ -219,8 +220,8 @@ impl<'e> Explorer<'e> {
         &mut self,
         alloc: Global,
         key: Key,
-        assumptions: Vec<u32>,
-        falsified: u32,
+        assumptions: Vec<LitIndex>,
+        falsified: ClauseRef,
         batch: &mut Batch,
     ) -> Result<(), AllocError> {
         let conflict = Conflict::Clause(falsified);

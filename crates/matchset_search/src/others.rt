@@ -2,6 +2,7 @@
 
 use clauses::Clause;
 use pages::{Lines, Log};
+use propagation::{ClauseRef, Origin};
 use std::alloc::{AllocError, Global};
 use std::collections::HashMap;
 
@@ -14,11 +15,11 @@ pub struct ClosedState {
     pub number: u32,
 }
 
-/// The same, with the place of the clause in the store.
+/// The same, with the clause itself.
 #[derive(Clone, Copy)]
 pub(crate) struct Told {
     pub(crate) state: u64,
-    pub(crate) clause: u32,
+    pub(crate) clause: ClauseRef,
 }
 
 /// What others closed, and the lines by which they did, and what this search closed in the last
@@ -76,8 +77,8 @@ impl SharedClosed {
         Ok(())
     }
 
-    /// This search closed this state, or made this lemma, by the clause at this place of the store.
-    pub(crate) fn tell(&mut self, state: u64, clause: u32) -> Result<(), AllocError> {
+    /// This search closed this state, or made this lemma, by this clause.
+    pub(crate) fn tell(&mut self, state: u64, clause: ClauseRef) -> Result<(), AllocError> {
         self.told.push(Told { state, clause })?;
         Ok(())
     }
@@ -92,10 +93,10 @@ impl SharedClosed {
         self.numbers.remove(&state);
     }
 
-    /// The line of the lemma that this number tells, and its number. It is forgotten then.
-    pub(crate) fn take_lemma(&mut self, state: u64) -> Option<(u32, &Clause)> {
+    /// The line of the lemma that this number tells, and where it comes from. It is forgotten then.
+    pub(crate) fn take_lemma(&mut self, state: u64) -> Option<(Origin, &Clause)> {
         let number = self.numbers.remove(&state)?;
-        Some((number, self.line(number)?))
+        Some((Origin::of_number(number)?, self.line(number)?))
     }
 
     /// The line of this number.
@@ -105,12 +106,12 @@ impl SharedClosed {
         Some(line.clause())
     }
 
-    /// The line by which the state that this number tells is closed, and its number.
-    pub(crate) fn closing(&self, state: u64) -> Option<(u32, &Clause)> {
+    /// The line by which the state that this number tells is closed, and where it comes from.
+    pub(crate) fn closing(&self, state: u64) -> Option<(Origin, &Clause)> {
         if self.is_empty() {
             return None;
         }
         let number = *self.numbers.get(&state)?;
-        Some((number, self.line(number)?))
+        Some((Origin::of_number(number)?, self.line(number)?))
     }
 }

@@ -1,14 +1,13 @@
 //! The search, as its callers see it.
 
-ghost use Rattle.std.specs.Prelude.{◌≡◌, IfOk};
+ghost use Rattle.std.specs.Prelude.{◌≡◌, IfOk, []};
 ghost use Rattle.clauses.specs.Clauses.{is_within};
-ghost use Rattle.matchset_search.specs.Answers.{Searched, Imported, Started, Informed};
+ghost use Rattle.cdcl.specs.Answers.{Searched, Imported, Started};
 
 use crate::claims::InProgress;
 use crate::explorer::Explorer;
 use crate::others::ClosedState;
-use crate::search::{Counted, Ending};
-use cdcl::{Found, SolveFault};
+use cdcl::{Counted, Ending, Found, SolveFault};
 use clauses::Clause;
 use encode::Encoded;
 use pages::Lines;
@@ -26,11 +25,11 @@ pub struct StateSearch<'e> {
 }
 
 impl<'e> Model for StateSearch<'e> {
-    ghost use Rattle.matchset_search.specs.States.{SearchState};
+    ghost use Rattle.cdcl.specs.States.{SearchState};
 
-    ghost Value = { SearchState };
+    ghost Value = { SearchState (Unit {0}) };
 
-    ghost view = { λ s. record { formula = s.encoded.now.formula; spent = s.is_spent; conflicts = s.counted } };
+    ghost view = { λ s. record { formula = s.encoded.now.formula; spent = s.is_spent; conflicts = s.counted; learnt = tt {0} } };
 }
 
 impl<'e> StateSearch<'e> {
@@ -98,7 +97,7 @@ impl<'e> StateSearch<'e> {
         lines: Lines,
         closings: &[ClosedState],
     ) -> Result<(), SolveFault>
-        ensures { Informed self.old self.new result }
+        ensures { Imported self.old self.new [] result }
     {
         if self.is_spent {
             return Err(SolveFault::Spent);
@@ -131,7 +130,7 @@ impl<'e> StateSearch<'e> {
     /// Refused with [`SolveFault::Spent`] exactly where memory ran out before; never with
     /// [`SolveFault::Foreign`].
     pub fn search(&mut self, alloc: Global, budget: u64) -> Result<Found, SolveFault>
-        ensures { Searched self.old self.new budget result }
+        ensures { Searched self.old self.new [] budget result }
     {
         if self.is_spent {
             return Err(SolveFault::Spent);

@@ -1,22 +1,25 @@
 //! What is left to do.
 
+use crate::explorer::Explorer;
 use matchsets::{Key, State};
+use propagation::{ClauseRef, LitIndex};
+use std::alloc::AllocError;
 
 /// A literal on which a state is branched.
 #[derive(Drop)]
 pub(crate) struct Branch {
-    pub(crate) literal: u32,
+    pub(crate) literal: LitIndex,
     /// What tells the state below it; none where there is none.
     pub(crate) key: Option<Key>,
     /// The clause against it, once there is one.
-    pub(crate) clause: Option<u32>,
+    pub(crate) clause: Option<ClauseRef>,
 }
 
 /// A state and the literals on which it is branched, of which one is true.
 #[derive(Drop)]
 pub(crate) struct Branching {
     pub(crate) key: Key,
-    pub(crate) assumptions: Vec<u32>,
+    pub(crate) assumptions: Vec<LitIndex>,
     pub(crate) branches: Vec<Branch>,
 }
 
@@ -46,7 +49,7 @@ pub(crate) enum Task {
     /// To close a state below whose literals all states are closed.
     Finish(Branching),
     /// To learn a clause of negations of these literals.
-    Learn(Vec<u32>, Purpose),
+    Learn(Vec<LitIndex>, Purpose),
     /// To close the search, now that this first state is closed.
     End(State),
 }
@@ -58,11 +61,38 @@ impl Task {
     }
 
     /// The key of the state that it closes, and what is assumed of that, where it knows both.
-    pub(crate) fn closing(&self) -> Option<(Key, &[u32])> {
+    pub(crate) fn closing(&self) -> Option<(Key, &[LitIndex])> {
         match self {
             Task::Finish(branching) => { Some((branching.key, branching.assumptions.as_slice())) }
-            Task::Learn(codes, Purpose::State(key)) => Some((*key, codes.as_slice())),
+            Task::Learn(literals, Purpose::State(key)) => Some((*key, literals.as_slice())),
             _ => None,
         }
+    }
+}
+
+impl<'e> Explorer<'e> {
+    /// Puts a task before all others.
+    pub(crate) fn push(&mut self, task: Task) -> Result<(), AllocError> {
+        self.tasks.push(task)?;
+        Ok(())
+    }
+
+    /// How many states are to be closed first.
+    fn visits(&self) -> usize {
+        let mut count = 0usize;
+        for task in self.tasks.iter().rev() {
+            if !task.is_visit() {
+                break;
+            }
+            count = count.saturating_add(1);
+        }
+        count
+    }
+
+    /// Puts the state behind all others that are to be closed below the same one.
+    pub(crate) fn put_last(&mut self, state: State) -> Result<(), AllocError> {
+        let place = self.tasks.len().saturating_sub(self.visits());
+        self.tasks.insert(place, Task::VisitLast(state))?;
+        Ok(())
     }
 }

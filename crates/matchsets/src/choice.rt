@@ -4,7 +4,7 @@ use crate::shape::{CallShape, Role, Shape};
 use crate::state::State;
 use callorder::Policy;
 use formula::Condition;
-use propagation::{Trail, negated};
+use propagation::{LitIndex, Trail};
 use std::alloc::{AllocError, Global};
 
 /// How many partners a call may still have, and how many of them are pairs with sends that aren't
@@ -100,7 +100,7 @@ fn due_taker(shape: &Shape<'_>, trail: &Trail, call: usize) -> Option<Due> {
 
 fn may_be_buffered(trail: &Trail, call: &CallShape) -> bool {
     match call.buffered {
-        Some(code) => !trail.is_false(code),
+        Some(literal) => !trail.is_false(literal),
         None => false,
     }
 }
@@ -156,29 +156,29 @@ fn push_pairs(
     trail: &Trail,
     call: usize,
     are_issued: bool,
-    codes: &mut Vec<u32>,
+    literals: &mut Vec<LitIndex>,
 ) -> Result<(), AllocError> {
     for place in shape.of_call(call) {
         let pair = shape.pair(*place);
         let is_issued = trail.is_true(shape.call(pair.send).issued);
         if trail.is_unset(pair.matched) && is_issued == are_issued {
-            codes.push(pair.matched)?;
+            literals.push(pair.matched)?;
         }
     }
     Ok(())
 }
 
 /// The literal that this call is issued, where that is open.
-fn open_issue(shape: &Shape<'_>, trail: &Trail, call: Option<usize>) -> Option<u32> {
-    let code = shape.call(call?).issued;
-    if trail.is_unset(code) {
-        return Some(code);
+fn open_issue(shape: &Shape<'_>, trail: &Trail, call: Option<usize>) -> Option<LitIndex> {
+    let literal = shape.call(call?).issued;
+    if trail.is_unset(literal) {
+        return Some(literal);
     }
     None
 }
 
 /// The literal that a wait of this pair is issued, where that is open.
-fn open_wait(shape: &Shape<'_>, trail: &Trail, place: usize) -> Option<u32> {
+fn open_wait(shape: &Shape<'_>, trail: &Trail, place: usize) -> Option<LitIndex> {
     let pair = shape.pair(place);
     let send = shape.call(pair.send);
     let taker = shape.call(pair.taker);
@@ -193,7 +193,7 @@ fn open_wait(shape: &Shape<'_>, trail: &Trail, place: usize) -> Option<u32> {
     open_issue(shape, trail, send.waiter)
 }
 
-fn first_wait(shape: &Shape<'_>, trail: &Trail, state: &State) -> Option<u32> {
+fn first_wait(shape: &Shape<'_>, trail: &Trail, state: &State) -> Option<LitIndex> {
     for place in &state.unsettled {
         let wait = open_wait(shape, trail, *place);
         if wait.is_some() {
@@ -204,7 +204,7 @@ fn first_wait(shape: &Shape<'_>, trail: &Trail, state: &State) -> Option<u32> {
 }
 
 /// The literal that the rank goes on after a standard send, where that is open.
-fn going_on(shape: &Shape<'_>, trail: &Trail, state: &State, rank: usize) -> Option<u32> {
+fn going_on(shape: &Shape<'_>, trail: &Trail, state: &State, rank: usize) -> Option<LitIndex> {
     let progress = state.rank(rank);
     if progress.issued == 0 || progress.is_finished {
         return None;
@@ -217,43 +217,43 @@ fn going_on(shape: &Shape<'_>, trail: &Trail, state: &State, rank: usize) -> Opt
     }
 }
 
-fn first_going_on(shape: &Shape<'_>, trail: &Trail, state: &State) -> Option<u32> {
+fn first_going_on(shape: &Shape<'_>, trail: &Trail, state: &State) -> Option<LitIndex> {
     if shape.policy != Policy::Any {
         return None;
     }
     for rank in 0..shape.ranks().len() {
-        let code = going_on(shape, trail, state, rank);
-        if code.is_some() {
-            return code;
+        let literal = going_on(shape, trail, state, rank);
+        if literal.is_some() {
+            return literal;
         }
     }
     None
 }
 
-fn two(alloc: Global, one: u32, other: u32) -> Result<Vec<u32>, AllocError> {
-    let codes = vec![in alloc; one, other]?;
-    Ok(codes)
+fn two(alloc: Global, one: LitIndex, other: LitIndex) -> Result<Vec<LitIndex>, AllocError> {
+    let literals = vec![in alloc; one, other]?;
+    Ok(literals)
 }
 
-/// The numbers of literals one of which is true, where propagation of what the state assumes has
+/// Literals one of which is true, where propagation of what the state assumes has
 /// come to its end; none where no such rule helps.
 pub fn choose(
     alloc: Global,
     shape: &Shape<'_>,
     trail: &Trail,
     state: &State,
-) -> Result<Vec<u32>, AllocError> {
-    if let Some(code) = first_wait(shape, trail, state) {
-        return two(alloc, code, negated(code));
+) -> Result<Vec<LitIndex>, AllocError> {
+    if let Some(literal) = first_wait(shape, trail, state) {
+        return two(alloc, literal, literal.negated());
     }
     if let Some(call) = most_due(shape, trail, state) {
-        let mut codes = Vec::new(alloc);
-        push_pairs(shape, trail, call, true, &mut codes)?;
-        push_pairs(shape, trail, call, false, &mut codes)?;
-        return Ok(codes);
+        let mut literals = Vec::new(alloc);
+        push_pairs(shape, trail, call, true, &mut literals)?;
+        push_pairs(shape, trail, call, false, &mut literals)?;
+        return Ok(literals);
     }
     match first_going_on(shape, trail, state) {
-        Some(code) => two(alloc, negated(code), code),
+        Some(literal) => two(alloc, literal.negated(), literal),
         None => Ok(Vec::new(alloc)),
     }
 }

@@ -1,7 +1,7 @@
 //! What holds of the order of events, as a graph.
 
 use crate::shape::Shape;
-use propagation::{Trail, variable_of};
+use propagation::{LitIndex, Trail};
 use std::alloc::{AllocError, Global};
 
 /// That an event is earlier than another one costs more where it doesn't hold at level 0.
@@ -13,7 +13,7 @@ const OTHER_COST: u32 = 4;
 #[derive(Clone, Copy)]
 pub(crate) struct Step {
     pub(crate) to: usize,
-    code: u32,
+    literal: LitIndex,
 }
 
 /// A step, and the event that it is from.
@@ -36,7 +36,7 @@ pub(crate) struct HappensBefore {
 impl Step {
     /// What it costs.
     pub(crate) fn cost(&self, trail: &Trail) -> u32 {
-        if trail.level_of(variable_of(self.code)) == 0 {
+        if trail.level_of(self.literal.variable()) == 0 {
             return ROOT_COST;
         }
         OTHER_COST
@@ -47,9 +47,9 @@ impl Step {
 fn edges_of(alloc: Global, shape: &Shape<'_>, trail: &Trail) -> Result<Vec<Edge>, AllocError> {
     let mut edges = Vec::new(alloc);
     for place in 0..trail.len() {
-        let code = trail.literal(place);
-        if let Some((from, to)) = shape.order_of(code) {
-            let step = Step { to, code };
+        let literal = trail.literal(place);
+        if let Some((from, to)) = shape.order_of(literal) {
+            let step = Step { to, literal };
             edges.push(Edge { from, step })?;
         }
     }
@@ -99,7 +99,11 @@ fn starts(alloc: Global, events: usize, edges: &[Edge]) -> Result<Vec<usize>, Al
 /// The steps, in the order of the events that they are from, which start there.
 fn steps(alloc: Global, starts: &[usize], edges: &[Edge]) -> Result<Vec<Step>, AllocError> {
     let mut next = starts.to_vec(alloc)?;
-    let mut steps = vec![in alloc; Step { to: 0, code: 0 }; edges.len()]?;
+    let nowhere = Step {
+        to: 0,
+        literal: LitIndex::first(),
+    };
+    let mut steps = vec![in alloc; nowhere; edges.len()]?;
     for edge in edges {
         let place = count(next.as_mut_slice(), edge.from);
         if let Some(entry) = steps.get_mut(place) {

@@ -11,6 +11,7 @@ mod choice;
 mod cycles;
 mod graph;
 mod key;
+mod making;
 mod reading;
 mod reality;
 mod shape;

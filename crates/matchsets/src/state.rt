@@ -2,7 +2,7 @@
 
 use crate::key::{Key, NOTHING, mixed};
 use crate::shape::{CallShape, PairShape, RankShape, Shape};
-use propagation::negated;
+use propagation::LitIndex;
 use std::alloc::{AllocError, Global};
 
 /// How many literals at most say how far a rank comes.
@@ -67,29 +67,32 @@ fn mixed_numbers(hash: u64, numbers: &[usize]) -> u64 {
 
 fn push_issued(
     shape: &Shape<'_>,
-    codes: &mut Vec<u32>,
+    literals: &mut Vec<LitIndex>,
     ranks: &[Progress],
 ) -> Result<(), AllocError> {
     for (rank, progress) in shape.ranks().iter().zip(ranks) {
         if progress.issued > 0 {
             let last = rank.first.saturating_add(progress.issued - 1);
-            codes.push(shape.call(last).issued)?;
+            literals.push(shape.call(last).issued)?;
         }
     }
     Ok(())
 }
 
 /// The literal that no call of the rank from this one on is issued.
-pub(crate) fn ends_at(shape: &Shape<'_>, rank: &RankShape, place: usize) -> u32 {
+pub(crate) fn ends_at(shape: &Shape<'_>, rank: &RankShape, place: usize) -> LitIndex {
     if place < rank.length {
-        return negated(shape.call(rank.first.saturating_add(place)).issued);
+        return shape
+            .call(rank.first.saturating_add(place))
+            .issued
+            .negated();
     }
     rank.unfinished
 }
 
 fn push_end(
     shape: &Shape<'_>,
-    codes: &mut Vec<u32>,
+    literals: &mut Vec<LitIndex>,
     rank: &RankShape,
     progress: &Progress,
 ) -> Result<(), AllocError> {
@@ -97,28 +100,32 @@ fn push_end(
         return Ok(());
     }
     if progress.is_finished {
-        codes.push(negated(rank.unfinished))?;
+        literals.push(rank.unfinished.negated())?;
     }
     if progress.end <= rank.length {
-        codes.push(ends_at(shape, rank, progress.end))?;
+        literals.push(ends_at(shape, rank, progress.end))?;
     }
     Ok(())
 }
 
 fn push_ends(
     shape: &Shape<'_>,
-    codes: &mut Vec<u32>,
+    literals: &mut Vec<LitIndex>,
     ranks: &[Progress],
 ) -> Result<(), AllocError> {
     for (rank, progress) in shape.ranks().iter().zip(ranks) {
-        push_end(shape, codes, rank, progress)?;
+        push_end(shape, literals, rank, progress)?;
     }
     Ok(())
 }
 
-fn push_kept(shape: &Shape<'_>, codes: &mut Vec<u32>, kept: &[usize]) -> Result<(), AllocError> {
+fn push_kept(
+    shape: &Shape<'_>,
+    literals: &mut Vec<LitIndex>,
+    kept: &[usize],
+) -> Result<(), AllocError> {
     for pair in kept {
-        codes.push(shape.pair(*pair).matched)?;
+        literals.push(shape.pair(*pair).matched)?;
     }
     Ok(())
 }
@@ -204,10 +211,10 @@ impl State {
         !shape.is_probe(pair.taker) && self.is_matched(pair.send) != self.is_matched(pair.taker)
     }
 
-    fn push_cut(&self, shape: &Shape<'_>, codes: &mut Vec<u32>) -> Result<(), AllocError> {
+    fn push_cut(&self, shape: &Shape<'_>, literals: &mut Vec<LitIndex>) -> Result<(), AllocError> {
         for pair in shape.matches() {
             if self.is_cut(shape, pair) {
-                codes.push(negated(pair.matched))?;
+                literals.push(pair.matched.negated())?;
             }
         }
         Ok(())
@@ -215,13 +222,17 @@ impl State {
 
     /// The numbers of literals that say all this. That the forgotten pairs are among themselves is
     /// said by what isn't matched.
-    pub fn assumptions(&self, alloc: Global, shape: &Shape<'_>) -> Result<Vec<u32>, AllocError> {
+    pub fn assumptions(
+        &self,
+        alloc: Global,
+        shape: &Shape<'_>,
+    ) -> Result<Vec<LitIndex>, AllocError> {
         let most = self.ranks.len().saturating_mul(CODES_OF_A_RANK);
-        let mut codes = Vec::with_capacity(alloc, most.saturating_add(self.kept.len()))?;
-        push_issued(shape, &mut codes, &self.ranks)?;
-        push_ends(shape, &mut codes, &self.ranks)?;
-        push_kept(shape, &mut codes, &self.kept)?;
-        self.push_cut(shape, &mut codes)?;
-        Ok(codes)
+        let mut literals = Vec::with_capacity(alloc, most.saturating_add(self.kept.len()))?;
+        push_issued(shape, &mut literals, &self.ranks)?;
+        push_ends(shape, &mut literals, &self.ranks)?;
+        push_kept(shape, &mut literals, &self.kept)?;
+        self.push_cut(shape, &mut literals)?;
+        Ok(literals)
     }
 }

@@ -1,40 +1,41 @@
-//! Clauses in one list of numbers.
+//! Clauses in one list.
 
-use crate::codes::number_at;
+use crate::literal::{LitIndex, literal_at};
 use crate::moves::Moves;
+use crate::reference::{ClauseRef, Origin};
 use crate::trail::{Trail, Truth};
 use std::alloc::{AllocError, Global};
 
-/// How many numbers stand before a clause's literals.
+/// How many words stand before a clause's literals.
 const HEAD: usize = 3;
 
 /// A clause of so few levels is never dropped.
 const BEST_GLUE: u32 = 2;
 
-/// Clauses, each as its length, its tag, its glue and its literals. A clause is named by the place
-/// where it begins. Where two literals are watched, they are the first two. The first ones may be
-/// made to stay for good.
+/// Clauses, each as its length, its origin, its glue and its literals, all in one list; what is no
+/// literal is kept as the literal of that number. Where two literals are watched, they are the
+/// first two. The first clauses may be made to stay for good.
 #[derive(Drop)]
-pub struct ClauseArena {
-    words: Vec<u32>,
+pub(crate) struct ClauseArena {
+    words: Vec<LitIndex>,
     fixed: usize,
 }
 
 /// What becomes of a clause one of whose watched literals is false now.
 #[derive(Clone, Copy)]
-pub enum Watching {
+pub(crate) enum Watching {
     /// It is watched as before, by this literal among others.
-    Kept(u32),
+    Kept(LitIndex),
     /// The first literal is watched in the other's place, beside the second.
-    Moved(u32, u32),
+    Moved(LitIndex, LitIndex),
     /// All its literals but this one are false.
-    Unit(u32),
+    Unit(LitIndex),
     /// All its literals are false.
     Conflict,
 }
 
 /// Brings up to two literals that aren't false to the front, and answers how many there are.
-pub fn bring_unset(literals: &mut [u32], trail: &Trail) -> usize {
+fn bring_unset(literals: &mut [LitIndex], trail: &Trail) -> usize {
     let mut found = 0;
     for place in 0..literals.len() {
         if found < 2 && trail.value(literals[place]) != Truth::False {
@@ -45,7 +46,7 @@ pub fn bring_unset(literals: &mut [u32], trail: &Trail) -> usize {
     found
 }
 
-fn watch_another(literals: &mut [u32], falsified: u32, trail: &Trail) -> Watching {
+fn watch_another(literals: &mut [LitIndex], falsified: LitIndex, trail: &Trail) -> Watching {
     if literals.len() < 2 {
         return Watching::Kept(falsified);
     }
@@ -71,9 +72,14 @@ fn watch_another(literals: &mut [u32], falsified: u32, trail: &Trail) -> Watchin
     Watching::Unit(first)
 }
 
+/// The number at this place, 0 past the end.
+fn number_at(words: &[LitIndex], place: usize) -> u32 {
+    literal_at(words, place).number()
+}
+
 impl ClauseArena {
     /// No clause.
-    pub fn new(alloc: Global) -> ClauseArena {
+    pub(crate) fn new(alloc: Global) -> ClauseArena {
         ClauseArena {
             words: Vec::new(alloc),
             fixed: 0,
@@ -81,94 +87,123 @@ impl ClauseArena {
     }
 
     /// All clauses so far stay for good.
-    pub fn fix(&mut self) {
+    pub(crate) fn fix(&mut self) {
         self.fixed = self.words.len();
     }
 
-    /// The place after the clauses that stay for good.
-    pub fn fixed(&self) -> usize {
-        self.fixed
+    /// Whether the clause stays for good.
+    pub(crate) fn is_fixed(&self, clause: ClauseRef) -> bool {
+        clause.place() < self.fixed
     }
 
-    /// Drops all clauses but those that stay for good and those at these places, which rise, and
-    /// tells where each is then.
-    pub fn keep(&mut self, alloc: Global, places: &[u32]) -> Result<Moves, AllocError> {
+    /// The clauses that don't stay for good.
+    pub(crate) fn learnt(&self, alloc: Global) -> Result<Vec<ClauseRef>, AllocError> {
+        match ClauseRef::at(self.fixed) {
+            Some(first) => self.from(alloc, first),
+            None => Ok(Vec::new(alloc)),
+        }
+    }
+
+    /// All clauses.
+    pub(crate) fn all(&self, alloc: Global) -> Result<Vec<ClauseRef>, AllocError> {
+        match ClauseRef::at(0) {
+            Some(first) => self.from(alloc, first),
+            None => Ok(Vec::new(alloc)),
+        }
+    }
+
+    /// The clauses from this one on.
+    fn from(&self, alloc: Global, first: ClauseRef) -> Result<Vec<ClauseRef>, AllocError> {
+        let mut clauses = Vec::new(alloc);
+        let mut clause = first;
+        for _ in first.place()..self.words.len() {
+            let Some(after) = self.after(clause) else {
+                break;
+            };
+            clauses.push(clause)?;
+            clause = after;
+        }
+        Ok(clauses)
+    }
+
+    /// The clause after this one, which may be none yet.
+    fn after(&self, clause: ClauseRef) -> Option<ClauseRef> {
+        let length = self.words.get(clause.place())?;
+        ClauseRef::at(clause.place() + HEAD + length.number() as usize)
+    }
+
+    /// Drops all clauses but those that stay for good and these, whose places rise, and tells where
+    /// each is then.
+    pub(crate) fn keep(
+        &mut self,
+        alloc: Global,
+        clauses: &[ClauseRef],
+    ) -> Result<Moves, AllocError> {
         let old = self.words.split_off(self.fixed.min(self.words.len()))?;
         let mut moves = Moves::new(alloc, self.fixed, old.len())?;
-        for place in places {
-            let start = (*place as usize).saturating_sub(self.fixed);
+        for clause in clauses {
+            let start = clause.place().saturating_sub(self.fixed);
             let length = number_at(&old, start) as usize;
-            if let Some(clause) = old.as_slice().get(start..start + HEAD + length)
-                && let Ok(now) = u32::try_from(self.words.len())
+            if let Some(words) = old.as_slice().get(start..start + HEAD + length)
+                && let Some(now) = ClauseRef::at(self.words.len())
             {
-                self.words.extend_from_slice(clause)?;
-                moves.set(*place, now);
+                self.words.extend_from_slice(words)?;
+                moves.set(*clause, now);
             }
         }
         Ok(moves)
     }
 
-    /// One more clause, and its place; none where there is no number left for that.
-    pub fn add(
+    /// One more clause; none where there is no number left for its place.
+    pub(crate) fn add(
         &mut self,
-        literals: &[u32],
-        tag: u32,
+        literals: &[LitIndex],
+        origin: Origin,
         glue: u32,
-    ) -> Result<Option<u32>, AllocError> {
-        let Ok(place) = u32::try_from(self.words.len()) else {
+    ) -> Result<Option<ClauseRef>, AllocError> {
+        let Some(clause) = ClauseRef::at(self.words.len()) else {
             return Ok(None);
         };
         let Ok(length) = u32::try_from(literals.len()) else {
             return Ok(None);
         };
-        self.words.push(length)?;
-        self.words.push(tag)?;
-        self.words.push(glue)?;
+        self.words.push(LitIndex::of_number(length))?;
+        self.words.push(LitIndex::of_number(origin.packed()))?;
+        self.words.push(LitIndex::of_number(glue))?;
         self.words.extend_from_slice(literals)?;
-        Ok(Some(place))
+        Ok(Some(clause))
     }
 
-    /// How many numbers stand in it; it has no more clauses than these.
-    pub fn size(&self) -> usize {
-        self.words.len()
+    /// Where the clause comes from.
+    pub(crate) fn origin(&self, clause: ClauseRef) -> Origin {
+        Origin::of_packed(number_at(&self.words, clause.place() + 1))
     }
 
-    /// The clause's tag.
-    pub fn tag(&self, place: u32) -> u32 {
-        number_at(&self.words, place as usize + 1)
-    }
-
-    /// Gives the clause this tag.
-    pub fn set_tag(&mut self, place: u32, tag: u32) {
-        if let Some(entry) = self.words.get_mut(place as usize + 1) {
-            *entry = tag;
+    /// From now on the clause comes from there.
+    pub(crate) fn set_origin(&mut self, clause: ClauseRef, origin: Origin) {
+        if let Some(entry) = self.words.get_mut(clause.place() + 1) {
+            *entry = LitIndex::of_number(origin.packed());
         }
     }
 
     /// In how many levels the clause's literals stood as it was learnt; 0 for one of the formula.
-    pub fn glue(&self, place: u32) -> u32 {
-        number_at(&self.words, place as usize + 2)
-    }
-
-    /// The place of the clause after this one.
-    pub fn after(&self, place: u32) -> Option<u32> {
-        let length = self.words.get(place as usize)?;
-        u32::try_from(place as usize + HEAD + *length as usize).ok()
+    pub(crate) fn glue(&self, clause: ClauseRef) -> u32 {
+        number_at(&self.words, clause.place() + 2)
     }
 
     /// How soon the clause is dropped: those of more levels first, and of these the older ones.
-    pub fn rank(&self, place: u32) -> Option<u64> {
-        let glue = self.glue(place);
+    pub(crate) fn rank(&self, clause: ClauseRef) -> Option<u64> {
+        let glue = self.glue(clause);
         if glue <= BEST_GLUE {
             return None;
         }
-        Some(u64::from(glue) * 4_294_967_296 + u64::from(u32::MAX - place))
+        Some(u64::from(glue) * 4_294_967_296 + u64::from(clause.behind()))
     }
 
     /// The clause's literals.
-    pub fn literals(&self, place: u32) -> &[u32] {
-        let length = number_at(&self.words, place as usize) as usize;
-        let start = place as usize + HEAD;
+    pub(crate) fn literals(&self, clause: ClauseRef) -> &[LitIndex] {
+        let length = number_at(&self.words, clause.place()) as usize;
+        let start = clause.place() + HEAD;
         match self.words.as_slice().get(start..start + length) {
             Some(literals) => literals,
             None => &[],
@@ -176,9 +211,14 @@ impl ClauseArena {
     }
 
     /// Looks for a literal to watch in the place of the one that has become false.
-    pub fn rewatch(&mut self, place: u32, falsified: u32, trail: &Trail) -> Watching {
-        let length = number_at(&self.words, place as usize) as usize;
-        let start = place as usize + HEAD;
+    pub(crate) fn rewatch(
+        &mut self,
+        clause: ClauseRef,
+        falsified: LitIndex,
+        trail: &Trail,
+    ) -> Watching {
+        let length = number_at(&self.words, clause.place()) as usize;
+        let start = clause.place() + HEAD;
         match self.words.as_mut_slice().get_mut(start..start + length) {
             Some(literals) => watch_another(literals, falsified, trail),
             None => Watching::Kept(falsified),
@@ -187,9 +227,9 @@ impl ClauseArena {
 
     /// Brings up to two of the clause's literals that aren't false to the front, and answers how
     /// many there are.
-    pub fn bring_unset(&mut self, place: u32, trail: &Trail) -> usize {
-        let length = number_at(&self.words, place as usize) as usize;
-        let start = place as usize + HEAD;
+    pub(crate) fn bring_unset(&mut self, clause: ClauseRef, trail: &Trail) -> usize {
+        let length = number_at(&self.words, clause.place()) as usize;
+        let start = clause.place() + HEAD;
         match self.words.as_mut_slice().get_mut(start..start + length) {
             Some(literals) => bring_unset(literals, trail),
             None => 0,

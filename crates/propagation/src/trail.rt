@@ -2,8 +2,9 @@
 
 ghost use Rattle.std.specs.Prelude.{◌≤◌};
 
-use crate::codes::{NONE, negated, number_at, variable_of};
+use crate::literal::{LitIndex, literal_at};
 use crate::moves::Moves;
+use crate::reference::ClauseRef;
 use std::alloc::{AllocError, Global};
 
 /// The value of a literal.
@@ -22,7 +23,7 @@ pub enum Truth {
 #[derive(Clone, Copy)]
 struct Note {
     level: u32,
-    reason: u32,
+    reason: ClauseRef,
     place: u32,
     phase: bool,
 }
@@ -30,7 +31,7 @@ struct Note {
 fn no_note() -> Note {
     Note {
         level: 0,
-        reason: NONE,
+        reason: ClauseRef::none(),
         place: 0,
         phase: false,
     }
@@ -41,28 +42,28 @@ fn no_note() -> Note {
 pub struct Trail {
     values: Vec<Truth>,
     notes: Vec<Note>,
-    literals: Vec<u32>,
+    literals: Vec<LitIndex>,
     top: usize,
-    head: usize,
+    pub(crate) head: usize,
     limits: Vec<usize>,
     keeps_phases: bool,
     ghost propagated: { head ≤ top },
 }
 
-fn put(values: &mut [Truth], code: u32, value: Truth) {
-    if let Some(entry) = values.get_mut(code as usize) {
+fn put(values: &mut [Truth], literal: LitIndex, value: Truth) {
+    if let Some(entry) = values.get_mut(literal.place()) {
         *entry = value;
     }
 }
 
 impl Trail {
     /// The empty trail over this many variables.
-    pub fn new(alloc: Global, variables: u32) -> Result<Trail, AllocError> {
+    pub(crate) fn new(alloc: Global, variables: u32) -> Result<Trail, AllocError> {
         let count = variables as usize;
         Ok(Trail {
             values: vec![in alloc; Truth::Open; 2 * count]?,
             notes: vec![in alloc; no_note(); count]?,
-            literals: vec![in alloc; 0; count]?,
+            literals: vec![in alloc; LitIndex::first(); count]?,
             top: 0,
             head: 0,
             limits: Vec::new(alloc),
@@ -71,26 +72,26 @@ impl Trail {
     }
 
     /// The literal's value.
-    pub fn value(&self, code: u32) -> Truth {
-        match self.values.get(code as usize) {
+    pub fn value(&self, literal: LitIndex) -> Truth {
+        match self.values.get(literal.place()) {
             Some(value) => *value,
             None => Truth::True,
         }
     }
 
     /// Whether the literal is true.
-    pub fn is_true(&self, code: u32) -> bool {
-        self.value(code) == Truth::True
+    pub fn is_true(&self, literal: LitIndex) -> bool {
+        self.value(literal) == Truth::True
     }
 
     /// Whether the literal is false.
-    pub fn is_false(&self, code: u32) -> bool {
-        self.value(code) == Truth::False
+    pub fn is_false(&self, literal: LitIndex) -> bool {
+        self.value(literal) == Truth::False
     }
 
     /// Whether the literal has no value yet.
-    pub fn is_unset(&self, code: u32) -> bool {
-        self.value(code) == Truth::Open
+    pub fn is_unset(&self, literal: LitIndex) -> bool {
+        self.value(literal) == Truth::Open
     }
 
     fn note(&self, variable: usize) -> Note {
@@ -106,38 +107,38 @@ impl Trail {
     }
 
     /// The clause that gave the variable its value.
-    pub fn reason_of(&self, variable: usize) -> u32 {
+    pub(crate) fn reason_of(&self, variable: usize) -> ClauseRef {
         self.note(variable).reason
     }
 
     /// Whether the literal is true by a decision.
-    pub fn is_decided(&self, code: u32) -> bool {
-        let variable = variable_of(code);
-        self.is_true(code) && self.level_of(variable) > 0 && self.reason_of(variable) == NONE
+    pub fn is_decided(&self, literal: LitIndex) -> bool {
+        let variable = literal.variable();
+        self.is_true(literal) && self.level_of(variable) > 0 && self.reason_of(variable).is_none()
     }
 
     /// Puts another clause that gives the variable its value in the place of the one so far.
-    pub fn set_reason(&mut self, variable: usize, reason: u32) {
+    pub(crate) fn set_reason(&mut self, variable: usize, reason: ClauseRef) {
         if let Some(note) = self.notes.get_mut(variable) {
             note.reason = reason;
         }
     }
 
     /// Follows the clauses that gave values to where they are now.
-    pub fn move_reasons(&mut self, moves: &Moves) {
+    pub(crate) fn move_reasons(&mut self, moves: &Moves) {
         for note in self.notes.iter_mut() {
-            note.reason = moves.place(note.reason).unwrap_or(NONE);
+            note.reason = moves.place(note.reason).unwrap_or(ClauseRef::none());
         }
     }
 
     /// The variable's place on the trail.
-    pub fn place_of(&self, variable: usize) -> usize {
+    pub(crate) fn place_of(&self, variable: usize) -> usize {
         self.note(variable).place as usize
     }
 
     /// The literal at this place.
-    pub fn literal(&self, place: usize) -> u32 {
-        number_at(&self.literals, place)
+    pub fn literal(&self, place: usize) -> LitIndex {
+        literal_at(&self.literals, place)
     }
 
     /// How many literals are true.
@@ -146,7 +147,7 @@ impl Trail {
     }
 
     /// How many literals can be true.
-    pub fn most(&self) -> usize {
+    pub(crate) fn most(&self) -> usize {
         self.literals.len()
     }
 
@@ -156,51 +157,51 @@ impl Trail {
     }
 
     /// Begins a level.
-    pub fn open_level(&mut self) -> Result<(), AllocError> {
+    pub(crate) fn open_level(&mut self) -> Result<(), AllocError> {
         self.limits.push(self.top)?;
         Ok(())
     }
 
     /// Makes the literal true.
-    pub fn assign(&mut self, code: u32, reason: u32) {
+    pub(crate) fn assign(&mut self, literal: LitIndex, reason: ClauseRef) {
         if self.top >= self.literals.len() {
             return;
         }
-        put(self.values.as_mut_slice(), code, Truth::True);
-        put(self.values.as_mut_slice(), negated(code), Truth::False);
-        let level = u32::try_from(self.limits.len()).unwrap_or(NONE);
-        let place = u32::try_from(self.top).unwrap_or(NONE);
+        put(self.values.as_mut_slice(), literal, Truth::True);
+        put(self.values.as_mut_slice(), literal.negated(), Truth::False);
+        let level = u32::try_from(self.limits.len()).unwrap_or(u32::MAX);
+        let place = u32::try_from(self.top).unwrap_or(u32::MAX);
         let keeps_phases = self.keeps_phases;
-        if let Some(note) = self.notes.get_mut(variable_of(code)) {
+        if let Some(note) = self.notes.get_mut(literal.variable()) {
             note.level = level;
             note.reason = reason;
             note.place = place;
             if keeps_phases {
-                note.phase = code % 2 == 0;
+                note.phase = literal.is_positive();
             }
         }
-        self.literals[self.top] = code;
+        self.literals[self.top] = literal;
         self.top += 1;
     }
 
     /// Whether values that come from now on count as the last ones of their variables.
-    pub fn set_keeps_phases(&mut self, keeps_phases: bool) {
+    pub(crate) fn set_keeps_phases(&mut self, keeps_phases: bool) {
         self.keeps_phases = keeps_phases;
     }
 
     /// The next literal that wasn't propagated yet.
-    pub fn take_next(&mut self) -> Option<u32> {
+    pub(crate) fn take_next(&mut self) -> Option<LitIndex> {
         if self.head >= self.top {
             return None;
         }
-        let code = number_at(&self.literals, self.head);
+        let literal = literal_at(&self.literals, self.head);
         self.head += 1;
-        Some(code)
+        Some(literal)
     }
 
-    fn unassign(&mut self, code: u32) {
-        put(self.values.as_mut_slice(), code, Truth::Open);
-        put(self.values.as_mut_slice(), negated(code), Truth::Open);
+    fn unassign(&mut self, literal: LitIndex) {
+        put(self.values.as_mut_slice(), literal, Truth::Open);
+        put(self.values.as_mut_slice(), literal.negated(), Truth::Open);
     }
 
     /// Takes back all from this place on. Of what stays, what wasn't propagated yet still is to be.
@@ -209,8 +210,8 @@ impl Trail {
     {
         let head = self.head.min(length);
         for place in length..self.top {
-            let code = number_at(&self.literals, place);
-            self.unassign(code);
+            let literal = literal_at(&self.literals, place);
+            self.unassign(literal);
         }
         self.top = length;
         self.head = head;
@@ -218,13 +219,13 @@ impl Trail {
 
     /// How many literals were true when the level above this one began, which is how many stay
     /// where all above this one are taken back. None where there is no level above it.
-    pub fn length_at(&self, level: usize) -> Option<usize> {
+    pub(crate) fn length_at(&self, level: usize) -> Option<usize> {
         self.limits.get(level).copied()
     }
 
     /// Takes back all levels above this one. Of what stays, what wasn't propagated yet still is to
     /// be.
-    pub fn back(&mut self, level: usize)
+    pub(crate) fn back(&mut self, level: usize)
         ensures { self.new.head ≤ self.old.head }
     {
         if let Some(length) = self.length_at(level) {
@@ -234,22 +235,22 @@ impl Trail {
     }
 
     /// Takes back all, level 0 too.
-    pub fn reset(&mut self) {
+    pub(crate) fn reset(&mut self) {
         self.limits.clear();
         self.shorten(0);
     }
 
     /// The literal of this variable with the value that the variable had last.
-    pub fn with_phase(&self, positive: u32) -> u32 {
-        if self.note(variable_of(positive)).phase {
+    pub(crate) fn with_phase(&self, positive: LitIndex) -> LitIndex {
+        if self.note(positive.variable()).phase {
             positive
         } else {
-            negated(positive)
+            positive.negated()
         }
     }
 
     /// The variables' values: false where there is none.
-    pub fn values(&self, alloc: Global) -> Result<Vec<bool>, AllocError> {
+    pub(crate) fn values(&self, alloc: Global) -> Result<Vec<bool>, AllocError> {
         let mut values = Vec::with_capacity(alloc, self.notes.len())?;
         for variable in 0..self.notes.len() {
             values.push(self.values.get(2 * variable).copied() == Some(Truth::True))?;

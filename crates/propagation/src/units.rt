@@ -1,73 +1,140 @@
-//! Lines of one literal for variables that have their value at level 0.
+//! What values rest on, and lines of one literal for variables that have theirs at level 0.
 
-use crate::codes::variable_of;
+use crate::literal::LitIndex;
 use crate::marks::Marks;
-use crate::store::ClauseArena;
-use crate::trail::Trail;
+use crate::propagator::Propagator;
+use crate::reference::{ClauseRef, Origin};
+use batches::Batch;
 use std::alloc::{AllocError, Global};
 
-fn mark_places(trail: &Trail, marks: &mut Marks, places: &[usize]) -> Result<(), AllocError> {
-    for place in places {
-        marks.mark(variable_of(trail.literal(*place)))?;
-    }
-    Ok(())
-}
-
-/// Adds the places of the variables of a reason that aren't marked, and marks them.
-fn add_reason(
-    store: &ClauseArena,
-    trail: &Trail,
-    marks: &mut Marks,
-    places: &mut Vec<usize>,
-    clause: u32,
-) -> Result<(), AllocError> {
-    for code in store.literals(clause) {
-        let variable = variable_of(*code);
-        if !marks.has(variable) {
-            marks.mark(variable)?;
-            places.push(trail.place_of(variable))?;
+impl Propagator {
+    /// Marks the variables of the clause.
+    pub fn mark_all(&self, marks: &mut Marks, clause: ClauseRef) -> Result<(), AllocError> {
+        for literal in self.literals(clause) {
+            let variable = literal.variable();
+            if !marks.has(variable) {
+                marks.mark(variable)?;
+            }
         }
+        Ok(())
     }
-    Ok(())
-}
 
-/// These places of level 0 and those of all that stand on the way to them, rising.
-pub fn with_reasons(
-    alloc: Global,
-    store: &ClauseArena,
-    trail: &Trail,
-    marks: &mut Marks,
-    roots: &[usize],
-) -> Result<Vec<usize>, AllocError> {
-    let mut places = roots.to_vec(alloc)?;
-    mark_places(trail, marks, roots)?;
-    for turn in 0..trail.most() {
-        let Some(place) = places.get(turn) else {
-            break;
+    fn mark_places(&self, marks: &mut Marks, places: &[usize]) -> Result<(), AllocError> {
+        for place in places {
+            marks.mark(self.literal(*place).variable())?;
+        }
+        Ok(())
+    }
+
+    /// Adds the places of the variables of a reason that aren't marked, and marks them.
+    fn add_reason(
+        &self,
+        marks: &mut Marks,
+        places: &mut Vec<usize>,
+        clause: ClauseRef,
+    ) -> Result<(), AllocError> {
+        for literal in self.literals(clause) {
+            let variable = literal.variable();
+            if !marks.has(variable) {
+                marks.mark(variable)?;
+                places.push(self.place_of(variable))?;
+            }
+        }
+        Ok(())
+    }
+
+    /// These places of level 0 and those of all that stand on the way to them, rising.
+    fn with_reasons(
+        &self,
+        alloc: Global,
+        marks: &mut Marks,
+        roots: &[usize],
+    ) -> Result<Vec<usize>, AllocError> {
+        let mut places = roots.to_vec(alloc)?;
+        self.mark_places(marks, roots)?;
+        for turn in 0..self.most() {
+            let Some(place) = places.get(turn) else {
+                break;
+            };
+            let clause = self.reason_at(*place);
+            self.add_reason(marks, &mut places, clause)?;
+        }
+        marks.clear();
+        places.sort_unstable();
+        Ok(places)
+    }
+
+    /// The origins of the reasons of the other variables of this reason, and then its own.
+    fn unit_origins(
+        &self,
+        alloc: Global,
+        clause: ClauseRef,
+        literal: LitIndex,
+    ) -> Result<Vec<Origin>, AllocError> {
+        let literals = self.literals(clause);
+        let mut origins = Vec::with_capacity(alloc, literals.len())?;
+        for other in literals {
+            if *other != literal {
+                origins.push(self.origin(self.reason_of(other.variable())))?;
+            }
+        }
+        origins.push(self.origin(clause))?;
+        Ok(origins)
+    }
+
+    /// The origins of the reasons of what stands at these places of the trail, and behind them that
+    /// of this clause, where there is one.
+    pub fn origins(
+        &self,
+        alloc: Global,
+        places: &[usize],
+        last: Option<ClauseRef>,
+    ) -> Result<Vec<Origin>, AllocError> {
+        let mut origins = Vec::with_capacity(alloc, places.len().saturating_add(1))?;
+        for place in places {
+            origins.push(self.origin(self.reason_at(*place)))?;
+        }
+        if let Some(clause) = last {
+            origins.push(self.origin(clause))?;
+        }
+        Ok(origins)
+    }
+
+    /// Derives the literal at this place of level 0 as a clause of its own, where it isn't one yet.
+    /// The other variables of its reason have theirs.
+    fn derive_unit(
+        &mut self,
+        alloc: Global,
+        place: usize,
+        batch: &mut Batch,
+    ) -> Result<(), AllocError> {
+        let literal = self.literal(place);
+        let clause = self.reason_at(place);
+        if self.literals(clause).len() <= 1 {
+            return Ok(());
+        }
+        let origins = self.unit_origins(alloc, clause, literal)?;
+        let unit = [literal];
+        let Some(unit) = self.add_line(alloc, &unit, &unit, &origins, 1, batch)? else {
+            return Ok(());
         };
-        let clause = trail.reason_of(variable_of(trail.literal(*place)));
-        add_reason(store, trail, marks, &mut places, clause)?;
+        self.trail.set_reason(literal.variable(), unit);
+        Ok(())
     }
-    marks.clear();
-    places.sort_unstable();
-    Ok(places)
-}
 
-/// The tags of the reasons of the other variables of this reason, and then its own.
-pub fn unit_tags(
-    alloc: Global,
-    store: &ClauseArena,
-    trail: &Trail,
-    clause: u32,
-    code: u32,
-) -> Result<Vec<u32>, AllocError> {
-    let literals = store.literals(clause);
-    let mut tags = Vec::with_capacity(alloc, literals.len())?;
-    for other in literals {
-        if *other != code {
-            tags.push(store.tag(trail.reason_of(variable_of(*other))))?;
+    /// Derives the literals at these places of level 0, and all that they rest on, as clauses of
+    /// their own. No variable is marked before and after.
+    pub fn derive_units(
+        &mut self,
+        alloc: Global,
+        marks: &mut Marks,
+        roots: &[usize],
+        batch: &mut Batch,
+    ) -> Result<(), AllocError> {
+        let places = self.with_reasons(alloc, marks, roots)?;
+        for place in &places {
+            self.derive_unit(alloc, *place, batch)?;
         }
+        Ok(())
     }
-    tags.push(store.tag(clause))?;
-    Ok(tags)
 }

@@ -1,10 +1,11 @@
 //! What is searched with no cube, before the workers begin and beside them.
 
 use crate::common::{Opening, SearchContext};
+use crate::cube_search::CONFLICTS_AT_A_TIME;
 use crate::gate::{Gate, Searched};
 use crate::numbers::number_of;
 use crate::stop::Stop;
-use crate::worker::{CONFLICTS_AT_A_TIME, Worker};
+use crate::worker::Worker;
 use cdcl::Found;
 use pool::{Share, Why};
 use std::alloc::Global;
