@@ -6,7 +6,7 @@ use Rattle.std.proofs.lemmas.List.Concat.{flat_map-append}
 use Rattle.std.proofs.lemmas.List.Folds.{flat_map-map}
 use Rattle.std.proofs.lemmas.List.FromFn.{get_or-map-range_with_len, length-map-range_with_len}
 use Rattle.callorder.specs.Programs.{MpiProgram, are_fit, is_probe, takes, sees, are_of_one_rank}
-use Rattle.candidates.specs.Pairs.{places, takers_of, probes_of, matching_pairs, seeing_pairs, pairs_of, pair_at}
+use Rattle.candidates.specs.Pairs.{places, matching_pairs, seeing_pairs, pairs_of, pair_at}
 use Rattle.candidates.proofs.Ranges.{flat_map_range_more}
 use Rattle.std.proofs.lemmas.Bool.{and_parts}
 use Rattle.std.proofs.lemmas.Bool.Decides.{nat_tests}

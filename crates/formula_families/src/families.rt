@@ -286,10 +286,8 @@ pub fn states_order(family: Family) -> bool
     ensures { result ≡ (family_of family).states_order }
 {
     match family {
-        Family::NoPairWaits
-        | Family::NoIssueWaits
-        | Family::SomeUnfinished
-        | Family::Buffering => false,
+        Family::NoPairWaits | Family::NoIssueWaits | Family::SomeUnfinished | Family::Buffering =>
+            false,
         Family::IssueOrder
         | Family::ReturnOrder
         | Family::MatchOrder

@@ -7,9 +7,7 @@ ghost use Rattle.formula.specs.Families.{events as events_of};
 ghost use Rattle.formula.specs.Orders.{between, event_pairs, is_among, places_in, used_pairs};
 ghost use Rattle.formula_families.specs.Marks.{AreMarks, orders_of, orders_of_family};
 
-use crate::families::{
-    Block, first_families, last_families, put_block, size_of, states_order,
-};
+use crate::families::{Block, first_families, last_families, put_block, size_of, states_order};
 use crate::symbolic::Symbolic;
 use formula::{Family, Statement};
 use formula_tables::{Events, ProgramTables};

@@ -1,7 +1,7 @@
 use Rattle.std.proofs.Common.{◌++◌, [], ◌<◌, if◌then◌else◌, length, sym, ap, ◌∙◌, subst, arith}
 use Rattle.std.specs.List.{flat_map}
 use Rattle.std.proofs.lemmas.List.{take_all, append-nil}
-use Rattle.formula.specs.Families.{events, family_of}
+use Rattle.formula.specs.Families.{events}
 use Rattle.formula_families.specs.Blocks.{block, blocks_of, size_of}
 use Rattle.formula_families.specs.Marks.{AreMarks, orders_of}
 use Rattle.formula_families.proofs.FamilyBlocks.{block_at, blocks_count}
