@@ -11,7 +11,8 @@ use Rattle.candidates.proofs.Ranges.{flat_map_range_more}
 use Rattle.std.proofs.lemmas.Bool.{and_parts}
 use Rattle.std.proofs.lemmas.Bool.Decides.{nat_tests}
 use Rattle.formula_tables.proofs.FactSlots.{test_true}
-use Rattle.formula.specs.Families.{SymbolicClause, last_calls, is_standard, Blocks, by_call, by_standard_send, by_last_call, by_pair, by_see, clauses_in, Family, family_of, said, all_families}
+use Rattle.formula.specs.declared.families.Family.{Family}
+use Rattle.formula.specs.Families.{SymbolicClause, last_calls, is_standard, Blocks, by_call, by_standard_send, by_last_call, by_pair, by_see, clauses_in, family_of, said, all_families}
 use Rattle.formula.specs.Orders.{places_in, stated_orders}
 use Rattle.formula_families.specs.declared.families.Block.{Block}
 use Rattle.formula_families.specs.Blocks.{where_taken, where_seen, where_last, block_in, count_in, clauses_of, block, blocks_of, size_of}

@@ -3,7 +3,8 @@ use Rattle.std.specs.Prelude.{ℕ, not, nat_lt, if◌then◌else◌, ◌+◌, Li
 use Rattle.std.specs.List.{range_with_len}
 use Rattle.callorder.specs.Programs.{MpiProgram, is_probe, are_of_one_rank}
 use Rattle.candidates.specs.Pairs.{pairs_of, pair_at}
-use Rattle.formula.specs.Families.{SymbolicClause, is_standard, Family, family_of, Blocks, by_call, by_standard_send, by_last_call, by_pair, by_see}
+use Rattle.formula.specs.declared.families.Family.{Family}
+use Rattle.formula.specs.Families.{SymbolicClause, is_standard, family_of, Blocks, by_call, by_standard_send, by_last_call, by_pair, by_see}
 use Rattle.formula_families.specs.declared.families.Block.{Block}
 
 -- what is said of a pair, whatever it is

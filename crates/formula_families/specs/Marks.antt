@@ -2,7 +2,8 @@
 use Rattle.std.specs.Prelude.{◌≡◌, ℕ, ◌+◌, ◌*◌, ◌<◌, Bool, false, if◌then◌else◌, List, [], get_or}
 use Rattle.std.specs.List.{flat_map}
 use Rattle.callorder.specs.Programs.{MpiProgram}
-use Rattle.formula.specs.Families.{Family, family_of}
+use Rattle.formula.specs.declared.families.Family.{Family}
+use Rattle.formula.specs.Families.{family_of}
 use Rattle.formula.specs.Orders.{is_among, places_in}
 use Rattle.formula_families.specs.declared.families.Block.{Block}
 use Rattle.formula_families.specs.Blocks.{blocks_of, clauses_of}

@@ -3,7 +3,8 @@
 ghost use Rattle.std.specs.Prelude.{◌≡◌, ◌∷◌, [], ◌++◌, ℕ, length, map, if◌then◌else◌, OnOk, IfOk};
 ghost use Rattle.formula.specs.declared.facts.Fact.TheVariants.{Unfinished as unfinished};
 ghost use Rattle.formula.specs.declared.facts.Statement.TheVariants.{Holds as is_true, Fails as is_false};
-ghost use Rattle.formula.specs.Families.{last_calls, rank_of, is_standard, where_returned, buffered_under, issued_after, issued_after_return_of, issue_does_not_wait, family_of, first_families, last_families, Sees, SomeUnfinished};
+ghost use Rattle.formula.specs.Families.{last_calls, rank_of, is_standard, where_returned, buffered_under, issued_after, issued_after_return_of, issue_does_not_wait, family_of, first_families, last_families};
+ghost use Rattle.formula.specs.declared.families.Family.TheVariants.{SomeUnfinished, Sees};
 ghost use Rattle.formula_families.specs.Blocks.{clauses_of, size_of, block, where_taken, where_seen, where_last, of_pair};
 ghost use Rattle.candidates.specs.Pairs.{pairs_of, pair_at};
 
@@ -271,7 +272,7 @@ pub fn size_of(source: &ProgramTables<'_>, family: Family) -> usize
         Family::IssueOrder | Family::ReturnOrder | Family::NoIssueWaits | Family::Buffering => {
             source.len()
         }
-        Family::SomeUnfinished => source.len() + 1,
+        Family::SomeUnfinished => source.program().calls().len() + 1,
         Family::MatchOrder
         | Family::MatchedOnce
         | Family::SendOrder
