@@ -10,7 +10,7 @@ use Rattle.semantics.specs.Machine.{IsFinishedRun}
 use Rattle.clauses.specs.Clauses.{Literal, TruthAssignment, satisfies, satisfies_clause}
 use Rattle.formula.specs.declared.facts.Fact.TheVariants.{Unfinished as unfinished}
 use Rattle.formula.specs.declared.facts.Statement.TheVariants.{Holds as is_true, Fails as is_false}
-use Rattle.formula.specs.Families.{SymbolicClause, last_calls, rank_of, where_returned, some_rank_is_unfinished, families_of_order, families_of_end, last_families, families}
+use Rattle.formula.specs.Families.{SymbolicClause, last_calls, rank_of, where_returned, some_rank_is_unfinished, said, first_families, last_families, families}
 use Rattle.formula.specs.Numbering.{normal_form, numbered, numbered_order, formula_of}
 use Rattle.formula.specs.Laws.{Agrees}
 use Rattle.formula.proofs.Elements.{Each, each_append, each_parts, each_mono, each_both, each_flat_map, each_filter, each_of_all, all_from_each, all_append}
@@ -108,8 +108,8 @@ families_met p steps is finished over =
 clauses_met : (p : MpiProgram) (steps : List Step) → Each (AreMetIfKept p (assignment_of p steps)) (families p) → Each (IsMetIfKept p (assignment_of p steps)) (formula_of p).clauses
 clauses_met p steps met =
     let K : List Literal → Type 0 = IsMetIfKept p (assignment_of p steps) in
-    let others = families_of_order p ++ families_of_end p in
-    let last = last_families p in
+    let others = map (said p) first_families in
+    let last = map (said p) last_families in
     let parts = each_parts (AreMetIfKept p (assignment_of p steps)) others last met in
     each_append K (flat_map (numbered p) others ++ numbered_order p) (flat_map (numbered p) last)
     (each_append K (flat_map (numbered p) others) (numbered_order p) (each_flat_map K (numbered p) others parts.0) (met_if_satisfied p (assignment_of p steps) (numbered_order p) (order_satisfied p steps)))

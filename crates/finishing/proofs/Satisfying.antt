@@ -1,6 +1,6 @@
 -- Every assignment that satisfies the formula of the runs that finish gives a run that finishes,
 -- and the other way round.
-use Rattle.std.proofs.Common.{◌≡◌, Bool, true, List, ◌++◌, refl, sym, ◌∙◌}
+use Rattle.std.proofs.Common.{◌≡◌, Bool, true, List, ◌++◌, map, refl, sym, ◌∙◌}
 use Rattle.std.specs.List.{filter, flat_map, list_all}
 use Rattle.std.proofs.lemmas.Bool.{and_parts}
 use Rattle.std.proofs.lemmas.List.Folds.{list_all-append}
@@ -9,7 +9,7 @@ use Rattle.semantics.specs.Machine.{opening, after_all}
 use Rattle.clauses.specs.Clauses.{Literal, TruthAssignment, satisfies, satisfies_clause}
 use Rattle.formula.specs.declared.facts.Statement.{Statement}
 use Rattle.formula.specs.declared.facts.Statement.TheVariants.{Holds as is_true, Fails as is_false, Earlier as is_earlier}
-use Rattle.formula.specs.Families.{SymbolicClause, families_of_order, families_of_end, last_families, families}
+use Rattle.formula.specs.Families.{SymbolicClause, said, first_families, last_families, families}
 use Rattle.formula.specs.Numbering.{numbered, numbered_order, formula_of}
 use Rattle.formula.specs.Laws.{Agrees}
 use Rattle.formula.proofs.Elements.{Each, each_append, each_parts, each_mono, each_both}
@@ -50,8 +50,8 @@ parts p a h =
     let K : List Literal → Type 0 = IsMetIfKept p a in
     let M : List SymbolicClause → Type 0 = AreMetIfKept p a in
     let all = (formula_of p).clauses in
-    let front = families_of_order p ++ families_of_end p in
-    let last = last_families p in
+    let front = map (said p) first_families in
+    let last = map (said p) last_families in
     let halves = and_parts (list_all test (filter (says_more p) all)) (list_all test (numbered p (all_ranks_finish p))) (sym (list_all-append test (filter (says_more p) all) (numbered p (all_ranks_finish p))) ∙ h) in
     let met : Each K all = each_of_kept (λ clause. test clause ≡ true) (says_more p) all (each_passes test (filter (says_more p) all) halves.0) in
     let outer = each_parts K (flat_map (numbered p) front ++ numbered_order p) (flat_map (numbered p) last) met in

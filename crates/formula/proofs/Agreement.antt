@@ -1,6 +1,6 @@
 -- Where an assignment tells the order of each used pair, it agrees with each statement on the
 -- order.
-use Rattle.std.proofs.Common.{◌≡◌, ◌≢◌, ℕ, ◌-◌, ◌<◌, Bool, true, false, not, ◌==◌, nat_lt, if◌then◌else◌, List, [], ◌∷◌, ◌++◌, map, length, Some, None, refl, sym, ap, ◌∙◌, subst, arith}
+use Rattle.std.proofs.Common.{◌≡◌, ◌≢◌, ℕ, ◌-◌, ◌<◌, Bool, true, false, not, ◌==◌, nat_lt, if◌then◌else◌, List, [], ◌∷◌, map, length, Some, None, refl, sym, ap, ◌∙◌, subst, arith}
 use Rattle.std.specs.Prelude.{All}
 use Rattle.std.specs.List.{flat_map, range_with_len}
 use Rattle.std.proofs.lemmas.Bool.{and_parts, ltb-true}
@@ -9,13 +9,13 @@ use Rattle.std.proofs.lemmas.List.Sums.{passes_at_first}
 use Rattle.callorder.specs.Programs.{MpiProgram, IsProgram}
 use Rattle.clauses.specs.Clauses.{TruthAssignment}
 use Rattle.formula.specs.Facts.{Event, issue_of, match_of, Fact, Meaning, fact, clock_bit, before, same_bits, Statement, is_true, is_false, is_earlier, is_same_event}
-use Rattle.formula.specs.Families.{SymbolicClause, events, event_at, place_of, families_of_order, families_of_end, sends_are_buffered_as_allowed, families_with_orders, last_families, probes_see_messages, families}
+use Rattle.formula.specs.Families.{SymbolicClause, events, event_at, place_of, sends_are_buffered_as_allowed, families_with_orders, last_families, probes_see_messages, families, said, first_families}
 use Rattle.formula.specs.Orders.{clock_size, used_pairs, clock_meanings, pair_meanings, order_meanings}
 use Rattle.formula.specs.Numbering.{facts, meanings, is_same_meaning, variable_of, literal}
 use Rattle.formula.specs.Laws.{holds_if_any, IsTold, AgreesByClock, UsedPairsSuffice, AgreesByFact, FactsSuffice, EventsAreListed, StatedEventsAreListed}
 use Rattle.formula.proofs.Elements.{each_parts, Each, each_from, each_mono, each_both, each_append, each_map, each_flat_map, each_at_test, all_from_each, each_of_all, position_within}
 use Rattle.formula.proofs.Meanings.{same_meaning}
-use Rattle.formula.proofs.Named.{fact_is_named, with_orders_named, sees_named, IsVariable, IsEvent, Named, NamesFact, Clauses, order_named, end_named, policy_names}
+use Rattle.formula.proofs.Named.{families_of_order, families_of_end, fact_is_named, with_orders_named, sees_named, IsVariable, IsEvent, Named, NamesFact, Clauses, order_named, end_named, policy_names}
 use Rattle.formula.proofs.Used.{is_pair, IsUsed, IsStated, orders_stated, used_where_first, used_where_second}
 
 -- ---- the order of two events
@@ -97,7 +97,7 @@ used_pairs_suffice p a clock is told =
     let orders = each_parts A (families_of_order p) (sees ∷ []) with_orders in
     let ends : Each A (families_of_end p) = each_mono (Clauses (NamesFact p)) A (facts_agree p a clock) (families_of_end p) (end_named p is) in
     all_from_each A (families p)
-    (each_append A (families_of_order p ++ families_of_end p) (last_families p) (each_append A (families_of_order p) (families_of_end p) orders.0 ends)
+    (each_append A (map (said p) first_families) (map (said p) last_families) (each_append A (families_of_order p) (families_of_end p) orders.0 ends)
     (facts_agree p a clock policy (policy_names p), orders.1))
 
 -- ---- what holds of each statement that names facts and events of the program
@@ -111,7 +111,7 @@ in_families p Q is f =
     let policy = sends_are_buffered_as_allowed p in
     let by_fact : (x : Statement) → NamesFact p x → Q x = λ x h. f x (fact_is_named p x h) in
     all_from_each A (families p)
-    (each_append A (families_of_order p ++ families_of_end p) (last_families p)
+    (each_append A (map (said p) first_families) (map (said p) last_families)
     (each_append A (families_of_order p) (families_of_end p) (each_mono (Clauses (Named p)) A (all_by (Named p) Q f) (families_of_order p) (order_named p is))
     (each_mono (Clauses (NamesFact p)) A (all_by (NamesFact p) Q by_fact) (families_of_end p) (end_named p is)))
     (all_by (NamesFact p) Q by_fact policy (policy_names p), (all_by (Named p) Q f (probes_see_messages p) (sees_named p), tt)))

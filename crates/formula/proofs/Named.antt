@@ -19,7 +19,7 @@ use Rattle.callorder.specs.Programs.{is_probe, takes, sees, MpiProgram, call_at,
 use Rattle.candidates.specs.Pairs.{places, takers_of, probes_of, matching_pairs, seeing_pairs}
 use Rattle.nonovertake.specs.Earlier.{earlier_sends, earlier_takers}
 use Rattle.formula.specs.Facts.{Event, issue_of, match_of, Fact, issued, buffered, matched, unfinished, Meaning, fact, Statement, is_true, is_false, is_earlier, is_same_event}
-use Rattle.formula.specs.Families.{for_each_seeing_pair, without_later_sends, seen_before_taken, see_clauses, probes_see_messages, families_with_orders, sends_of, is_finder_call, is_finder, is_standard_kind, is_standard_call, is_standard, standard_sends, receive_of_call, receive_on_handle, previous, last_calls, rank_of, events, event_of_fetch, fetch_of, Condition, at_once, if_matched, if_fetched, if_buffered_or_fetched, when_done_kind, when_done_call, when_done, if_blocking, when_returned_kind, when_returned_call, when_returned, SymbolicClause, unless_issued, where_fetched, where_returned_under, where_returned, for_each_call, for_each_pair, issued_after, calls_are_issued_in_order, handle_is_received_on, is_fetched_before, is_returned_before, issued_after_return_of, calls_are_issued_after_returns, issued_before_match, matches_come_after_issues, without_later_pairs, calls_are_matched_once, send_is_matched_before, sends_do_not_overtake, taker_is_matched_before, takers_do_not_overtake, pair_does_not_wait, no_pair_waits, issue_does_not_wait, no_issue_waits, some_rank_is_unfinished, buffered_under, sends_are_buffered_as_allowed, families_of_order, families_of_end}
+use Rattle.formula.specs.Families.{without_later_sends, seen_before_taken, see_clauses, probes_see_messages, families_with_orders, sends_of, is_finder_call, is_finder, is_standard_kind, is_standard_call, is_standard, standard_sends, receive_of_call, receive_on_handle, previous, last_calls, rank_of, events, event_of_fetch, fetch_of, Condition, at_once, if_matched, if_fetched, if_buffered_or_fetched, when_done_kind, when_done_call, when_done, if_blocking, when_returned_kind, when_returned_call, when_returned, SymbolicClause, unless_issued, where_fetched, where_returned_under, where_returned, issued_after, calls_are_issued_in_order, handle_is_received_on, is_fetched_before, is_returned_before, issued_after_return_of, calls_are_issued_after_returns, issued_before_match, matches_come_after_issues, without_later_pairs, calls_are_matched_once, send_is_matched_before, sends_do_not_overtake, taker_is_matched_before, takers_do_not_overtake, pair_does_not_wait, no_pair_waits, issue_does_not_wait, no_issue_waits, some_rank_is_unfinished, buffered_under, sends_are_buffered_as_allowed, said, first_families, family_of}
 use Rattle.formula.specs.Orders.{order_meanings}
 use Rattle.formula.specs.Numbering.{facts, meanings, is_same_fact, is_same_meaning}
 use Rattle.formula.proofs.Elements.{each_mono, and_both, Each, each_append, each_map, each_flat_map, each_filter, each_range, any_append_left, any_append_right, any_map, any_flat_map, any_filter, any_range}
@@ -190,7 +190,7 @@ each_sender p P t below h =
 abbrev OfPair : (Statement → Type 0) → (ℕ → ℕ → List SymbolicClause) → ℕ × ℕ → Type 0
 OfPair P f q = Clauses P (f q.0 q.1)
 
-each_pair : (p : MpiProgram) (P : Statement → Type 0) (f : ℕ → ℕ → List SymbolicClause) → ((s t : ℕ) → IsPair p s t → Clauses P (f s t)) → Clauses P (for_each_pair p f)
+each_pair : (p : MpiProgram) (P : Statement → Type 0) (f : ℕ → ℕ → List SymbolicClause) → ((s t : ℕ) → IsPair p s t → Clauses P (f s t)) → Clauses P (flat_map (λ pair. f pair.0 pair.1) (matching_pairs p))
 each_pair p P f h =
     each_flat_map (Each P) (λ q. f q.0 q.1) (matching_pairs p)
     (each_flat_map (OfPair P f) (λ s. map (λ t. (s, t)) (takers_of p s)) (places p)
@@ -201,14 +201,14 @@ each_probe : (p : MpiProgram) (P : ℕ → Type 0) (s : ℕ) → s < length p.ca
 each_probe p P s below h =
     each_filter P (sees p s) (places p) (each_place p (λ t. sees p s t ≡ true → P t) (λ t inside seen. h t (below, inside, (and_parts (are_fit p s t) (is_probe p t) seen).0)))
 
-each_seeing_pair : (p : MpiProgram) (P : Statement → Type 0) (f : ℕ → ℕ → List SymbolicClause) → ((s t : ℕ) → IsPair p s t → Clauses P (f s t)) → Clauses P (for_each_seeing_pair p f)
+each_seeing_pair : (p : MpiProgram) (P : Statement → Type 0) (f : ℕ → ℕ → List SymbolicClause) → ((s t : ℕ) → IsPair p s t → Clauses P (f s t)) → Clauses P (flat_map (λ pair. f pair.0 pair.1) (seeing_pairs p))
 each_seeing_pair p P f h =
     each_flat_map (Each P) (λ q. f q.0 q.1) (seeing_pairs p)
     (each_flat_map (OfPair P f) (λ s. map (λ t. (s, t)) (probes_of p s)) (places p)
     (each_place p (λ s. Each (OfPair P f) (map (λ t. (s, t)) (probes_of p s))) (λ s below.
     each_map (OfPair P f) (λ t. (s, t)) (probes_of p s) (each_probe p (λ t. OfPair P f (s, t)) s below (h s)))))
 
-each_call : (p : MpiProgram) (P : Statement → Type 0) (f : ℕ → List SymbolicClause) → ((c : ℕ) → c < length p.calls → Clauses P (f c)) → Clauses P (for_each_call p f)
+each_call : (p : MpiProgram) (P : Statement → Type 0) (f : ℕ → List SymbolicClause) → ((c : ℕ) → c < length p.calls → Clauses P (f c)) → Clauses P (flat_map f (places p))
 each_call p P f h = each_flat_map (Each P) f (places p) (each_place p (λ c. Clauses P (f c)) h)
 
 -- where there is a call, it is the program's
@@ -513,6 +513,13 @@ see_named p s f pair =
 
 pub sees_named : (p : MpiProgram) → Clauses (Named p) (probes_see_messages p)
 sees_named p = each_seeing_pair p (Named p) (see_clauses p) (see_named p)
+
+-- the families before the clauses on the order of events that state an order, and the others
+abbrev pub families_of_order : MpiProgram → List (List SymbolicClause)
+families_of_order p = map (said p) (filter (λ family. (family_of family).states_order) first_families)
+
+abbrev pub families_of_end : MpiProgram → List (List SymbolicClause)
+families_of_end p = map (said p) (filter (λ family. not (family_of family).states_order) first_families)
 
 -- each event of which an order is stated is the program's
 pub order_named : (p : MpiProgram) → IsProgram p → Each (Clauses (Named p)) (families_of_order p)

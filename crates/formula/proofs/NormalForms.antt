@@ -7,7 +7,7 @@ use Rattle.std.proofs.lemmas.List.Folds.{list_all-append}
 use Rattle.callorder.specs.Programs.{MpiProgram}
 use Rattle.clauses.specs.Clauses.{Literal, TruthAssignment, signed, holds, rises_above, rises, satisfies_clause, satisfies}
 use Rattle.formula.specs.Facts.{Statement, is_true, is_false, is_earlier}
-use Rattle.formula.specs.Families.{SymbolicClause, families_of_order, families_of_end, last_families, place_of}
+use Rattle.formula.specs.Families.{SymbolicClause, last_families, place_of, said, first_families}
 use Rattle.formula.specs.Orders.{SignedMeaning, order_clauses}
 use Rattle.formula.specs.Numbering.{comes_first, put, sorted, has_both_signs, literal_of, in_normal_form, normal_form, numbered, literal_of_signed, numbered_order}
 use Rattle.formula.proofs.Elements.{and_both, all_append, all_flat_map, each_from}
@@ -279,8 +279,8 @@ order_rises_too p =
 
 pub clauses_rise : ClausesRise
 clauses_rise p =
-    let others = families_of_order p ++ families_of_end p in
-    let last = last_families p in
+    let others = map (said p) first_families in
+    let last = map (said p) last_families in
     all_append rises (flat_map (numbered p) others ++ numbered_order p) (flat_map (numbered p) last)
     (all_append rises (flat_map (numbered p) others) (numbered_order p)
     (all_flat_map rises (numbered p) others (each_from (λ clauses. list_all rises (numbered p clauses) ≡ true) (family_rises p) others))

@@ -7,11 +7,11 @@ use Rattle.std.proofs.lemmas.Bool.Decides.{nat_tests}
 use Rattle.callorder.specs.Programs.{MpiProgram, IsProgram}
 use Rattle.clauses.specs.Clauses.{Literal, is_within}
 use Rattle.formula.specs.Facts.{Meaning, fact, before, Statement, is_true, is_false, is_earlier}
-use Rattle.formula.specs.Families.{SymbolicClause, sends_are_buffered_as_allowed, families_of_order, families_of_end, families_with_orders, last_families, probes_see_messages, place_of}
+use Rattle.formula.specs.Families.{SymbolicClause, sends_are_buffered_as_allowed, families_with_orders, last_families, probes_see_messages, place_of, said, first_families}
 use Rattle.formula.specs.Orders.{SignedMeaning, order_clauses}
 use Rattle.formula.specs.Numbering.{meanings, is_same_meaning, variable_of, literal, literal_of, put, comes_first, sorted, has_both_signs, in_normal_form, normal_form, numbered, literal_of_signed, numbered_order}
 use Rattle.formula.specs.Laws.{ClausesAreWithin}
-use Rattle.formula.proofs.Named.{IsVariable, Named, NamesFact, Clauses, with_orders_named, end_named, policy_names}
+use Rattle.formula.proofs.Named.{families_of_order, families_of_end, IsVariable, Named, NamesFact, Clauses, with_orders_named, end_named, policy_names}
 use Rattle.formula.proofs.Used.{IsStated, orders_stated, used_where_first, used_where_second, before_named, NamesMeaning, order_clauses_named}
 use Rattle.formula.proofs.Elements.{each_parts, and_both, all_append, all_flat_map, each_mono, each_both, Each, each_append, position_within}
 
@@ -141,9 +141,9 @@ pub clauses_are_within : ClausesAreWithin
 clauses_are_within p is =
     let most = length (meanings p) in
     let test : List Literal → Bool = is_within most in
-    let others = families_of_order p ++ families_of_end p in
+    let others = map (said p) first_families in
     let policy = sends_are_buffered_as_allowed p in
-    let last = last_families p in
+    let last = map (said p) last_families in
     let have = each_parts (Clauses (HasVariable p)) (families_of_order p) (probes_see_messages p ∷ []) (orders_have p is) in
     all_append test (flat_map (numbered p) others ++ numbered_order p) (flat_map (numbered p) last)
     (all_append test (flat_map (numbered p) others) (numbered_order p)

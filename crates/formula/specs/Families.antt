@@ -15,6 +15,8 @@ use Rattle.candidates.specs.Pairs.{places, takers_of, matching_pairs, seeing_pai
 use Rattle.nonovertake.specs.Earlier.{earlier_sends, earlier_takers}
 pub use Rattle.formula.specs.declared.facts.Condition.{Condition}
 pub use Rattle.formula.specs.declared.facts.Condition.TheVariants.{AtOnce as at_once, IfMatched as if_matched, IfFetched as if_fetched, IfBufferedOrFetched as if_buffered_or_fetched}
+pub use Rattle.formula.specs.declared.families.Family.{Family}
+pub use Rattle.formula.specs.declared.families.Family.TheVariants.{IssueOrder, ReturnOrder, MatchOrder, MatchedOnce, SendOrder, TakerOrder, NoPairWaits, NoIssueWaits, SomeUnfinished, Buffering, Sees}
 use Rattle.formula.specs.Facts.{Event, issue_of, match_of, issued, buffered, matched, unfinished, Statement, is_true, is_false, is_earlier, is_same_event}
 
 -- ---- calls
@@ -23,12 +25,12 @@ use Rattle.formula.specs.Facts.{Event, issue_of, match_of, issued, buffered, mat
 abbrev pub sends_of : MpiProgram → ℕ → List ℕ
 sends_of p taker = filter (λ send. are_fit p send taker) (places p)
 
--- the call exists and is a receive or a matched probe
+-- the call exists and is a receive, a matched probe or a probe
 abbrev pub is_finder_call : Option Call → Bool
 is_finder_call None = false
 is_finder_call (Some call) = is_some (pattern_of call.kind)
 
--- the call is a receive or a matched probe
+-- the call is a receive, a matched probe or a probe
 abbrev pub is_finder : MpiProgram → ℕ → Bool
 is_finder p c = is_finder_call (call_at p c)
 
@@ -176,30 +178,13 @@ where_returned_under p c x (if_buffered_or_fetched send) =
 abbrev pub where_returned : MpiProgram → ℕ → Statement → List SymbolicClause
 where_returned p c x = where_returned_under p c x (when_returned p c)
 
--- ---- the families
-
--- the clauses of all calls, in call order
-abbrev pub for_each_call : MpiProgram → (ℕ → List SymbolicClause) → List SymbolicClause
-for_each_call p clauses = flat_map clauses (places p)
-
--- the clauses of all pairs of a send and a taker that fit, by send, then by taker
-abbrev pub for_each_pair : MpiProgram → (ℕ → ℕ → List SymbolicClause) → List SymbolicClause
-for_each_pair p clauses = flat_map (λ pair. clauses pair.0 pair.1) (matching_pairs p)
-
--- the clauses of all pairs of a send and a probe that fit, by send, then by probe
-abbrev pub for_each_seeing_pair : MpiProgram → (ℕ → ℕ → List SymbolicClause) → List SymbolicClause
-for_each_seeing_pair p clauses = flat_map (λ pair. clauses pair.0 pair.1) (seeing_pairs p)
+-- ---- what is said of a call or of a pair
 
 -- where the call is issued, the one before it is, and earlier
 abbrev pub issued_after : ℕ → Option ℕ → List SymbolicClause
 issued_after c None = []
 issued_after c (Some earlier) =
     (is_false (issued c) ∷ is_true (issued earlier) ∷ []) ∷ (is_earlier (issue_of earlier) (issue_of c) ∷ []) ∷ []
-
--- Calls are issued in order: where a call is issued, the one before it is issued. The issue of the
--- one before it is earlier.
-abbrev pub calls_are_issued_in_order : MpiProgram → List SymbolicClause
-calls_are_issued_in_order p = for_each_call p (λ c. issued_after c (previous p c))
 
 -- where the call is issued and the send matched with a matched probe, the receive on its handle is
 -- issued, or the rest of the clause is right
@@ -233,11 +218,6 @@ abbrev pub issued_after_return_of : MpiProgram → ℕ → Option ℕ → List S
 issued_after_return_of p c None = []
 issued_after_return_of p c (Some earlier) = is_returned_before p c (when_returned p earlier)
 
--- Calls are issued after returns: where a call is issued, the one before it has returned, and what
--- made it return is earlier.
-abbrev pub calls_are_issued_after_returns : MpiProgram → List SymbolicClause
-calls_are_issued_after_returns p = for_each_call p (λ c. issued_after_return_of p c (previous p c))
-
 -- where the pair is matched, both calls are issued, and before
 abbrev pub issued_before_match : ℕ → ℕ → List SymbolicClause
 issued_before_match send taker =
@@ -246,10 +226,6 @@ issued_before_match send taker =
     (is_false (matched send taker) ∷ is_earlier (issue_of send) (match_of taker) ∷ []) ∷
     (is_false (matched send taker) ∷ is_earlier (issue_of taker) (match_of taker) ∷ []) ∷
     []
-
--- Matches come after issues: what is matched is issued, and earlier than the match.
-abbrev pub matches_come_after_issues : MpiProgram → List SymbolicClause
-matches_come_after_issues p = for_each_pair p issued_before_match
 
 -- the finder doesn't find a later send too
 abbrev pub without_later_sends : MpiProgram → ℕ → ℕ → List SymbolicClause
@@ -262,21 +238,12 @@ without_later_pairs p send taker =
     map (λ other. is_false (matched send taker) ∷ is_false (matched send other) ∷ []) (filter (nat_lt taker) (takers_of p send)) ++
     without_later_sends p send taker
 
--- Calls are matched once: of two pairs that share a send or a taker, one isn't matched.
-abbrev pub calls_are_matched_once : MpiProgram → List SymbolicClause
-calls_are_matched_once p = for_each_pair p (without_later_pairs p)
-
 -- where the pair is matched, the earlier send is matched with another taker, and earlier
 abbrev pub send_is_matched_before : MpiProgram → ℕ → ℕ → ℕ → List SymbolicClause
 send_is_matched_before p send taker earlier =
     let others = filter (λ other. not (other == taker)) (takers_of p earlier) in
     (is_false (matched send taker) ∷ map (λ other. is_true (matched earlier other)) others) ∷
     map (λ other. is_false (matched send taker) ∷ is_false (matched earlier other) ∷ is_earlier (match_of other) (match_of taker) ∷ []) others
-
--- Sends don't overtake: where a pair is matched, each earlier send of the send's rank that fits the
--- taker is matched with another taker, and earlier.
-abbrev pub sends_do_not_overtake : MpiProgram → List SymbolicClause
-sends_do_not_overtake p = for_each_pair p (λ send taker. flat_map (send_is_matched_before p send taker) (earlier_sends p send taker))
 
 -- where the pair is matched, the earlier taker is matched with another send, and earlier
 abbrev pub taker_is_matched_before : MpiProgram → ℕ → ℕ → ℕ → List SymbolicClause
@@ -285,11 +252,6 @@ taker_is_matched_before p send taker earlier =
     (is_false (matched send taker) ∷ is_earlier (match_of earlier) (match_of taker) ∷ []) ∷
     []
 
--- Takers don't overtake: where a pair is matched, each earlier taker of the taker's rank that the
--- send fits is matched with another send, and earlier.
-abbrev pub takers_do_not_overtake : MpiProgram → List SymbolicClause
-takers_do_not_overtake p = for_each_pair p (λ send taker. flat_map (taker_is_matched_before p send taker) (earlier_takers p send taker))
-
 -- where both calls are issued, the send or the taker is matched
 abbrev pub pair_does_not_wait : MpiProgram → ℕ → ℕ → List SymbolicClause
 pair_does_not_wait p send taker =
@@ -297,46 +259,16 @@ pair_does_not_wait p send taker =
     (map (λ other. is_true (matched send other)) (takers_of p send) ++ map (λ other. is_true (matched other taker)) (sends_of p taker))) ∷
     []
 
--- No pair waits: of a send and a taker that fit and are issued, one is matched.
-abbrev pub no_pair_waits : MpiProgram → List SymbolicClause
-no_pair_waits p = for_each_pair p (pair_does_not_wait p)
-
 -- the call is issued where there is none before it, or where the one before it has returned
 abbrev pub issue_does_not_wait : MpiProgram → ℕ → Option ℕ → List SymbolicClause
 issue_does_not_wait p c None = (is_true (issued c) ∷ []) ∷ []
 issue_does_not_wait p c (Some earlier) = where_returned p earlier (is_true (issued c))
-
--- No issue waits: the first call of each rank is issued, and each call that stands after one that
--- has returned.
-abbrev pub no_issue_waits : MpiProgram → List SymbolicClause
-no_issue_waits p = for_each_call p (λ c. issue_does_not_wait p c (previous p c))
-
--- Some rank is unfinished, and none whose last call has returned.
-abbrev pub some_rank_is_unfinished : MpiProgram → List SymbolicClause
-some_rank_is_unfinished p =
-    flat_map (λ c. where_returned p c (is_false (unfinished (rank_of p c)))) (last_calls p) ++
-    (map (λ c. is_true (unfinished (rank_of p c))) (last_calls p) ∷ [])
 
 -- what the policy says of a standard send
 abbrev pub buffered_under : Policy → ℕ → List SymbolicClause
 buffered_under Any send = []
 buffered_under Never send = (is_false (buffered send) ∷ []) ∷ []
 buffered_under Always send = (is_true (buffered send) ∷ []) ∷ []
-
--- Standard sends are buffered as the policy says: never, always, or freely.
-abbrev pub sends_are_buffered_as_allowed : MpiProgram → List SymbolicClause
-sends_are_buffered_as_allowed p = flat_map (buffered_under p.policy) (standard_sends p)
-
--- the families that state which of two events is earlier, in the order of the formula
-abbrev pub families_of_order : MpiProgram → List (List SymbolicClause)
-families_of_order p =
-    calls_are_issued_in_order p ∷
-    calls_are_issued_after_returns p ∷
-    matches_come_after_issues p ∷
-    calls_are_matched_once p ∷
-    sends_do_not_overtake p ∷
-    takers_do_not_overtake p ∷
-    []
 
 -- where the probe has seen the send and the send is matched with a taker, the probe saw it before
 abbrev pub seen_before_taken : MpiProgram → ℕ → ℕ → List SymbolicClause
@@ -356,23 +288,129 @@ see_clauses p send probe =
     (flat_map (taker_is_matched_before p send probe) (earlier_takers p send probe) ++
     pair_does_not_wait p send probe))))
 
+-- ---- the families
+
+-- Of what a family speaks, and what it says: of each call, of each standard send, of the last call
+-- of each rank and then once of the whole program, of each pair of a send and a taker, or of each
+-- pair of a send and a probe.
+pub data Blocks : Type 0 where
+  by_call : (MpiProgram → ℕ → List SymbolicClause) → Blocks
+  by_standard_send : (MpiProgram → ℕ → List SymbolicClause) → Blocks
+  by_last_call : (MpiProgram → ℕ → List SymbolicClause) → (MpiProgram → SymbolicClause) → Blocks
+  by_pair : (MpiProgram → ℕ → ℕ → List SymbolicClause) → Blocks
+  by_see : (MpiProgram → ℕ → ℕ → List SymbolicClause) → Blocks
+
+-- the clauses of all calls in call order, or of all pairs by send, then by taker or probe
+abbrev pub clauses_in : MpiProgram → Blocks → List SymbolicClause
+clauses_in p (by_call clauses) = flat_map (clauses p) (places p)
+clauses_in p (by_standard_send clauses) = flat_map (clauses p) (standard_sends p)
+clauses_in p (by_last_call clauses clause) = flat_map (clauses p) (last_calls p) ++ (clause p ∷ [])
+clauses_in p (by_pair clauses) = flat_map (λ pair. clauses p pair.0 pair.1) (matching_pairs p)
+clauses_in p (by_see clauses) = flat_map (λ pair. clauses p pair.0 pair.1) (seeing_pairs p)
+
+-- a family of clauses: what it says, and whether some clause states which of two events is earlier
+pub record ClauseFamily : Type 0 where
+  pub says : Blocks
+  pub states_order : Bool
+
+-- a family that states an order
+abbrev with_order : Blocks → ClauseFamily
+with_order blocks = record { says = blocks; states_order = true }
+
+-- a family that states none
+abbrev without_order : Blocks → ClauseFamily
+without_order blocks = record { says = blocks; states_order = false }
+
+-- what each family is
+abbrev pub family_of : Family → ClauseFamily
+family_of IssueOrder = with_order (by_call (λ p c. issued_after c (previous p c)))
+family_of ReturnOrder = with_order (by_call (λ p c. issued_after_return_of p c (previous p c)))
+family_of MatchOrder = with_order (by_pair (λ p send taker. issued_before_match send taker))
+family_of MatchedOnce = with_order (by_pair without_later_pairs)
+family_of SendOrder =
+    with_order (by_pair (λ p send taker. flat_map (send_is_matched_before p send taker) (earlier_sends p send taker)))
+family_of TakerOrder =
+    with_order (by_pair (λ p send taker. flat_map (taker_is_matched_before p send taker) (earlier_takers p send taker)))
+family_of NoPairWaits = without_order (by_pair pair_does_not_wait)
+family_of NoIssueWaits = without_order (by_call (λ p c. issue_does_not_wait p c (previous p c)))
+family_of SomeUnfinished =
+    without_order (by_last_call (λ p c. where_returned p c (is_false (unfinished (rank_of p c)))) (λ p. map (λ c. is_true (unfinished (rank_of p c))) (last_calls p)))
+family_of Buffering = without_order (by_standard_send (λ p send. buffered_under p.policy send))
+family_of Sees = with_order (by_see see_clauses)
+
+-- the clauses of a family
+abbrev pub said : MpiProgram → Family → List SymbolicClause
+said p family = clauses_in p (family_of family).says
+
+-- Calls are issued in order: where a call is issued, the one before it is issued. The issue of the
+-- one before it is earlier.
+abbrev pub calls_are_issued_in_order : MpiProgram → List SymbolicClause
+calls_are_issued_in_order p = said p IssueOrder
+
+-- Calls are issued after returns: where a call is issued, the one before it has returned, and what
+-- made it return is earlier.
+abbrev pub calls_are_issued_after_returns : MpiProgram → List SymbolicClause
+calls_are_issued_after_returns p = said p ReturnOrder
+
+-- Matches come after issues: what is matched is issued, and earlier than the match.
+abbrev pub matches_come_after_issues : MpiProgram → List SymbolicClause
+matches_come_after_issues p = said p MatchOrder
+
+-- Calls are matched once: of two pairs that share a send or a taker, one isn't matched.
+abbrev pub calls_are_matched_once : MpiProgram → List SymbolicClause
+calls_are_matched_once p = said p MatchedOnce
+
+-- Sends don't overtake: where a pair is matched, each earlier send of the send's rank that fits the
+-- taker is matched with another taker, and earlier.
+abbrev pub sends_do_not_overtake : MpiProgram → List SymbolicClause
+sends_do_not_overtake p = said p SendOrder
+
+-- Takers don't overtake: where a pair is matched, each earlier taker of the taker's rank that the
+-- send fits is matched with another send, and earlier.
+abbrev pub takers_do_not_overtake : MpiProgram → List SymbolicClause
+takers_do_not_overtake p = said p TakerOrder
+
+-- No pair waits: of a send and a taker that fit and are issued, one is matched.
+abbrev pub no_pair_waits : MpiProgram → List SymbolicClause
+no_pair_waits p = said p NoPairWaits
+
+-- No issue waits: the first call of each rank is issued, and each call that stands after one that
+-- has returned.
+abbrev pub no_issue_waits : MpiProgram → List SymbolicClause
+no_issue_waits p = said p NoIssueWaits
+
+-- Some rank is unfinished, and none whose last call has returned.
+abbrev pub some_rank_is_unfinished : MpiProgram → List SymbolicClause
+some_rank_is_unfinished p = said p SomeUnfinished
+
+-- Standard sends are buffered as the policy says: never, always, or freely.
+abbrev pub sends_are_buffered_as_allowed : MpiProgram → List SymbolicClause
+sends_are_buffered_as_allowed p = said p Buffering
+
 -- Probes see messages: each sees one that waits and doesn't overtake, and none waits where such a
 -- message is there.
 abbrev pub probes_see_messages : MpiProgram → List SymbolicClause
-probes_see_messages p = for_each_seeing_pair p (see_clauses p)
+probes_see_messages p = said p Sees
 
--- the families that say that the run is stuck
-abbrev pub families_of_end : MpiProgram → List (List SymbolicClause)
-families_of_end p = no_pair_waits p ∷ no_issue_waits p ∷ some_rank_is_unfinished p ∷ []
+-- ---- all families
 
--- the families of which some clause states an order
-abbrev pub families_with_orders : MpiProgram → List (List SymbolicClause)
-families_with_orders p = families_of_order p ++ (probes_see_messages p ∷ [])
+-- the families before the clauses on the order of events
+abbrev pub first_families : List Family
+first_families =
+    IssueOrder ∷ ReturnOrder ∷ MatchOrder ∷ MatchedOnce ∷ SendOrder ∷ TakerOrder ∷ NoPairWaits ∷ NoIssueWaits ∷ SomeUnfinished ∷ []
 
--- the families that come after the clauses on the order of events
-abbrev pub last_families : MpiProgram → List (List SymbolicClause)
-last_families p = sends_are_buffered_as_allowed p ∷ probes_see_messages p ∷ []
+-- the families behind them
+abbrev pub last_families : List Family
+last_families = Buffering ∷ Sees ∷ []
 
--- the families in the order of the formula
+-- all families, in the order of the formula
+abbrev pub all_families : List Family
+all_families = first_families ++ last_families
+
+-- the clauses of all families
 abbrev pub families : MpiProgram → List (List SymbolicClause)
-families p = families_of_order p ++ families_of_end p ++ last_families p
+families p = map (said p) all_families
+
+-- the clauses of the families of which some clause states an order
+abbrev pub families_with_orders : MpiProgram → List (List SymbolicClause)
+families_with_orders p = map (said p) (filter (λ family. (family_of family).states_order) all_families)

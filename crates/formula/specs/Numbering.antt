@@ -5,7 +5,7 @@ use Rattle.callorder.specs.Programs.{MpiProgram}
 use Rattle.candidates.specs.Pairs.{places, matching_pairs, seeing_pairs}
 use Rattle.clauses.specs.Clauses.{Literal, Conjunction}
 use Rattle.formula.specs.Facts.{Fact, issued, buffered, matched, unfinished, Meaning, fact, clock_bit, before, same_bits, Statement, is_true, is_false, is_earlier}
-use Rattle.formula.specs.Families.{SymbolicClause, families_of_order, families_of_end, last_families, place_of, standard_sends, last_calls, rank_of}
+use Rattle.formula.specs.Families.{SymbolicClause, said, first_families, last_families, place_of, standard_sends, last_calls, rank_of}
 use Rattle.formula.specs.Orders.{SignedMeaning, order_meanings, order_clauses}
 
 -- ---- variables
@@ -117,5 +117,5 @@ formula_of p =
     record {
       variables = length (meanings p);
       clauses =
-          flat_map (numbered p) (families_of_order p ++ families_of_end p) ++ numbered_order p ++ flat_map (numbered p) (last_families p);
+          flat_map (numbered p) (map (said p) first_families) ++ numbered_order p ++ flat_map (numbered p) (map (said p) last_families);
     }

@@ -1,23 +1,22 @@
 -- The blocks of families have the clauses of the families.
-use Rattle.std.proofs.Common.{◌≡◌, ℕ, zero, suc, ◌+◌, ◌<◌, Bool, true, false, cond, if◌then◌else◌, not, List, [], ◌∷◌, ◌++◌, map, length, get_or, refl, sym, ap, ◌∙◌, arith}
+use Rattle.std.proofs.Common.{◌≡◌, ℕ, zero, suc, ◌+◌, ◌<◌, Bool, true, false, cond, if◌then◌else◌, not, nat_lt, List, [], ◌∷◌, ◌++◌, map, length, get_or, refl, sym, ap, ◌∙◌, subst, arith}
 use Rattle.std.specs.List.{filter, flat_map, range_with_len}
 use Rattle.std.proofs.lemmas.List.{append-nil}
 use Rattle.std.proofs.lemmas.List.Concat.{flat_map-append}
 use Rattle.std.proofs.lemmas.List.Folds.{flat_map-map}
 use Rattle.std.proofs.lemmas.List.FromFn.{get_or-map-range_with_len, length-map-range_with_len}
 use Rattle.callorder.specs.Programs.{MpiProgram, are_fit, is_probe, takes, sees, are_of_one_rank}
-use Rattle.candidates.specs.Pairs.{places, takers_of, probes_of, matching_pairs, seeing_pairs, pairs_of, pair_at}
+use Rattle.candidates.specs.Pairs.{places, matching_pairs, seeing_pairs, pairs_of, pair_at}
+use Rattle.candidates.proofs.Ranges.{flat_map_range_more}
 use Rattle.std.proofs.lemmas.Bool.{and_parts}
-use Rattle.nonovertake.specs.Earlier.{earlier_sends, earlier_takers}
-use Rattle.formula.specs.declared.facts.Fact.TheVariants.{Unfinished as unfinished}
-use Rattle.formula.specs.declared.facts.Statement.TheVariants.{Fails as is_false}
-use Rattle.formula.specs.Families.{SymbolicClause, calls_are_issued_in_order, calls_are_issued_after_returns, matches_come_after_issues, calls_are_matched_once, sends_do_not_overtake, takers_do_not_overtake, no_pair_waits, no_issue_waits, some_rank_is_unfinished, sends_are_buffered_as_allowed, issued_before_match, without_later_pairs, send_is_matched_before, taker_is_matched_before, pair_does_not_wait, where_returned, rank_of, is_standard, buffered_under, families_of_order, families_with_orders, last_families as last_of, probes_see_messages, see_clauses}
+use Rattle.std.proofs.lemmas.Bool.Decides.{nat_tests}
+use Rattle.formula_tables.proofs.FactSlots.{test_true}
+use Rattle.formula.specs.declared.families.Family.{Family}
+use Rattle.formula.specs.Families.{SymbolicClause, last_calls, is_standard, Blocks, by_call, by_standard_send, by_last_call, by_pair, by_see, clauses_in, family_of, said, all_families}
 use Rattle.formula.specs.Orders.{places_in, stated_orders}
 use Rattle.formula_families.specs.declared.families.Block.{Block}
-use Rattle.formula_families.specs.declared.families.Family.{Family}
-use Rattle.formula_families.specs.declared.families.Family.TheVariants.{IssueOrder, ReturnOrder, MatchOrder, MatchedOnce, SendOrder, TakerOrder, NoPairWaits, NoIssueWaits, Finished, SomeUnfinished, Buffering, Sees}
-use Rattle.formula_families.specs.Blocks.{order_families, end_families, ordering_families, last_families, where_taken, where_seen, clauses_at, clauses_of, block, blocks_of, size_of}
-use Rattle.formula_families.specs.Marks.{orders_of_family}
+use Rattle.formula_families.specs.Blocks.{where_taken, where_seen, where_last, block_in, count_in, clauses_of, block, blocks_of, size_of}
+use Rattle.formula_families.specs.Marks.{orders_of, orders_of_family}
 
 -- ---- lists
 
@@ -47,14 +46,7 @@ pub flat_flat : {X Y Z : Type 0} (k : Y → List Z) (f : X → List Y) (xs : Lis
 flat_flat k f [] = refl
 flat_flat k f (x ∷ xs) = flat_map-append k (f x) (flat_map f xs) ∙ ap (λ l. flat_map k (f x) ++ l) (flat_flat k f xs)
 
--- ---- one family
-
--- the clauses of the blocks of a family
-abbrev pub family_of : MpiProgram → Family → List SymbolicClause
-family_of p family = flat_map (clauses_of p) (blocks_of p family)
-
-by_block : (p : MpiProgram) (family : Family) → family_of p family ≡ flat_map (clauses_at p family) (range_with_len 0 (size_of p family))
-by_block p family = flat_map-map (clauses_of p) (block family) (range_with_len 0 (size_of p family))
+-- ---- blocks
 
 by_place : (p : MpiProgram) (h : ℕ × ℕ → List SymbolicClause) → flat_map (λ k. h (pair_at (pairs_of p) k)) (range_with_len 0 (length (pairs_of p))) ≡ flat_map h (pairs_of p)
 by_place p h = by_places h (pairs_of p) (0, 0)
@@ -121,75 +113,54 @@ by_seen p h =
     (ap (λ l. l ++ flat_map f (seeing_pairs p)) (same_pairs p (takes p) f none (λ s t taken. ap (λ (b : Bool). if b then h (s, t) else []) (no_probe p s t taken)) ∙ none_made (matching_pairs p)) ∙
     same_pairs p (sees p) f h (λ s t seen. ap (λ (b : Bool). if b then h (s, t) else []) (a_probe p s t seen))))
 
-issue_order : (p : MpiProgram) → family_of p IssueOrder ≡ calls_are_issued_in_order p
-issue_order p = by_block p IssueOrder
+same_below : {Y : Type 0} (f g : ℕ → List Y) (n : ℕ) → ((k : ℕ) → k < n → f k ≡ g k) → flat_map f (range_with_len 0 n) ≡ flat_map g (range_with_len 0 n)
+same_below f g zero e = refl
+same_below f g (suc n) e =
+    let next : n + 1 ≡ suc n = omega arith in
+    let step : flat_map f (range_with_len 0 (n + 1)) ≡ flat_map g (range_with_len 0 (n + 1)) =
+    flat_map_range_more f n ∙ (ap (λ l. l ++ f n) (same_below f g n (λ k below. e k (omega (arith, below)))) ∙
+    (ap (λ l. flat_map g (range_with_len 0 n) ++ l) (e n (omega arith)) ∙ sym (flat_map_range_more g n))) in
+    subst (λ (z : ℕ). flat_map f (range_with_len 0 z) ≡ flat_map g (range_with_len 0 z)) next step
 
-return_order : (p : MpiProgram) → family_of p ReturnOrder ≡ calls_are_issued_after_returns p
-return_order p = by_block p ReturnOrder
+-- what is said of the last calls, and then once
+by_last : (p : MpiProgram) (h : ℕ → List SymbolicClause) (once : List SymbolicClause) → flat_map (λ k. if nat_lt k (length p.calls) then where_last p k (h k) else once) (range_with_len 0 (length p.calls + 1)) ≡ flat_map h (last_calls p) ++ once
+by_last p h once =
+    let n = length p.calls in
+    let f : ℕ → List SymbolicClause = λ k. if nat_lt k n then where_last p k (h k) else once in
+    let past : nat_lt n n ≡ false = grind (arith, nat_tests) in
+    let calls : flat_map f (range_with_len 0 n) ≡ flat_map h (last_calls p) =
+    same_below f (λ k. where_last p k (h k)) n (λ k below. ap (λ b. if b then where_last p k (h k) else once) (test_true k n below)) ∙
+    sym (of_filter h (λ c. not (are_of_one_rank p c (c + 1))) (places p)) in
+    flat_map_range_more f n ∙ (ap (λ l. l ++ f n) calls ∙ ap (λ b. flat_map h (last_calls p) ++ (if b then where_last p n (h n) else once)) past)
 
-match_order : (p : MpiProgram) → family_of p MatchOrder ≡ matches_come_after_issues p
-match_order p = by_block p MatchOrder ∙ by_taken p (λ pair. issued_before_match pair.0 pair.1)
+-- the blocks together have the clauses
+in_blocks : (p : MpiProgram) (blocks : Blocks) → flat_map (block_in p blocks) (range_with_len 0 (count_in p blocks)) ≡ clauses_in p blocks
+in_blocks p (by_call clauses) = refl
+in_blocks p (by_standard_send clauses) = sym (of_filter (clauses p) (is_standard p) (places p))
+in_blocks p (by_last_call clauses clause) = by_last p (clauses p) (clause p ∷ [])
+in_blocks p (by_pair clauses) = by_taken p (λ pair. clauses p pair.0 pair.1)
+in_blocks p (by_see clauses) = by_seen p (λ pair. clauses p pair.0 pair.1)
 
-matched_once : (p : MpiProgram) → family_of p MatchedOnce ≡ calls_are_matched_once p
-matched_once p = by_block p MatchedOnce ∙ by_taken p (λ pair. without_later_pairs p pair.0 pair.1)
+-- ---- families
 
-send_order : (p : MpiProgram) → family_of p SendOrder ≡ sends_do_not_overtake p
-send_order p = by_block p SendOrder ∙ by_taken p (λ pair. flat_map (send_is_matched_before p pair.0 pair.1) (earlier_sends p pair.0 pair.1))
+in_family : (p : MpiProgram) (family : Family) → flat_map (clauses_of p) (blocks_of p family) ≡ said p family
+in_family p family = flat_map-map (clauses_of p) (block family) (range_with_len 0 (size_of p family)) ∙ in_blocks p (family_of family).says
 
-taker_order : (p : MpiProgram) → family_of p TakerOrder ≡ takers_do_not_overtake p
-taker_order p = by_block p TakerOrder ∙ by_taken p (λ pair. flat_map (taker_is_matched_before p pair.0 pair.1) (earlier_takers p pair.0 pair.1))
+-- what is made of each clause of the blocks is made of each clause of the family
+of_family : {Y : Type 0} (p : MpiProgram) (k : SymbolicClause → List Y) (family : Family) → flat_map (λ b. flat_map k (clauses_of p b)) (blocks_of p family) ≡ flat_map k (said p family)
+of_family p k family = sym (flat_flat k (clauses_of p) (blocks_of p family)) ∙ ap (flat_map k) (in_family p family)
 
-pair_waits : (p : MpiProgram) → family_of p NoPairWaits ≡ no_pair_waits p
-pair_waits p = by_block p NoPairWaits ∙ by_taken p (λ pair. pair_does_not_wait p pair.0 pair.1)
-
-issue_waits : (p : MpiProgram) → family_of p NoIssueWaits ≡ no_issue_waits p
-issue_waits p = by_block p NoIssueWaits
-
-unfinished_ranks : (p : MpiProgram) → family_of p Finished ++ family_of p SomeUnfinished ≡ some_rank_is_unfinished p
-unfinished_ranks p =
-    ap (λ l. l ++ family_of p SomeUnfinished) (by_block p Finished ∙ sym (of_filter (λ c. where_returned p c (is_false (unfinished (rank_of p c)))) (λ c. not (are_of_one_rank p c (c + 1))) (places p)))
-
-buffering : (p : MpiProgram) → family_of p Buffering ≡ sends_are_buffered_as_allowed p
-buffering p = by_block p Buffering ∙ sym (of_filter (buffered_under p.policy) (is_standard p) (places p))
-
--- ---- lists of families
-
-abbrev pub AreSame : MpiProgram → List Family → List (List SymbolicClause) → Type 0
-AreSame p [] [] = Unit {0}
-AreSame p [] (c ∷ cs) = ⊥
-AreSame p (f ∷ fs) [] = ⊥
-AreSame p (f ∷ fs) (c ∷ cs) = (family_of p f ≡ c) × AreSame p fs cs
-
-pub of_families : {Y : Type 0} (p : MpiProgram) (k : SymbolicClause → List Y) (fs : List Family) (cs : List (List SymbolicClause)) → AreSame p fs cs → flat_map (λ f. flat_map (λ b. flat_map k (clauses_of p b)) (blocks_of p f)) fs ≡ flat_map (flat_map k) cs
-of_families p k [] [] h = refl
-of_families p k [] (c ∷ cs) h = absurd h
-of_families p k (f ∷ fs) [] h = absurd h
-of_families p k (f ∷ fs) (c ∷ cs) h =
-    let rest = flat_map (λ g. flat_map (λ b. flat_map k (clauses_of p b)) (blocks_of p g)) fs in
-    ap (λ l. l ++ rest) (sym (flat_flat k (clauses_of p) (blocks_of p f)) ∙ ap (flat_map k) h.0) ∙
-    ap (λ l. flat_map k c ++ l) (of_families p k fs cs h.1)
-
-pub orders_are : (p : MpiProgram) → AreSame p order_families (families_of_order p)
-orders_are p = (issue_order p, (return_order p, (match_order p, (matched_once p, (send_order p, (taker_order p, tt))))))
-
-pub ends_are : (p : MpiProgram) → AreSame p end_families (no_pair_waits p ∷ no_issue_waits p ∷ family_of p Finished ∷ family_of p SomeUnfinished ∷ [])
-ends_are p = (pair_waits p, (issue_waits p, (refl, (refl, tt))))
-
-sees_are : (p : MpiProgram) → family_of p Sees ≡ probes_see_messages p
-sees_are p = by_block p Sees ∙ by_seen p (λ pair. see_clauses p pair.0 pair.1)
-
-pub last_are : (p : MpiProgram) → AreSame p last_families (last_of p)
-last_are p = (buffering p, (sees_are p, tt))
-
-pub ordering_are : (p : MpiProgram) → AreSame p ordering_families (families_with_orders p)
-ordering_are p = (issue_order p, (return_order p, (match_order p, (matched_once p, (send_order p, (taker_order p, (sees_are p, tt)))))))
-
-pub last_two : {Y : Type 0} (p : MpiProgram) (k : SymbolicClause → List Y) → flat_map k (family_of p Finished) ++ flat_map k (family_of p SomeUnfinished) ≡ flat_map k (some_rank_is_unfinished p)
-last_two p k = sym (flat_map-append k (family_of p Finished) (family_of p SomeUnfinished)) ∙ ap (flat_map k) (unfinished_ranks p)
+pub of_families : {Y : Type 0} (p : MpiProgram) (k : SymbolicClause → List Y) (fs : List Family) → flat_map (λ f. flat_map (λ b. flat_map k (clauses_of p b)) (blocks_of p f)) fs ≡ flat_map (flat_map k) (map (said p) fs)
+of_families p k fs =
+    same_made (λ f. flat_map (λ b. flat_map k (clauses_of p b)) (blocks_of p f)) (λ f. flat_map k (said p f)) fs (of_family p k) ∙
+    sym (flat_map-map (flat_map k) (said p) fs)
 
 -- the orders that the families state
-pub stated_by_families : (p : MpiProgram) → flat_map (orders_of_family p) ordering_families ≡ stated_orders p
-stated_by_families p = of_families p (flat_map (places_in p)) ordering_families (families_with_orders p) (ordering_are p)
+pub stated_by_families : (p : MpiProgram) → flat_map (orders_of_family p) all_families ≡ stated_orders p
+stated_by_families p =
+    let states : Family → Bool = λ family. (family_of family).states_order in
+    sym (of_filter (λ f. flat_map (orders_of p) (blocks_of p f)) states all_families) ∙
+    of_families p (flat_map (places_in p)) (filter states all_families)
 
 -- ---- the blocks of a family, by their places
 

@@ -1,10 +1,11 @@
 -- A table by which two events are found to be compared.
-use Rattle.std.specs.Prelude.{◌≡◌, ℕ, ◌+◌, ◌*◌, ◌<◌, Bool, false, List, get_or}
+use Rattle.std.specs.Prelude.{◌≡◌, ℕ, ◌+◌, ◌*◌, ◌<◌, Bool, false, if◌then◌else◌, List, [], get_or}
 use Rattle.std.specs.List.{flat_map}
 use Rattle.callorder.specs.Programs.{MpiProgram}
+use Rattle.formula.specs.declared.families.Family.{Family}
+use Rattle.formula.specs.Families.{family_of}
 use Rattle.formula.specs.Orders.{is_among, places_in}
 use Rattle.formula_families.specs.declared.families.Block.{Block}
-use Rattle.formula_families.specs.declared.families.Family.{Family}
 use Rattle.formula_families.specs.Blocks.{blocks_of, clauses_of}
 
 -- of two of so many places, the table tells whether they are among these pairs, either way round
@@ -16,6 +17,6 @@ AreMarks most orders marks =
 abbrev pub orders_of : MpiProgram → Block → List (ℕ × ℕ)
 orders_of p b = flat_map (flat_map (places_in p)) (clauses_of p b)
 
--- the same of all blocks of a family
+-- the same of all blocks of a family that states an order
 abbrev pub orders_of_family : MpiProgram → Family → List (ℕ × ℕ)
-orders_of_family p family = flat_map (orders_of p) (blocks_of p family)
+orders_of_family p family = if (family_of family).states_order then flat_map (orders_of p) (blocks_of p family) else []

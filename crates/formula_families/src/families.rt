@@ -1,52 +1,20 @@
 //! The families of clauses, call by call and pair by pair.
 
-ghost use Rattle.std.specs.Prelude.{◌≡◌, ◌∷◌, [], ◌++◌, ℕ, length, map, OnOk, IfOk};
+ghost use Rattle.std.specs.Prelude.{◌≡◌, ◌∷◌, [], ◌++◌, ℕ, length, map, if◌then◌else◌, OnOk, IfOk};
 ghost use Rattle.formula.specs.declared.facts.Fact.TheVariants.{Unfinished as unfinished};
-ghost use Rattle.formula.specs.declared.facts.Statement.TheVariants.{Holds as is_true};
-ghost use Rattle.formula.specs.Families.{last_calls, rank_of, issued_after, issued_after_return_of, issue_does_not_wait, see_clauses};
-ghost use Rattle.formula_families.specs.Blocks.{finished_after, buffered_as_allowed, clauses_of, size_of, block, order_families, end_families, ordering_families, last_families, where_taken, where_seen, taken_at};
+ghost use Rattle.formula.specs.declared.facts.Statement.TheVariants.{Holds as is_true, Fails as is_false};
+ghost use Rattle.formula.specs.Families.{last_calls, rank_of, is_standard, where_returned, buffered_under, issued_after, issued_after_return_of, issue_does_not_wait, family_of, first_families, last_families};
+ghost use Rattle.formula.specs.declared.families.Family.TheVariants.{SomeUnfinished, Sees};
+ghost use Rattle.formula_families.specs.Blocks.{clauses_of, size_of, block, where_taken, where_seen, where_last, of_pair};
 ghost use Rattle.candidates.specs.Pairs.{pairs_of, pair_at};
 
 use crate::symbolic::Symbolic;
 use crate::{matches, returns};
 use callorder::Program;
 use calltext::Policy;
-use formula::{Event, Fact, Statement};
+use formula::{Event, Fact, Family, Statement};
 use formula_tables::{ProgramTables, is_last, is_standard, previous, rank_of, when_returned};
 use std::alloc::{AllocError, Global};
-
-/// A family of clauses. Some have a block of clauses for each call, some for each pair, and one has
-/// one block in all.
-#[derive(Clone, Copy, PartialEq, Eq)]
-pub enum Family {
-    /// By call: where it is issued, the call directly before it in its rank is issued, and earlier.
-    IssueOrder,
-    /// By call: where it is issued, the call directly before it in its rank has returned, and
-    /// before.
-    ReturnOrder,
-    /// By pair of a send and a taker, as the next four: where it is matched, both calls are issued,
-    /// and before.
-    MatchOrder,
-    /// By pair: it isn't matched together with a later pair of the same send or taker.
-    MatchedOnce,
-    /// By pair: its match doesn't overtake that of an earlier send.
-    SendOrder,
-    /// By pair: its match doesn't overtake that of an earlier taker.
-    TakerOrder,
-    /// By pair: where both calls are issued, one of them is matched.
-    NoPairWaits,
-    /// By call: it is issued where the call directly before it in its rank has returned, or where
-    /// there is none.
-    NoIssueWaits,
-    /// By call: where it is the last one of its rank and has returned, the rank isn't unfinished.
-    Finished,
-    /// One block: some rank is unfinished.
-    SomeUnfinished,
-    /// By call: whether a standard send is buffered, as the policy says.
-    Buffering,
-    /// By pair of a send and a probe: what is said of a see.
-    Sees,
-}
 
 /// The clauses of a family for one call or for one pair.
 #[derive(Clone, Copy, PartialEq, Eq)]
@@ -116,7 +84,8 @@ fn is_finished(
     source: &ProgramTables<'_>,
     call: usize,
 ) -> Result<(), AllocError>
-    ensures { OnOk result (clauses.new ≡ clauses.old ++ finished_after source.now call) }
+    ensures { OnOk result (clauses.new ≡ clauses.old ++ where_last source.now call
+        (where_returned source.now call (is_false (unfinished (rank_of source.now call))))) }
 {
     if is_last(source.program(), call) {
         let rank = rank_of(source.program(), call);
@@ -154,13 +123,31 @@ fn some_is_unfinished(
     Ok(())
 }
 
+/// A rank whose last call has returned isn't unfinished; and behind all calls, some rank is.
+fn add_unfinished(
+    clauses: &mut Symbolic<Statement>,
+    alloc: Global,
+    source: &ProgramTables<'_>,
+    place: usize,
+) -> Result<(), AllocError>
+    ensures { OnOk result (clauses.new ≡ clauses.old ++ clauses_of source.now (block SomeUnfinished place)) }
+{
+    if place < source.len() {
+        is_finished(clauses, source, place)?;
+        return Ok(());
+    }
+    some_is_unfinished(clauses, alloc, source)?;
+    Ok(())
+}
+
 /// What the policy says of a standard send. There is no clause for another call.
 fn buffered_as_allowed(
     clauses: &mut Symbolic<Statement>,
     source: &ProgramTables<'_>,
     call: usize,
 ) -> Result<(), AllocError>
-    ensures { OnOk result (clauses.new ≡ clauses.old ++ buffered_as_allowed source.now call) }
+    ensures { OnOk result (clauses.new ≡
+        clauses.old ++ (if is_standard source.now call then buffered_under source.now.policy call else [])) }
 {
     if is_standard(source.program(), call) {
         match source.program().policy() {
@@ -172,31 +159,8 @@ fn buffered_as_allowed(
     Ok(())
 }
 
-/// Adds the clauses of a family of pairs of a send and a taker, for the pair at a place, whatever
-/// it is.
-fn add_taken(
-    clauses: &mut Symbolic<Statement>,
-    alloc: Global,
-    source: &ProgramTables<'_>,
-    family: Family,
-    place: usize,
-) -> Result<(), AllocError>
-    ensures { OnOk result (clauses.new ≡ clauses.old ++ taken_at source.now family place) }
-{
-    let (send, taker) = source.pair(place);
-    match family {
-        Family::MatchOrder => matches::issued_before_match(clauses, send, taker)?,
-        Family::MatchedOnce => matches::without_later_pairs(clauses, source, send, taker)?,
-        Family::SendOrder => matches::sends_are_matched_before(clauses, alloc, source, place)?,
-        Family::TakerOrder => matches::takers_are_matched_before(clauses, alloc, source, place)?,
-        _ => matches::pair_does_not_wait(clauses, alloc, source, send, taker)?,
-    }
-    Ok(())
-}
-
-/// Adds the clauses of a family of pairs of a send and a taker, for the pair at a place, if it is
-/// one.
-fn add_where_taken(
+/// Adds what the family says of the pair at a place, whatever it is.
+fn add_pair(
     clauses: &mut Symbolic<Statement>,
     alloc: Global,
     source: &ProgramTables<'_>,
@@ -204,14 +168,40 @@ fn add_where_taken(
     place: usize,
 ) -> Result<(), AllocError>
     ensures { OnOk result (clauses.new ≡
-        clauses.old ++ where_taken source.now (pair_at (pairs_of source.now) place) (taken_at source.now
-        family place)) }
+        clauses.old ++ of_pair source.now (family_of family).says (pair_at (pairs_of source.now) place)) }
+{
+    let (send, finder) = source.pair(place);
+    match family {
+        Family::MatchOrder => matches::issued_before_match(clauses, send, finder)?,
+        Family::MatchedOnce => matches::without_later_pairs(clauses, source, send, finder)?,
+        Family::SendOrder => matches::sends_are_matched_before(clauses, alloc, source, place)?,
+        Family::TakerOrder => matches::takers_are_matched_before(clauses, alloc, source, place)?,
+        Family::NoPairWaits => matches::pair_does_not_wait(clauses, alloc, source, send, finder)?,
+        Family::Sees => matches::see_clauses(clauses, alloc, source, place)?,
+        Family::IssueOrder
+        | Family::ReturnOrder
+        | Family::NoIssueWaits
+        | Family::SomeUnfinished
+        | Family::Buffering => {}
+    }
+    Ok(())
+}
+
+/// Adds what the family says of the pair at a place, if it is one of a send and a taker.
+fn add_where_taken(
+    clauses: &mut Symbolic<Statement>,
+    alloc: Global,
+    source: &ProgramTables<'_>,
+    family: Family,
+    place: usize,
+) -> Result<(), AllocError>
+    ensures { let pair = pair_at (pairs_of source.now) place in OnOk result (clauses.new ≡
+        clauses.old ++ where_taken source.now pair (of_pair source.now (family_of family).says pair)) }
 {
     let (_send, finder) = source.pair(place);
-    if source.program().is_probe(finder) {
-        return Ok(());
+    if !source.program().is_probe(finder) {
+        add_pair(clauses, alloc, source, family, place)?;
     }
-    add_taken(clauses, alloc, source, family, place)?;
     Ok(())
 }
 
@@ -223,13 +213,12 @@ fn add_where_seen(
     place: usize,
 ) -> Result<(), AllocError>
     ensures { let pair = pair_at (pairs_of source.now) place in OnOk result (clauses.new ≡
-        clauses.old ++ where_seen source.now pair (see_clauses source.now pair.0 pair.1)) }
+        clauses.old ++ where_seen source.now pair (of_pair source.now (family_of Sees).says pair)) }
 {
     let (_send, finder) = source.pair(place);
-    if !source.program().is_probe(finder) {
-        return Ok(());
+    if source.program().is_probe(finder) {
+        add_pair(clauses, alloc, source, Family::Sees, place)?;
     }
-    matches::see_clauses(clauses, alloc, source, place)?;
     Ok(())
 }
 
@@ -253,8 +242,7 @@ fn add_block(
         Family::TakerOrder => add_where_taken(clauses, alloc, source, family, place)?,
         Family::NoPairWaits => add_where_taken(clauses, alloc, source, family, place)?,
         Family::NoIssueWaits => issue_does_not_wait(clauses, source, place, before)?,
-        Family::Finished => is_finished(clauses, source, place)?,
-        Family::SomeUnfinished => some_is_unfinished(clauses, alloc, source)?,
+        Family::SomeUnfinished => add_unfinished(clauses, alloc, source, place)?,
         Family::Buffering => buffered_as_allowed(clauses, source, place)?,
         Family::Sees => add_where_seen(clauses, alloc, source, place)?,
     }
@@ -281,24 +269,39 @@ pub fn size_of(source: &ProgramTables<'_>, family: Family) -> usize
     ensures { result ≡ size_of source.now family }
 {
     match family {
-        Family::IssueOrder
-        | Family::ReturnOrder
-        | Family::NoIssueWaits
-        | Family::Finished
-        | Family::Buffering => source.len(),
+        Family::IssueOrder | Family::ReturnOrder | Family::NoIssueWaits | Family::Buffering => {
+            source.len()
+        }
+        Family::SomeUnfinished => source.program().calls().len() + 1,
         Family::MatchOrder
         | Family::MatchedOnce
         | Family::SendOrder
         | Family::TakerOrder
         | Family::NoPairWaits
         | Family::Sees => source.pair_count(),
-        Family::SomeUnfinished => 1,
     }
 }
 
-/// The families that state which of two events is earlier.
-pub fn order_families() -> &'static [Family]
-    ensures { result.now ≡ order_families }
+/// Whether some clause of the family states which of two events is earlier.
+pub fn states_order(family: Family) -> bool
+    ensures { result ≡ (family_of family).states_order }
+{
+    match family {
+        Family::NoPairWaits | Family::NoIssueWaits | Family::SomeUnfinished | Family::Buffering =>
+            false,
+        Family::IssueOrder
+        | Family::ReturnOrder
+        | Family::MatchOrder
+        | Family::MatchedOnce
+        | Family::SendOrder
+        | Family::TakerOrder
+        | Family::Sees => true,
+    }
+}
+
+/// The families before the clauses on the order of events, in the order of the formula.
+pub fn first_families() -> &'static [Family]
+    ensures { result.now ≡ first_families }
 {
     &[
         Family::IssueOrder,
@@ -307,37 +310,13 @@ pub fn order_families() -> &'static [Family]
         Family::MatchedOnce,
         Family::SendOrder,
         Family::TakerOrder,
-    ]
-}
-
-/// The families that say that the run is stuck.
-pub fn end_families() -> &'static [Family]
-    ensures { result.now ≡ end_families }
-{
-    &[
         Family::NoPairWaits,
         Family::NoIssueWaits,
-        Family::Finished,
         Family::SomeUnfinished,
     ]
 }
 
-/// All families that state which of two events is earlier.
-pub fn ordering_families() -> &'static [Family]
-    ensures { result.now ≡ ordering_families }
-{
-    &[
-        Family::IssueOrder,
-        Family::ReturnOrder,
-        Family::MatchOrder,
-        Family::MatchedOnce,
-        Family::SendOrder,
-        Family::TakerOrder,
-        Family::Sees,
-    ]
-}
-
-/// The families on the policy and on probes.
+/// The families behind them.
 pub fn last_families() -> &'static [Family]
     ensures { result.now ≡ last_families }
 {

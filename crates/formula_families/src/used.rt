@@ -7,9 +7,9 @@ ghost use Rattle.formula.specs.Families.{events as events_of};
 ghost use Rattle.formula.specs.Orders.{between, event_pairs, is_among, places_in, used_pairs};
 ghost use Rattle.formula_families.specs.Marks.{AreMarks, orders_of, orders_of_family};
 
-use crate::families::{Block, Family, ordering_families, put_block, size_of};
+use crate::families::{Block, first_families, last_families, put_block, size_of, states_order};
 use crate::symbolic::Symbolic;
-use formula::Statement;
+use formula::{Family, Statement};
 use formula_tables::{Events, ProgramTables};
 use std::alloc::{AllocError, Global};
 
@@ -83,7 +83,7 @@ fn mark_block(
     Ok(())
 }
 
-/// Marks them for each block of the family.
+/// Marks them for each block of the family, if it states an order.
 fn mark_family(
     marks: &mut [bool],
     clauses: &mut Symbolic<Statement>,
@@ -98,6 +98,9 @@ fn mark_family(
         AreMarks (length (events_of source.now)) orders marks.old →
         AreMarks (length (events_of source.now)) (orders ++ orders_of_family source.now family) marks.new) }
 {
+    if !states_order(family) {
+        return Ok(());
+    }
     for place in 0..size_of(source, family) {
         let block = Block { family, place };
         mark_block(marks, clauses, alloc, source, events, &block)?;
@@ -185,7 +188,8 @@ fn marked_by(
     requires none { AreMarks (length (events_of source.now)) [] marks.old }
     ensures { IfOk result (λ used. used.items ≡ used_pairs source.now) }
 {
-    mark_families(marks, alloc, source, events, ordering_families())?;
+    mark_families(marks, alloc, source, events, first_families())?;
+    mark_families(marks, alloc, source, events, last_families())?;
     let used = marked(alloc, marks, events.len())?;
     Ok(used)
 }

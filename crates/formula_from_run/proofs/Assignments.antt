@@ -1,5 +1,5 @@
 -- A stuck run gives an assignment that satisfies the formula of its program.
-use Rattle.std.proofs.Common.{◌≡◌, ℕ, Bool, true, nat_lt, List, ◌++◌, get_or, ap, ◌∙◌}
+use Rattle.std.proofs.Common.{◌≡◌, ℕ, Bool, true, nat_lt, List, ◌++◌, map, get_or, ap, ◌∙◌}
 use Rattle.std.specs.Prelude.{All}
 use Rattle.std.specs.List.{flat_map}
 use Rattle.callorder.specs.Programs.{MpiProgram, IsProgram}
@@ -9,7 +9,7 @@ use Rattle.clauses.specs.Clauses.{Literal, TruthAssignment, satisfies, satisfies
 use Rattle.formula.specs.declared.facts.Event.{Event}
 use Rattle.formula.specs.declared.facts.Statement.{Statement}
 use Rattle.formula.specs.declared.facts.Statement.TheVariants.{Holds as is_true, Fails as is_false, Earlier as is_earlier}
-use Rattle.formula.specs.Families.{SymbolicClause, event_at, place_of, families, families_of_order, families_of_end, last_families}
+use Rattle.formula.specs.Families.{SymbolicClause, event_at, place_of, families, said, first_families, last_families}
 use Rattle.formula.specs.Numbering.{numbered, numbered_order, formula_of}
 use Rattle.formula.specs.Laws.{Agrees, AgreesByFact, AgreesByClock, EventsAreListed}
 use Rattle.formula.proofs.Elements.{Each, each_both, each_mono, each_parts, each_of_all, all_append, all_flat_map}
@@ -109,8 +109,8 @@ each_satisfied p a world agree hold =
 formula_satisfied : (p : MpiProgram) (a : TruthAssignment) → Each (Satisfied p a) (families p) → satisfies a (numbered_order p) ≡ true → satisfies a (formula_of p).clauses ≡ true
 formula_satisfied p a h order =
     let test : List Literal → Bool = satisfies_clause a in
-    let others = families_of_order p ++ families_of_end p in
-    let last = last_families p in
+    let others = map (said p) first_families in
+    let last = map (said p) last_families in
     let parts = each_parts (Satisfied p a) others last h in
     all_append test (flat_map (numbered p) others ++ numbered_order p) (flat_map (numbered p) last)
     (all_append test (flat_map (numbered p) others) (numbered_order p) (all_flat_map test (numbered p) others parts.0) order) (all_flat_map test (numbered p) last parts.1)

@@ -6,8 +6,8 @@ use Rattle.std.proofs.lemmas.Grind.{flat_map-append}
 use Rattle.std.proofs.lemmas.List.Folds.{flat_map-map}
 use Rattle.std.specs.List.{filter, flat_map, list_any, list_all, range_with_len}
 use Rattle.callorder.specs.Programs.{MpiProgram, takes, sees}
-use Rattle.candidates.specs.Pairs.{places, takers_of, probes_of}
-use Rattle.formula.specs.Families.{SymbolicClause, for_each_pair, for_each_seeing_pair}
+use Rattle.candidates.specs.Pairs.{places, takers_of, probes_of, matching_pairs, seeing_pairs}
+use Rattle.formula.specs.Families.{SymbolicClause}
 use Rattle.formula.proofs.Elements.{and_both, or_left, or_right, all_append}
 
 -- a clause that begins with a negated statement, and with two
@@ -74,7 +74,7 @@ all_made_twice test f g [] h = refl
 all_made_twice test f g (x ∷ xs) h =
     rw (flat_map-append f (g x) (flat_map g xs)) (all_append test (flat_map f (g x)) (flat_map f (flat_map g xs)) (h x) (all_made_twice test f g xs h))
 
-pub pairs_hold : (p : MpiProgram) (test : SymbolicClause → Bool) (clauses : ℕ → ℕ → List SymbolicClause) → ((send taker : ℕ) → takes p send taker ≡ true → list_all test (clauses send taker) ≡ true) → list_all test (for_each_pair p clauses) ≡ true
+pub pairs_hold : (p : MpiProgram) (test : SymbolicClause → Bool) (clauses : ℕ → ℕ → List SymbolicClause) → ((send taker : ℕ) → takes p send taker ≡ true → list_all test (clauses send taker) ≡ true) → list_all test (flat_map (λ pair. clauses pair.0 pair.1) (matching_pairs p)) ≡ true
 pairs_hold p test clauses h =
     all_made_twice test (λ (pair : ℕ × ℕ). clauses pair.0 pair.1) (λ (send : ℕ). map (λ (taker : ℕ). (send, taker)) (takers_of p send)) (places p) one
   where
@@ -83,7 +83,7 @@ pairs_hold p test clauses h =
         rw (flat_map-map (λ (pair : ℕ × ℕ). clauses pair.0 pair.1) (λ (taker : ℕ). (send, taker)) (takers_of p send))
         (all_made_where test (clauses send) (takes p send) (places p) (h send))
 
-pub seeing_pairs_hold : (p : MpiProgram) (test : SymbolicClause → Bool) (clauses : ℕ → ℕ → List SymbolicClause) → ((send taker : ℕ) → sees p send taker ≡ true → list_all test (clauses send taker) ≡ true) → list_all test (for_each_seeing_pair p clauses) ≡ true
+pub seeing_pairs_hold : (p : MpiProgram) (test : SymbolicClause → Bool) (clauses : ℕ → ℕ → List SymbolicClause) → ((send taker : ℕ) → sees p send taker ≡ true → list_all test (clauses send taker) ≡ true) → list_all test (flat_map (λ pair. clauses pair.0 pair.1) (seeing_pairs p)) ≡ true
 seeing_pairs_hold p test clauses h =
     all_made_twice test (λ (pair : ℕ × ℕ). clauses pair.0 pair.1) (λ (send : ℕ). map (λ (taker : ℕ). (send, taker)) (probes_of p send)) (places p) one
   where

@@ -1,6 +1,6 @@
 -- What the world of a run says of pairs: families of clauses over pairs hold.
 use Rattle.std.proofs.Common.{◌≡◌, ℕ, ◌<◌, ◌⊎◌, inl, inr, Bool, true, false, not, ◌==◌, ◌&&◌, nat_lt, List, [], ◌∷◌, ◌++◌, Option, Some, None, slice_get, length, take, map, refl, sym, ap, ◌∙◌, subst, arith}
-use Rattle.std.specs.List.{filter, list_any}
+use Rattle.std.specs.List.{filter, flat_map, list_any}
 use Rattle.std.proofs.lemmas.Bool.{cases_eq}
 use Rattle.std.proofs.lemmas.Bool.Decides.{nat_tests}
 use Rattle.std.proofs.lemmas.Option.{same_Some, slice_get_within}
@@ -19,6 +19,7 @@ use Rattle.candidates.specs.Pairs.{places, takers_of}
 use Rattle.formula.specs.declared.facts.Event.TheVariants.{Issue as issue_of, Match as match_of}
 use Rattle.formula.specs.declared.facts.Fact.TheVariants.{Issued as issued, Matched as matched}
 use Rattle.formula.specs.declared.facts.Statement.TheVariants.{Holds as is_true, Fails as is_false, Earlier as is_earlier}
+use Rattle.nonovertake.specs.Earlier.{earlier_sends}
 use Rattle.formula.specs.Families.{sends_of, issued_before_match, send_is_matched_before, pair_does_not_wait}
 use Rattle.formula_from_run.specs.Worlds.{HasEnded, is_that, is_right, clause_holds, clauses_hold, clock_from, world_of}
 use Rattle.formula_from_run.specs.Laws.{MatchesComeAfterIssues, SendsDoNotOvertake, NoPairWaits}
@@ -146,7 +147,7 @@ send_is_matched_before_holds p steps s t e run fit below same fits =
 
 pub sends_do_not_overtake : SendsDoNotOvertake
 sends_do_not_overtake p steps program run =
-    pairs_hold p (clause_holds (world_of p steps)) _
+    pairs_hold p (clause_holds (world_of p steps)) (λ s t. flat_map (send_is_matched_before p s t) (earlier_sends p s t))
     (λ s t taken. all_made_within (clause_holds (world_of p steps)) (send_is_matched_before p s t) (λ e. are_of_one_rank p e s && are_fit p e t) 0 s s (omega arith)
     (λ e below pass. send_is_matched_before_holds p steps s t e run (takes_fit p s t taken) below (and_true _ _ pass).0 (and_true _ _ pass).1))
 

@@ -1,6 +1,6 @@
 -- What the world of a run says of takers, and that each call is matched once.
 use Rattle.std.proofs.Common.{◌≡◌, ℕ, ◌<◌, inl, true, false, not, ◌==◌, ◌&&◌, nat_lt, List, [], ◌∷◌, map, refl, sym, ◌∙◌, arith}
-use Rattle.std.specs.List.{filter, list_any}
+use Rattle.std.specs.List.{filter, flat_map, list_any}
 use Rattle.std.proofs.lemmas.Bool.Decides.{nat_tests}
 use Rattle.std.proofs.lemmas.Option.{same_Some}
 use Rattle.calltext.proofs.Conjunctions.{and_true}
@@ -14,6 +14,7 @@ use Rattle.candidates.specs.Pairs.{places, takers_of}
 use Rattle.formula.specs.declared.facts.Event.TheVariants.{Match as match_of}
 use Rattle.formula.specs.declared.facts.Fact.TheVariants.{Matched as matched}
 use Rattle.formula.specs.declared.facts.Statement.TheVariants.{Holds as is_true, Fails as is_false}
+use Rattle.nonovertake.specs.Earlier.{earlier_takers}
 use Rattle.formula.specs.Families.{sends_of, taker_is_matched_before, without_later_pairs, without_later_sends}
 use Rattle.formula_from_run.specs.Worlds.{is_right, clause_holds, clauses_hold, clock_from, world_of}
 use Rattle.formula_from_run.specs.Laws.{TakersDoNotOvertake, CallsAreMatchedOnce}
@@ -55,7 +56,7 @@ taker_is_matched_before_holds p steps s t e run fit below same fits =
 
 pub takers_do_not_overtake : TakersDoNotOvertake
 takers_do_not_overtake p steps program run =
-    pairs_hold p (clause_holds (world_of p steps)) _
+    pairs_hold p (clause_holds (world_of p steps)) (λ s t. flat_map (taker_is_matched_before p s t) (earlier_takers p s t))
     (λ s t taken. all_made_within (clause_holds (world_of p steps)) (taker_is_matched_before p s t) (λ e. are_of_one_rank p e t && takes p s e) 0 t t (omega arith)
     (λ e below pass. taker_is_matched_before_holds p steps s t e run (takes_fit p s t taken) below (and_true _ _ pass).0 (and_true _ _ pass).1))
 

@@ -3,8 +3,8 @@ use Rattle.std.proofs.Common.{◌≡◌, ℕ, ◌<◌, Bool, true, false, cond, 
 use Rattle.std.specs.List.{filter, flat_map, list_any, list_all, range_with_len}
 use Rattle.std.proofs.lemmas.Bool.{and_parts}
 use Rattle.callorder.specs.Programs.{MpiProgram, are_fit, takes, sees}
-use Rattle.candidates.specs.Pairs.{places, takers_of}
-use Rattle.formula.specs.Families.{SymbolicClause, sends_of, for_each_call, for_each_pair, for_each_seeing_pair}
+use Rattle.candidates.specs.Pairs.{places, takers_of, matching_pairs, seeing_pairs}
+use Rattle.formula.specs.Families.{SymbolicClause, sends_of}
 use Rattle.formula.proofs.Elements.{Each, and_both, each_parts, each_from, each_mono, each_filter, each_from_all, each_range_at, each_at_test, any_map}
 
 -- ---- one clause
@@ -73,7 +73,7 @@ found_mapped P test f xs each h = each_at_test P (λ x. test (f x)) xs each (sym
 
 -- ---- clauses of calls and of pairs
 
-pub at_call : (p : MpiProgram) (test : SymbolicClause → Bool) (clauses : ℕ → List SymbolicClause) → list_all test (for_each_call p clauses) ≡ true → (c : ℕ) → c < length p.calls → list_all test (clauses c) ≡ true
+pub at_call : (p : MpiProgram) (test : SymbolicClause → Bool) (clauses : ℕ → List SymbolicClause) → list_all test (flat_map clauses (places p)) ≡ true → (c : ℕ) → c < length p.calls → list_all test (clauses c) ≡ true
 at_call p test clauses h c below =
     each_range_at (λ k. list_all test (clauses k) ≡ true) 0 (length p.calls) (each_from_all test clauses (places p) h) c (omega arith) (omega (arith, below))
 
@@ -85,10 +85,10 @@ at_pair_of p kind test clauses h s t s_below t_below fit =
     let row = each_range_at (λ send. Each P (map (λ finder. (send, finder)) (filter (kind send) (places p)))) 0 (length p.calls) rows s (omega arith) (omega (arith, s_below)) in
     kept_at (λ finder. P (s, finder)) (kind s) (length p.calls) (each_of_mapped P (λ (finder : ℕ). (s, finder)) (filter (kind s) (places p)) row) t t_below fit
 
-pub at_pair : (p : MpiProgram) (test : SymbolicClause → Bool) (clauses : ℕ → ℕ → List SymbolicClause) → list_all test (for_each_pair p clauses) ≡ true → (s t : ℕ) → s < length p.calls → t < length p.calls → takes p s t ≡ true → list_all test (clauses s t) ≡ true
+pub at_pair : (p : MpiProgram) (test : SymbolicClause → Bool) (clauses : ℕ → ℕ → List SymbolicClause) → list_all test (flat_map (λ pair. clauses pair.0 pair.1) (matching_pairs p)) ≡ true → (s t : ℕ) → s < length p.calls → t < length p.calls → takes p s t ≡ true → list_all test (clauses s t) ≡ true
 at_pair p test clauses h = at_pair_of p (takes p) test clauses h
 
-pub at_seeing_pair : (p : MpiProgram) (test : SymbolicClause → Bool) (clauses : ℕ → ℕ → List SymbolicClause) → list_all test (for_each_seeing_pair p clauses) ≡ true → (s t : ℕ) → s < length p.calls → t < length p.calls → sees p s t ≡ true → list_all test (clauses s t) ≡ true
+pub at_seeing_pair : (p : MpiProgram) (test : SymbolicClause → Bool) (clauses : ℕ → ℕ → List SymbolicClause) → list_all test (flat_map (λ pair. clauses pair.0 pair.1) (seeing_pairs p)) ≡ true → (s t : ℕ) → s < length p.calls → t < length p.calls → sees p s t ≡ true → list_all test (clauses s t) ≡ true
 at_seeing_pair p test clauses h = at_pair_of p (sees p) test clauses h
 
 pub takers_take : (p : MpiProgram) (s : ℕ) → Each (λ t. takes p s t ≡ true) (takers_of p s)

@@ -1,6 +1,6 @@
 -- Every assignment that satisfies the formula of a program gives a stuck run, and the other way
 -- round.
-use Rattle.std.proofs.Common.{◌≡◌, true, List, [], ◌∷◌, ◌++◌, get_or, refl, sym, ◌∙◌}
+use Rattle.std.proofs.Common.{◌≡◌, true, List, [], ◌∷◌, ◌++◌, map, get_or, refl, sym, ◌∙◌}
 use Rattle.std.specs.Prelude.{All}
 use Rattle.std.specs.List.{flat_map, list_all}
 use Rattle.std.proofs.lemmas.Bool.{and_parts}
@@ -9,7 +9,7 @@ use Rattle.callorder.specs.Programs.{MpiProgram, IsProgram}
 use Rattle.clauses.specs.Clauses.{TruthAssignment, satisfies, satisfies_clause}
 use Rattle.formula.specs.declared.facts.Statement.{Statement}
 use Rattle.formula.specs.declared.facts.Statement.TheVariants.{Holds as is_true, Fails as is_false, Earlier as is_earlier}
-use Rattle.formula.specs.Families.{SymbolicClause, families, families_of_order, families_of_end, last_families}
+use Rattle.formula.specs.Families.{SymbolicClause, families, said, first_families, last_families}
 use Rattle.formula.specs.Numbering.{numbered, numbered_order, formula_of}
 use Rattle.formula.specs.Laws.{Agrees, AgreesByClock, clock_in}
 use Rattle.formula.proofs.Elements.{Each, each_append, each_from_all, each_mono, each_of_all}
@@ -49,8 +49,8 @@ record Parts (p : MpiProgram) (a : TruthAssignment) : Type 0 where
 parts : (p : MpiProgram) (a : TruthAssignment) → satisfies a (formula_of p).clauses ≡ true → Parts p a
 parts p a h =
     let test = satisfies_clause a in
-    let others = families_of_order p ++ families_of_end p in
-    let last = last_families p in
+    let others = map (said p) first_families in
+    let last = map (said p) last_families in
     let front = flat_map (numbered p) others ++ numbered_order p in
     let whole = and_parts (list_all test front) (list_all test (flat_map (numbered p) last)) (sym (list_all-append test front (flat_map (numbered p) last)) ∙ h) in
     let halves = and_parts (list_all test (flat_map (numbered p) others)) (list_all test (numbered_order p)) (sym (list_all-append test (flat_map (numbered p) others) (numbered_order p)) ∙ whole.0) in

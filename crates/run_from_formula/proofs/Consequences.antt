@@ -11,7 +11,8 @@ use Rattle.formula.specs.declared.facts.Event.TheVariants.{Issue as issue_of, Ma
 use Rattle.formula.specs.declared.facts.Fact.TheVariants.{Issued as issued, Matched as matched, Unfinished as unfinished}
 use Rattle.formula.specs.declared.facts.Statement.TheVariants.{Holds as is_true, Fails as is_false, Earlier as is_earlier}
 use Rattle.formula.specs.declared.facts.Condition.TheVariants.{IfMatched as if_matched}
-use Rattle.formula.specs.Families.{without_later_sends, seen_before_taken, see_clauses, SymbolicClause, sends_of, is_standard, previous, last_calls, rank_of, fetch_of, receive_on_handle, when_returned, where_returned, issued_after, issued_after_return_of, handle_is_received_on, is_fetched_before, is_returned_before, issued_before_match, without_later_pairs, send_is_matched_before, taker_is_matched_before, pair_does_not_wait, issue_does_not_wait, buffered_under, standard_sends, calls_are_matched_once, some_rank_is_unfinished, no_pair_waits, no_issue_waits, families_of_order, families_of_end, last_families, families}
+use Rattle.formula.specs.Families.{without_later_sends, seen_before_taken, see_clauses, SymbolicClause, sends_of, is_standard, previous, last_calls, rank_of, fetch_of, receive_on_handle, when_returned, where_returned, issued_after, issued_after_return_of, handle_is_received_on, is_fetched_before, is_returned_before, issued_before_match, without_later_pairs, send_is_matched_before, taker_is_matched_before, pair_does_not_wait, issue_does_not_wait, buffered_under, standard_sends, calls_are_matched_once, some_rank_is_unfinished, no_pair_waits, no_issue_waits, said, last_families, families}
+use Rattle.formula.proofs.Named.{families_of_order, families_of_end}
 use Rattle.formula.proofs.Elements.{Each, each_append, each_parts, each_both, each_from_all, each_filter, each_range}
 use Rattle.formula_from_run.specs.Worlds.{World, is_right, clause_holds, clauses_hold}
 use Rattle.formula_from_run.proofs.Matches.{fit_within}
@@ -332,12 +333,12 @@ taken_before p world s f t h taken m n =
 
 -- all but the one that says that some rank is unfinished
 abbrev pub families_of_ended_runs : MpiProgram → List (List SymbolicClause)
-families_of_ended_runs p = families_of_order p ++ (no_pair_waits p ∷ no_issue_waits p ∷ []) ++ last_families p
+families_of_ended_runs p = families_of_order p ++ (no_pair_waits p ∷ no_issue_waits p ∷ []) ++ map (said p) last_families
 
 pub without_unfinished : (p : MpiProgram) (P : List SymbolicClause → Type 0) → Each P (families p) → Each P (families_of_ended_runs p) × P (some_rank_is_unfinished p)
 without_unfinished p P h =
-    let parts = each_parts P (families_of_order p) (families_of_end p ++ last_families p) h in (
-      each_append P (families_of_order p) (no_pair_waits p ∷ no_issue_waits p ∷ last_families p) parts.0 (parts.1.0, (parts.1.1.0, parts.1.1.1.1)),
+    let parts = each_parts P (families_of_order p) (families_of_end p ++ map (said p) last_families) h in (
+      each_append P (families_of_order p) (no_pair_waits p ∷ no_issue_waits p ∷ map (said p) last_families) parts.0 (parts.1.0, (parts.1.1.0, parts.1.1.1.1)),
       parts.1.1.1.0,
     )
 

@@ -1,6 +1,6 @@
-use Rattle.std.proofs.Common.{◌++◌, ◌<◌, length, subst, arith}
+use Rattle.std.proofs.Common.{◌++◌, [], ◌<◌, if◌then◌else◌, length, sym, ap, ◌∙◌, subst, arith}
 use Rattle.std.specs.List.{flat_map}
-use Rattle.std.proofs.lemmas.List.{take_all}
+use Rattle.std.proofs.lemmas.List.{take_all, append-nil}
 use Rattle.formula.specs.Families.{events}
 use Rattle.formula_families.specs.Blocks.{block, blocks_of, size_of}
 use Rattle.formula_families.specs.Marks.{AreMarks, orders_of}
@@ -21,4 +21,10 @@ returns c =
     let p = c.args.source.now in
     let family = c.args.family in
     let all = take_all c.loop-place.place (blocks_of p family) (omega (arith, c.loop-place-test.false, c.size_of-place-end.ensures, blocks_count p family)) in
-    λ orders h. subst (λ l. AreMarks (length (events p)) (orders ++ flat_map (orders_of p) l) c.loop-place.marks) all (c.loop-place.invariant orders h)
+    λ orders h. subst (λ l. AreMarks (length (events p)) (orders ++ l) c.loop-place.marks) (ap (flat_map (orders_of p)) all ∙ ap (λ b. if b then flat_map (orders_of p) (blocks_of p family) else []) (sym c.if-not-states_order.false ∙ c.states_order.ensures)) (c.loop-place.invariant orders h)
+
+pub returns-then-not-states_order : goal.returns-then-not-states_order
+returns-then-not-states_order c =
+    let p = c.args.source.now in
+    let family = c.args.family in
+    λ orders h. subst (λ l. AreMarks (length (events p)) l c.args.marks.now) (sym (append-nil orders) ∙ ap (λ b. orders ++ (if b then flat_map (orders_of p) (blocks_of p family) else [])) (sym c.if-not-states_order.true ∙ c.states_order.ensures)) h
