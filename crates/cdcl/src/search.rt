@@ -6,7 +6,7 @@ ghost use Rattle.cdcl.specs.Searches.{IfEnded, IsCounted, IsNotBudget, IsRight};
 use crate::analysis::{Learnt, analyse, analyse_cube, analyse_root};
 use crate::engine::Engine;
 use crate::models::checked;
-use batches::{Batch, Hint};
+use refutations::{Batch, Hint};
 use clauses::{Assignment, Formula, Lit};
 use propagation::{ClauseRef, LitIndex, Origin, Truth, add_line};
 use std::alloc::{AllocError, Global};

@@ -7,7 +7,7 @@ ghost use Rattle.cdcl.specs.Answers.{are_opposite, has_both, is_foreign, Searche
 
 use crate::engine::Engine;
 use crate::search::{Counted, Ending};
-use batches::{Batch, Hint};
+use refutations::{Batch, Hint};
 use clauses::{Assignment, Clause, Formula, Lit};
 use propagation::no_lines;
 use std::alloc::{AllocError, Global};

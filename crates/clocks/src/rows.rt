@@ -247,7 +247,7 @@ fn take_step(
 {
     match step {
         Step::Issue { rank, .. } => {
-            let call = issued(&mut known.next, *rank);
+            let call = issue_next(&mut known.next, *rank);
             note(alloc, program, columns, partners, known, call)
         }
         _ => Ok(()),
@@ -335,7 +335,7 @@ fn first_calls(alloc: Global, program: &LongProgram) -> Result<Vec<usize>, Alloc
 }
 
 /// The call that a rank issues next, which is past then.
-fn issued(next: &mut Vec<usize>, rank: u32) -> usize {
+fn issue_next(next: &mut Vec<usize>, rank: u32) -> usize {
     match next.get_mut(rank as usize) {
         None => 0,
         Some(place) => {

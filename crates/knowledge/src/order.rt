@@ -18,7 +18,7 @@ fn first_calls(alloc: Global, program: &LongProgram) -> Result<Vec<usize>, Alloc
 }
 
 /// The call that the rank issues next, which is past then.
-fn issued(next: &mut Vec<usize>, rank: u32) -> usize {
+fn issue_next(next: &mut Vec<usize>, rank: u32) -> usize {
     match next.get_mut(rank as usize) {
         None => 0,
         Some(place) => {
@@ -42,7 +42,7 @@ pub fn issue_order(
     let mut order = Vec::new(alloc);
     for step in run {
         if let Step::Issue { rank, .. } = step {
-            let call = issued(&mut next, *rank);
+            let call = issue_next(&mut next, *rank);
             order.push(call)?;
         }
     }

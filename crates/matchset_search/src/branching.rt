@@ -4,7 +4,7 @@ ghost use Rattle.std.specs.Prelude.{◌≤◌, vec_len};
 
 use crate::explorer::Explorer;
 use crate::tasks::{Branch, Branching, Purpose, Task};
-use batches::Batch;
+use refutations::Batch;
 use matchsets::{Key, State, choose, mixed, read_off};
 use propagation::LitIndex;
 use std::alloc::{AllocError, Global};

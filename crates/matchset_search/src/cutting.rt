@@ -2,7 +2,7 @@
 
 use crate::engine::Engine;
 use crate::others::SharedClosed;
-use batches::Batch;
+use refutations::Batch;
 use matchsets::{Cycle, Shape};
 use propagation::{LitIndex, Trail};
 use std::alloc::{AllocError, Global};

@@ -1,7 +1,7 @@
 //! What propagation knows, and how clauses come in.
 
 use crate::others::SharedClosed;
-use batches::Batch;
+use refutations::Batch;
 use clauses::Formula;
 use matchsets::mixed;
 use propagation::{ClauseRef, LitIndex, Marks, Origin, Propagator, Refuting, indices_of};

@@ -1,7 +1,7 @@
 //! Why a conflict can't be, as a line.
 
 use crate::engine::{Conflict, Engine, Written};
-use batches::Batch;
+use refutations::Batch;
 use propagation::{ClauseRef, LitIndex, Marks, Propagator};
 use std::alloc::{AllocError, Global};
 

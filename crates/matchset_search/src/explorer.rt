@@ -6,7 +6,7 @@ use crate::engine::{Engine, MOST_WATCHED};
 use crate::lemmas::{Lemmas, Portion};
 use crate::others::SharedClosed;
 use crate::tasks::Task;
-use batches::Batch;
+use refutations::Batch;
 use cdcl::Solver;
 use clauses::Clause;
 use encode::Encoded;

@@ -3,7 +3,7 @@
 use crate::engine::{Conflict, Written};
 use crate::explorer::Explorer;
 use crate::tasks::{Branch, Branching, Purpose, Task};
-use batches::Batch;
+use refutations::Batch;
 use matchsets::Key;
 use propagation::{ClauseRef, LitIndex};
 use std::alloc::{AllocError, Global};

@@ -3,7 +3,7 @@
 use crate::engine::Written;
 use crate::explorer::Explorer;
 use crate::tasks::{Branch, Purpose, Task};
-use batches::{Batch, BatchLine, Hint};
+use refutations::{Batch, BatchLine, Hint};
 use cdcl::{Found, Solver};
 use clauses::{Assignment, Formula, Lit};
 use propagation::{ClauseRef, LitIndex, Origin, indices_of};

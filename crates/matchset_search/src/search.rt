@@ -8,7 +8,7 @@ use crate::explorer::Explorer;
 use crate::learning::Learning;
 use crate::models::checked;
 use crate::tasks::{Purpose, Task};
-use batches::{Batch, Hint};
+use refutations::{Batch, Hint};
 use cdcl::{Counted, Ending, Step};
 use clauses::Formula;
 use encode::Encoded;

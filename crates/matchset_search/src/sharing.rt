@@ -4,7 +4,7 @@ use crate::claims::InProgress;
 use crate::explorer::Explorer;
 use crate::others::ClosedState;
 use crate::tasks::Task;
-use batches::Hint;
+use refutations::Hint;
 use matchsets::Key;
 use pages::Lines;
 use propagation::{LitIndex, indices_of};

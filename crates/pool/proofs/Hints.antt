@@ -4,9 +4,9 @@ use Rattle.std.proofs.lemmas.Bool.{cases_Bool, and_parts, and_from, leb-true, le
 use Rattle.std.proofs.lemmas.List.{length-append, length-map}
 use Rattle.std.proofs.lemmas.List.Folds.{list_all-append}
 use Rattle.std.proofs.lemmas.Option.{slice_get_within}
-use Rattle.batches.specs.declared.BatchLine.{BatchLine}
-use Rattle.batches.specs.declared.Hint.{Hint}
-use Rattle.batches.specs.declared.Hint.TheVariants.{Known, Own}
+use Rattle.refutations.specs.declared.batch.BatchLine.{BatchLine}
+use Rattle.refutations.specs.declared.batch.Hint.{Hint}
+use Rattle.refutations.specs.declared.batch.Hint.TheVariants.{Known, Own}
 use Rattle.clauses.specs.Clauses.{Literal, Conjunction, rises}
 use Rattle.refutations.specs.Propagation.{PartialValues, assign}
 use Rattle.refutations.specs.Derivations.{clauses_before, clause_numbered, Propagates, Derives}

@@ -6,9 +6,9 @@ use Rattle.std.proofs.lemmas.Bool.{and_parts, cases_Bool, ltb-true}
 use Rattle.std.proofs.lemmas.List.Folds.{list_all-append, list_all_at}
 use Rattle.std.proofs.lemmas.List.{map-append, take-map, length-append, length-map}
 use Rattle.pages.proofs.Joined.{slice_get-front, slice_get-back}
-use Rattle.batches.specs.declared.BatchLine.{BatchLine}
-use Rattle.batches.specs.declared.Hint.{Hint}
-use Rattle.batches.specs.declared.Hint.TheVariants.{Known, Own}
+use Rattle.refutations.specs.declared.batch.BatchLine.{BatchLine}
+use Rattle.refutations.specs.declared.batch.Hint.{Hint}
+use Rattle.refutations.specs.declared.batch.Hint.TheVariants.{Known, Own}
 use Rattle.clauses.specs.Clauses.{Literal, Conjunction, is_within}
 use Rattle.refutations.specs.Propagation.{PartialValues, assign}
 use Rattle.refutations.specs.Derivations.{clauses_before, clause_numbered, assumed, Propagates, IsConflict, Derives}

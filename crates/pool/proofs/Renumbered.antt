@@ -7,9 +7,9 @@ use Rattle.std.proofs.lemmas.List.{drop_more, length-append, length-take}
 use Rattle.std.proofs.lemmas.List.Folds.{list_all-append}
 use Rattle.std.proofs.lemmas.Option.{slice_get-get_or}
 use Rattle.pages.proofs.Joined.{slice_get-back}
-use Rattle.batches.specs.declared.BatchLine.{BatchLine}
-use Rattle.batches.specs.declared.Hint.{Hint}
-use Rattle.batches.specs.declared.Hint.TheVariants.{Known, Own}
+use Rattle.refutations.specs.declared.batch.BatchLine.{BatchLine}
+use Rattle.refutations.specs.declared.batch.Hint.{Hint}
+use Rattle.refutations.specs.declared.batch.Hint.TheVariants.{Known, Own}
 use Rattle.clauses.specs.Clauses.{Conjunction}
 use Rattle.refutations.specs.Proofs.{ProofLine, is_number, are_numbers}
 use Rattle.pool.specs.Batches.{capped_move}

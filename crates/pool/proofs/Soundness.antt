@@ -14,7 +14,7 @@ use Rattle.trees.specs.declared.tree.NodeKind.TheVariants.{Leaf, Split}
 use Rattle.trees.specs.Trees.{TreeNode, TreeState, leaf_with, path_at, IsLeaf, split_at, HasNoRoom, IsGrown}
 use Rattle.trees.proofs.Splits.{kind_within, length_after}
 use Rattle.trees.proofs.Grown.{state_grown_after}
-use Rattle.batches.specs.declared.BatchLine.{BatchLine}
+use Rattle.refutations.specs.declared.batch.BatchLine.{BatchLine}
 use Rattle.pool.specs.Counts.{open_count}
 use Rattle.pool.specs.declared.why.Why.{Why}
 use Rattle.pool.specs.Replies.{resolved, resolved_lines, DeriveAfter, most_lines}

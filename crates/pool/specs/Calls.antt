@@ -2,7 +2,7 @@
 use Rattle.std.specs.Prelude.{ℕ, Bool, true, false, if◌then◌else◌, List, Result, Err}
 use Rattle.refutations.specs.Proofs.{ProofLine}
 use Rattle.semantics.specs.declared.state.Step.{Step}
-use Rattle.batches.specs.declared.BatchLine.{BatchLine}
+use Rattle.refutations.specs.declared.batch.BatchLine.{BatchLine}
 use Rattle.pool.specs.declared.entry.Operation.{Operation}
 use Rattle.pool.specs.declared.entry.Operation.TheVariants.{Publish, Fetch, Close, Split, Found}
 use Rattle.pool.specs.declared.entry.PublishFault.{PublishFault}

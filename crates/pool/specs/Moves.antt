@@ -1,9 +1,9 @@
 -- What becomes of a batch that was derived from a log, where the log has more lines by then.
 use Rattle.std.specs.Prelude.{◌≡◌, ℕ, ◌+◌, ◌-◌, ◌++◌, Bool, true, if◌then◌else◌, nat_lt, List, length, map, IsTrue, Some, slice_get}
 use Rattle.std.specs.List.{list_all}
-use Rattle.batches.specs.declared.BatchLine.{BatchLine}
-use Rattle.batches.specs.declared.Hint.{Hint}
-use Rattle.batches.specs.declared.Hint.TheVariants.{Known, Own}
+use Rattle.refutations.specs.declared.batch.BatchLine.{BatchLine}
+use Rattle.refutations.specs.declared.batch.Hint.{Hint}
+use Rattle.refutations.specs.declared.batch.Hint.TheVariants.{Known, Own}
 use Rattle.clauses.specs.Clauses.{Conjunction}
 use Rattle.refutations.specs.Proofs.{ProofLine}
 use Rattle.pool.specs.declared.entry.LoggedCall.{LoggedCall}

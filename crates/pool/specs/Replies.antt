@@ -1,8 +1,8 @@
 -- What a batch of lines is, and what it is answered.
 use Rattle.std.specs.Prelude.{◌≡◌, ℕ, ◌+◌, ◌++◌, List, length, take, map, Some, slice_get}
-use Rattle.batches.specs.declared.BatchLine.{BatchLine}
-use Rattle.batches.specs.declared.Hint.{Hint}
-use Rattle.batches.specs.declared.Hint.TheVariants.{Known, Own}
+use Rattle.refutations.specs.declared.batch.BatchLine.{BatchLine}
+use Rattle.refutations.specs.declared.batch.Hint.{Hint}
+use Rattle.refutations.specs.declared.batch.Hint.TheVariants.{Known, Own}
 use Rattle.clauses.specs.Clauses.{Conjunction}
 use Rattle.refutations.specs.Derivations.{Derives}
 use Rattle.refutations.specs.Proofs.{ProofLine}

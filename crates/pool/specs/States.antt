@@ -11,7 +11,7 @@ use Rattle.refutations.specs.Proofs.{ProofLine}
 use Rattle.refutations.specs.Refutations.{AreDerived}
 use Rattle.refutations.specs.Trees.{IsRefuted}
 use Rattle.trees.specs.Trees.{TreeState, IsGrown, IsLeaf, HasNoRoom, path_at, split_at}
-use Rattle.batches.specs.declared.BatchLine.{BatchLine}
+use Rattle.refutations.specs.declared.batch.BatchLine.{BatchLine}
 use Rattle.pool.specs.declared.entry.Operation.{Operation}
 use Rattle.pool.specs.declared.entry.Operation.TheVariants.{Publish, Fetch, Close, Split, Found, Leave}
 use Rattle.pool.specs.declared.entry.PublishFault.{PublishFault}

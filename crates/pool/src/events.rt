@@ -6,7 +6,7 @@ ghost use Rattle.pool.specs.Runs.{IsPoolRun, AreAnswered, IsAnswered, after_even
 use crate::entry::{CloseFault, FetchFault, FoundFault, PublishFault, SplitFault};
 use crate::keep::Pool;
 use crate::why::Why;
-use batches::Batch;
+use refutations::Batch;
 use encode::Encoded;
 use pages::Lines;
 use semantics::Step;
@@ -68,7 +68,7 @@ pub enum Reply {
     Leave,
 }
 
-fn closed(pool: &mut Pool, worker: u32, leaf: u32, number: u32) -> Result<Reply, AllocError>
+fn close(pool: &mut Pool, worker: u32, leaf: u32, number: u32) -> Result<Reply, AllocError>
     ensures reply { IfOk result (IsAnswered pool.old.held (Event.Close worker leaf number)) }
     ensures pool { IfOk result (λ given. pool.new ≡ after_event pool.old (Event.Close worker leaf number) given) }
 {
@@ -95,7 +95,7 @@ fn split(
 }
 
 /// What a call is answered, but for want of memory.
-fn answered(alloc: Global, pool: &mut Pool, event: &Event) -> Result<Reply, AllocError>
+fn answer(alloc: Global, pool: &mut Pool, event: &Event) -> Result<Reply, AllocError>
     ensures reply { IfOk result (IsAnswered pool.old.held event.now) }
     ensures pool { IfOk result (λ given. pool.new ≡ after_event pool.old event.now given) }
 {
@@ -112,7 +112,7 @@ fn answered(alloc: Global, pool: &mut Pool, event: &Event) -> Result<Reply, Allo
             worker,
             leaf,
             number,
-        } => closed(pool, *worker, *leaf, *number),
+        } => close(pool, *worker, *leaf, *number),
         Event::Split {
             worker,
             leaf,
@@ -138,7 +138,7 @@ fn replies_to(alloc: Global, pool: &mut Pool, events: &[Event]) -> Result<Vec<Re
 {
     let mut replies = Vec::with_capacity(alloc, events.len())?;
     for event in events {
-        replies.push(answered(alloc, pool, event)?)?;
+        replies.push(answer(alloc, pool, event)?)?;
     }
     Ok(replies)
 }

@@ -16,12 +16,11 @@ use crate::entry::{CloseFault, FetchFault, FoundFault, Operation, PublishFault, 
 use crate::extend::extend;
 use crate::ledger::Ledger;
 use crate::why::Why;
-use batches::Batch;
+use refutations::{Batch, PartialAssignment};
 use callorder::Program;
 use clauses::Formula;
 use encode::Encoded;
 use pages::{Lines, Log};
-use refutations::PartialAssignment;
 use semantics::{End, ReplayFault, Step, replay};
 use std::alloc::{AllocError, Global};
 use std::marker::Model;

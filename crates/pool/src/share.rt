@@ -4,7 +4,7 @@ use crate::assembly::AssembleFault;
 use crate::entry::{CloseFault, FetchFault, FoundFault, PathFault, PublishFault, SplitFault};
 use crate::reading::Status;
 use crate::why::Why;
-use batches::Batch;
+use refutations::Batch;
 use clauses::Lit;
 use pages::Lines;
 use prooflog::Evidence;

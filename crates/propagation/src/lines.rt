@@ -4,7 +4,7 @@ use crate::batch::add_line;
 use crate::literal::LitIndex;
 use crate::propagator::Propagator;
 use crate::reference::{ClauseRef, Origin};
-use batches::Batch;
+use refutations::Batch;
 use std::alloc::{AllocError, Global};
 
 /// A line of the batch.

@@ -2,7 +2,7 @@
 
 ghost use Rattle.std.specs.Prelude.{◌≤◌};
 
-use batches::Hint;
+use refutations::Hint;
 
 /// A clause of an arena, or none.
 #[derive(Clone, Copy, PartialEq, Eq)]

@@ -4,7 +4,7 @@ use crate::literal::LitIndex;
 use crate::marks::Marks;
 use crate::propagator::Propagator;
 use crate::reference::{ClauseRef, Origin};
-use batches::Batch;
+use refutations::Batch;
 use std::alloc::{AllocError, Global};
 
 impl Propagator {

@@ -58,7 +58,7 @@ fn told_schedule<R: Threads + Sync>(rt: &R, alloc: Global, schedule: Schedule) -
 }
 
 /// The answer of an evidence, of which a refutation is written in so many portions.
-fn told<R: Threads + Sync>(rt: &R, alloc: Global, evidence: Evidence, parts: usize) -> Answer
+fn tell<R: Threads + Sync>(rt: &R, alloc: Global, evidence: Evidence, parts: usize) -> Answer
     ensures { (p : MpiProgram) (text : List ℕ) → IsEvidenceOn p evidence → IsTextOf text p → Answers text result }
 {
     match evidence {
@@ -81,7 +81,7 @@ fn shorten(alloc: Global, evidence: &mut Evidence) -> Result<(), AllocError>
 
 /// The answer of what a pool assembled, which is written in so many portions. A reason for which a
 /// worker left may be noted.
-fn told_trimmed<R: Threads + Sync>(
+fn tell_trimmed<R: Threads + Sync>(
     rt: &R,
     alloc: Global,
     noted: Option<Why>,
@@ -91,14 +91,14 @@ fn told_trimmed<R: Threads + Sync>(
     ensures { (p : MpiProgram) (text : List ℕ) → HasFormula p → IsEvidenceOn p evidence → IsTextOf text p → Answers text result }
 {
     match shorten(alloc, &mut evidence) {
-        Ok(()) => told(rt, alloc, evidence, parts),
+        Ok(()) => tell(rt, alloc, evidence, parts),
         Err(AllocError) => Answer::Unknown(smallest_with(noted, Why::Memory)),
     }
 }
 
 /// The reason that counts beside those that are noted at the end of a search, in which memory may
 /// have been wanting.
-fn unnoted(was_short: bool) -> Why
+fn reason_beside(was_short: bool) -> Why
     ensures { result ≡ unnoted was_short }
 {
     if was_short { Why::Memory } else { Why::Left }
@@ -119,14 +119,14 @@ fn answer_of<R: Threads + Sync>(
 {
     let noted = pool.status().why;
     match pool.into_evidence(alloc) {
-        Ok(evidence) => told_trimmed(rt, alloc, noted, evidence, parts),
+        Ok(evidence) => tell_trimmed(rt, alloc, noted, evidence, parts),
         Err(AssembleFault::Memory) => Answer::Unknown(smallest_with(noted, Why::Memory)),
-        Err(AssembleFault::Open) => Answer::Unknown(smallest_with(noted, unnoted(was_short))),
+        Err(AssembleFault::Open) => Answer::Unknown(smallest_with(noted, reason_beside(was_short))),
     }
 }
 
 /// The answer of the walks, where one of them ends stuck or memory runs out.
-fn walked<R: Threads + Sync>(rt: &R, alloc: Global, program: &Program) -> Option<Answer>
+fn walk<R: Threads + Sync>(rt: &R, alloc: Global, program: &Program) -> Option<Answer>
     ensures some { IfSome result (λ answer. (text : List ℕ) → IsTextOf text program.now → Answers text answer) }
     ensures finishes { IfSome result (λ answer. (budget : ℕ) (text : List ℕ) → FinishesIfUnknown budget text answer) }
     ensures none { IfNone result (HasFinishedRun program.now) }
@@ -161,7 +161,7 @@ fn answer_over<G: Gate + Sync, R: Threads + Wait + Sync>(
 }
 
 /// The answer of a search over the formula of the program, or why it has none.
-fn searched<G: Gate + Sync, R: Threads + Wait + Sync>(
+fn search<G: Gate + Sync, R: Threads + Wait + Sync>(
     rt: &R,
     alloc: Global,
     program: Program,
@@ -179,7 +179,7 @@ fn searched<G: Gate + Sync, R: Threads + Wait + Sync>(
 
 /// The answer of the walks, if there is a budget, and then of the search, or why the text has
 /// neither.
-fn answered<G: Gate + Sync, R: Threads + Wait + Sync>(
+fn walk_then_search<G: Gate + Sync, R: Threads + Wait + Sync>(
     rt: &R,
     alloc: Global,
     text: &[u8],
@@ -195,11 +195,11 @@ fn answered<G: Gate + Sync, R: Threads + Wait + Sync>(
         Err(reason) => return Err(reason),
     };
     if options.budget() == 0 {
-        return searched(rt, alloc, program, options, gate);
+        return search(rt, alloc, program, options, gate);
     }
-    match walked(rt, alloc, &program) {
+    match walk(rt, alloc, &program) {
         Some(answer) => Ok(answer),
-        None => searched(rt, alloc, program, options, gate),
+        None => search(rt, alloc, program, options, gate),
     }
 }
 
@@ -237,7 +237,7 @@ pub fn prove<G: Gate + Sync, R: Threads + Wait + Sync>(
     ensures answers { Answers program.now result }
     ensures finishes { FinishesIfUnknown options.budget program.now result }
 {
-    match answered(rt, alloc, program, options, gate) {
+    match walk_then_search(rt, alloc, program, options, gate) {
         Ok(answer) => answer,
         Err(Reason::Memory) => Answer::Unknown(Why::Memory),
         Err(reason) => Answer::Refused(reason),

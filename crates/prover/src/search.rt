@@ -55,7 +55,7 @@ fn fill(supplies: &mut [Supply], cubes: &[u32]) -> Result<(), u32>
 }
 
 /// Each seat with a supply.
-fn paired<B: PoolName>(
+fn pair<B: PoolName>(
     alloc: Global,
     seats: Vec<Seat<B>>,
     supplies: Vec<Supply>,
@@ -90,11 +90,11 @@ fn stations<B: PoolName>(
     if fill(supplies.as_mut_slice(), cubes).is_err() {
         return Err(AllocError);
     }
-    paired(alloc, seats, supplies)
+    pair(alloc, seats, supplies)
 }
 
 /// Lets a worker work at its station.
-fn at_work<B: PoolName, G: Gate, R: Wait>(
+fn work_at<B: PoolName, G: Gate, R: Wait>(
     rt: &R,
     alloc: Global,
     common: &SearchContext<SharedPool<B>, G>,
@@ -114,7 +114,7 @@ fn at_work<B: PoolName, G: Gate, R: Wait>(
 }
 
 /// Lets each worker work at its station. Answers whether each could note why it left.
-fn all_work<B: PoolName + Send + Sync, G: Gate + Sync, R: Threads + Wait + Sync>(
+fn work_all<B: PoolName + Send + Sync, G: Gate + Sync, R: Threads + Wait + Sync>(
     rt: &R,
     alloc: Global,
     common: &SearchContext<SharedPool<B>, G>,
@@ -132,7 +132,7 @@ fn all_work<B: PoolName + Send + Sync, G: Gate + Sync, R: Threads + Wait + Sync>
         &|_place, station: &mut WorkerPlace<B>|
             ensures { deques_of station.new.supply ≡ deques_of station.old.supply }
         {
-            if at_work(rt, alloc, common, station).is_err() {
+            if work_at(rt, alloc, common, station).is_err() {
                 noted.store(true, Ordering::SeqCst);
             }
         },
@@ -141,7 +141,7 @@ fn all_work<B: PoolName + Send + Sync, G: Gate + Sync, R: Threads + Wait + Sync>
 }
 
 /// Hands the seats back, settles all supplies, and answers too whether these could be settled.
-fn settled<B: PoolName>(
+fn settle<B: PoolName>(
     alloc: Global,
     stations: Vec<WorkerPlace<B>>,
 ) -> Result<(Vec<Seat<B>>, bool), AllocError>
@@ -171,7 +171,7 @@ pub(crate) fn smallest_with(noted: Option<Why>, why: Why) -> Why
 /// The pool of a shared one and all its seats, and whether memory was wanting: for a worker that
 /// couldn't note why it left, or to settle the supplies. Where it is wanting before there is a
 /// pool, the smallest reason that is known.
-fn ended<B: PoolName, R: Wait>(
+fn end<B: PoolName, R: Wait>(
     rt: &R,
     alloc: Global,
     shared: SharedPool<B>,
@@ -183,7 +183,7 @@ fn ended<B: PoolName, R: Wait>(
     ensures formula { IfOk result (λ made. made.0.held.formula ≡ B.opening.formula) }
 {
     let noted = shared.status(rt).why;
-    let Ok((seats, is_settled)) = settled(alloc, stations) else {
+    let Ok((seats, is_settled)) = settle(alloc, stations) else {
         return Err(smallest_with(noted, Why::Memory));
     };
     match shared.finish(rt, alloc, seats) {
@@ -203,7 +203,7 @@ fn exploring(options: Options) -> Exploring {
 }
 
 /// What is done before the workers begin, at the seat of worker 0.
-fn begun<B: PoolName, G: Gate, R: Wait>(
+fn begin<B: PoolName, G: Gate, R: Wait>(
     rt: &R,
     alloc: Global,
     common: &SearchContext<SharedPool<B>, G>,
@@ -258,14 +258,14 @@ fn search_in<B: PoolName + Send + Sync, G: Gate + Sync, R: Threads + Wait + Sync
         kept: &kept,
         closed: &closed,
     };
-    let begun = begun(rt, alloc, &first, seats.as_mut_slice(), cubes, options);
+    let begun = begin(rt, alloc, &first, seats.as_mut_slice(), cubes, options);
     let common = SearchContext { begun, ..first };
     let Ok(mut stations) = stations(alloc, seats, workers, cubes) else {
         return Err(Why::Memory);
     };
     let places = stations.as_mut_slice();
-    let are_noted = all_work(rt, alloc, &common, places);
-    ended(rt, alloc, shared, stations, are_noted)
+    let are_noted = work_all(rt, alloc, &common, places);
+    end(rt, alloc, shared, stations, are_noted)
 }
 
 /// The tree that a search begins with, and its leaves.
@@ -285,7 +285,7 @@ fn first_tree(alloc: Global, encoded: &Encoded, depth: u32) -> Result<(Tree, Vec
 }
 
 /// A pool in which all leaves of that tree are open, and the leaves.
-fn opened(alloc: Global, encoded: Encoded, depth: u32) -> Result<(Pool, Vec<u32>), Why>
+fn open_pool(alloc: Global, encoded: Encoded, depth: u32) -> Result<(Pool, Vec<u32>), Why>
     requires { depth ≤ 15 }
     ensures program { IfOk result (λ made. made.0.held.program ≡ encoded.program) }
     ensures formula { IfOk result (λ made. made.0.held.formula ≡ encoded.formula) }
@@ -314,6 +314,6 @@ pub fn pool_of<G: Gate + Sync, R: Threads + Wait + Sync>(
         mem::drop(encoded);
         return Err(Why::Memory);
     };
-    let (pool, cubes) = opened(alloc, encoded, options.depth())?;
+    let (pool, cubes) = open_pool(alloc, encoded, options.depth())?;
     search_in::<Brand, G, R>(rt, alloc, cell, keeper, pool, &cubes, options, gate)
 }

@@ -1,6 +1,6 @@
 //! Words that several forms share.
 
-use misses::Mismatch;
+use waits::Mismatch;
 
 /// What is another one than it would have to be, in a word.
 pub fn part_word(part: Mismatch) -> &'static str {

@@ -10,7 +10,7 @@ ghost use Rattle.session.specs.Pages.{ChangesAtMost, IsDecideFile, IsUnread, Sto
 ghost use Rattle.session.specs.Phasing.{IsFolderFile, IsJoinFile, IsJoinedPage, IsPhasesPage, IsShown, IsShownFile, file_name, is_race, path_in};
 
 use crate::commands::{Open, Stop};
-use crate::decide::{deadlock_page, decided, decision_page, read_whole};
+use crate::decide::{deadlock_page, decide_text, decision_page, read_whole};
 use crate::page::{Page, page_of, page_with};
 use crate::status::UNKNOWN;
 use crate::told::{Outcome, joined};
@@ -570,7 +570,7 @@ pub fn decide_phases_page<'a, R: Threads + Wait + Sync, F: FileSet, E: Write>(
         (E.contents err.old) (E.contents err.new) }
 {
     let text = read_whole(alloc, asked.program, files)?;
-    let decision = decided(alloc, &text, asked.progress, err);
+    let decision = decide_text(alloc, &text, asked.progress, err);
     if is_race(&decision) {
         let shown = joined_now(rt, alloc, &text);
         return phases_page(alloc, &text, shown, asked.out, asked.json, files);

@@ -25,7 +25,7 @@ use std::io::Write;
 
 /// Decides by one run whether some run of the program of a text gets stuck, and tells meanwhile how
 /// far it is, where that is asked for.
-pub fn decided<E: Write>(
+pub fn decide_text<E: Write>(
     alloc: Global,
     text: &[u8],
     progress: bool,
@@ -61,7 +61,7 @@ pub fn decide_page<'a, F: FileSet, E: Write>(
         (E.contents err.old) (E.contents err.new) }
 {
     let text = read_whole(alloc, asked.program, files)?;
-    let decision = decided(alloc, &text, asked.progress, err);
+    let decision = decide_text(alloc, &text, asked.progress, err);
     decision_page(alloc, &text, &decision, asked.out, asked.json, files)
 }
 

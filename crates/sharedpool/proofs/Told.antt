@@ -6,7 +6,7 @@ use Rattle.std.proofs.lemmas.Bool.{cases_lt}
 use Rattle.std.proofs.lemmas.Option.{slice_get_within}
 use Rattle.crossbeam_utils.specs.Seq.{cell_view}
 use Rattle.atomic_table.specs.Seated.{TableId}
-use Rattle.batches.specs.declared.BatchLine.{BatchLine}
+use Rattle.refutations.specs.declared.batch.BatchLine.{BatchLine}
 use Rattle.clauses.specs.Clauses.{Conjunction}
 use Rattle.pages.proofs.Joined.{slice_get-front, slice_get-back}
 use Rattle.refutations.specs.Proofs.{ProofLine}

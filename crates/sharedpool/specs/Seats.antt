@@ -5,7 +5,7 @@ use Rattle.atomic_table.specs.Seated.{TableId}
 use Rattle.atomic_table.specs.declared.shared.Seat.{Seat}
 use Rattle.crossbeam_utils.specs.declared.atomic.seq_cell.Doing.{Doing}
 use Rattle.crossbeam_utils.specs.Seq.{cell_view}
-use Rattle.batches.specs.declared.BatchLine.{BatchLine}
+use Rattle.refutations.specs.declared.batch.BatchLine.{BatchLine}
 use Rattle.clauses.specs.Clauses.{Conjunction}
 use Rattle.refutations.specs.Proofs.{ProofLine}
 use Rattle.refutations.specs.Refutations.{AreDerived}

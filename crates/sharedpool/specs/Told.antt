@@ -1,6 +1,6 @@
 -- What a seat knows of the log.
 use Rattle.std.specs.Prelude.{◌≡◌, ◌⊎◌, ℕ, ◌≤◌, ◌++◌, List, length, take, IsTrue, Some, slice_get, Result, Ok}
-use Rattle.batches.specs.declared.BatchLine.{BatchLine}
+use Rattle.refutations.specs.declared.batch.BatchLine.{BatchLine}
 use Rattle.clauses.specs.Clauses.{Conjunction}
 use Rattle.refutations.specs.Proofs.{ProofLine}
 use Rattle.pool.specs.declared.entry.FetchFault.{FetchFault}

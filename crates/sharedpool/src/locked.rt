@@ -13,7 +13,7 @@ ghost use Rattle.sharedpool.specs.Told.{IsTold, IsDerivedFrom};
 use crate::note::{match_lists, note};
 use crate::room::{Cell, PoolName, StepsName, Token};
 use crate::seat::Ticket;
-use batches::Batch;
+use refutations::Batch;
 use clauses::Lit;
 use pages::{Lines, Log};
 use pool::{

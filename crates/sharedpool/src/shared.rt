@@ -14,7 +14,7 @@ use crate::locked::Locked;
 use crate::passes::take_seat;
 use crate::room::{Cell, PoolName, Token};
 use crate::seat::{Seat, derived_from, follow};
-use batches::Batch;
+use refutations::Batch;
 use clauses::{Formula, Lit};
 use encode::Encoded;
 use pages::Lines;

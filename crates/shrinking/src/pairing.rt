@@ -4,7 +4,7 @@
 use crate::lines::{count_calls, is_call, lines_of};
 use balance::{Imbalance, imbalances};
 use callorder::{Kind, Program};
-use misses::{Mismatch, misses_in};
+use waits::{Mismatch, misses_in};
 use plaintext::words_of;
 use std::alloc::{AllocError, Global};
 

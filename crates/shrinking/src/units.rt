@@ -58,7 +58,7 @@ fn join_parts(alloc: Global, groups: &mut Groups, text: &[u8]) -> Result<(), All
 
 /// For each call the number of its unit, and how many units there are. The call that leads a group
 /// comes first, so it has its number once others ask for it.
-fn numbered(
+fn number_units(
     alloc: Global,
     groups: &mut Groups,
     calls: usize,
@@ -119,7 +119,7 @@ pub fn units_of(
     join_mates(&mut groups, &mates);
     join_ends(&mut groups, calls);
     join_parts(alloc, &mut groups, text)?;
-    let (of_calls, count) = numbered(alloc, &mut groups, calls.len())?;
+    let (of_calls, count) = number_units(alloc, &mut groups, calls.len())?;
     let are_over = over_units(alloc, program, end, &of_calls, count)?;
     Ok(Units {
         of_calls,

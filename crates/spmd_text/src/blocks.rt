@@ -16,7 +16,7 @@ ghost use Rattle.spmd_text.specs.Statements.{IsInTurn, IsInside, IsOtherwise, Is
 use crate::codes::code;
 use crate::expressions::condition_at;
 use crate::fault::ParseReason;
-use crate::keeping::{Made, keep, refused};
+use crate::keeping::{Made, keep, refuse};
 use crate::lines::{Span, heading_line, parameter, policy_line, simple, span_at, variable};
 use crate::parser::Parser;
 use crate::piece::{Piece, Token, Word};
@@ -28,10 +28,10 @@ fn in_turn(parser: &mut Parser<'_>, a: Made, b: Made) -> Made
     ensures { Makes parser.old parser.new (IsInTurn (held a) (held b) (held result)) }
 {
     let Some(a) = a else {
-        return refused(parser, ParseReason::Memory);
+        return refuse(parser, ParseReason::Memory);
     };
     let Some(b) = b else {
-        return refused(parser, ParseReason::Memory);
+        return refuse(parser, ParseReason::Memory);
     };
     keep(parser, Statement::Sequence(a, b))
 }
@@ -88,10 +88,10 @@ fn when(
     ensures { Makes parser.old parser.new (IsWhen line chained condition (held yes) (held no) (held result)) }
 {
     let Some(yes) = yes else {
-        return refused(parser, ParseReason::Memory);
+        return refuse(parser, ParseReason::Memory);
     };
     let Some(no) = no else {
-        return refused(parser, ParseReason::Memory);
+        return refuse(parser, ParseReason::Memory);
     };
     let statement = Statement::When {
         line,
@@ -108,7 +108,7 @@ fn otherwise(parser: &mut Parser<'_>, statements: Made) -> Made
     ensures { Makes parser.old parser.new (IsOtherwise (held statements) (held result)) }
 {
     let Some(statements) = statements else {
-        return refused(parser, ParseReason::Memory);
+        return refuse(parser, ParseReason::Memory);
     };
     keep(parser, Statement::Otherwise(statements))
 }
@@ -118,7 +118,7 @@ fn repeat(parser: &mut Parser<'_>, line: u32, name: u32, span: Span, body: Made)
     ensures { Makes parser.old parser.new (IsRepeat line name span (held body) (held result)) }
 {
     let Some(body) = body else {
-        return refused(parser, ParseReason::Memory);
+        return refuse(parser, ParseReason::Memory);
     };
     let Span { first, last, step } = span;
     let statement = Statement::Repeat {
@@ -267,14 +267,14 @@ fn body_of(parser: &mut Parser<'_>, at: &mut u32, name: u32, depth: u32) -> Made
     ensures ended { parser.new.fault ≡ None → is_end (next parser.new) ≡ true }
 {
     match parser.loops.push(name) {
-        Err(_) => refused(parser, ParseReason::Memory),
+        Err(_) => refuse(parser, ParseReason::Memory),
         Ok(()) => inside(parser, at, depth),
     }
 }
 
 /// A loop after its word. At most so many blocks stand within one another, itself among them.
 #[cycle(statements)]
-fn looped(parser: &mut Parser<'_>, at: &mut u32, line: u32, depth: u32) -> Made
+fn for_loop(parser: &mut Parser<'_>, at: &mut u32, line: u32, depth: u32) -> Made
     ensures reads { Reads (begun_part (scope_of parser.old) depth line Word.For) parser.old parser.new (held result) }
     ensures stays { (why : ParseReason) → parser.old.fault ≡ Some why → at.new ≡ at.old }
     ensures line { (block : Block) (outer : List Level) → is_settled block ≡ true → at.old ≡ line →
@@ -284,7 +284,7 @@ fn looped(parser: &mut Parser<'_>, at: &mut u32, line: u32, depth: u32) -> Made
     let name = variable(parser);
     let span = span_at(parser);
     if depth == 0 {
-        return refused(parser, ParseReason::TooDeep);
+        return refuse(parser, ParseReason::TooDeep);
     }
     parser.end_line();
     let body = body_of(parser, at, name, depth - 1);
@@ -305,7 +305,7 @@ fn branch(parser: &mut Parser<'_>, at: &mut u32, line: u32, chained: bool, depth
 {
     let condition = condition_at(parser);
     if depth == 0 {
-        return refused(parser, ParseReason::TooDeep);
+        return refuse(parser, ParseReason::TooDeep);
     }
     parser.end_line();
     let yes = statements(parser, at, depth - 1);
@@ -352,7 +352,7 @@ fn tail(parser: &mut Parser<'_>, at: &mut u32, depth: u32) -> Made
 
 /// A statement after its first word.
 #[cycle(statements)]
-fn begun(parser: &mut Parser<'_>, at: &mut u32, word: Word, line: u32, depth: u32) -> Made
+fn rest_of_statement(parser: &mut Parser<'_>, at: &mut u32, word: Word, line: u32, depth: u32) -> Made
     ensures reads { is_first word ≡ true → Reads (begun_part (scope_of parser.old) depth line word) parser.old parser.new (held result) }
     ensures stays { (why : ParseReason) → parser.old.fault ≡ Some why → at.new ≡ at.old }
     ensures line { (block : Block) (outer : List Level) → is_settled block ≡ true →
@@ -361,7 +361,7 @@ fn begun(parser: &mut Parser<'_>, at: &mut u32, word: Word, line: u32, depth: u3
         at.new }
 {
     match word {
-        Word::For => looped(parser, at, line, depth),
+        Word::For => for_loop(parser, at, line, depth),
         Word::If => branch(parser, at, line, false, depth),
         _ => simple(parser, word, line),
     }
@@ -381,7 +381,7 @@ fn statement(parser: &mut Parser<'_>, at: &mut u32, word: Word, depth: u32) -> M
     begin_line(parser, at);
     let line = parser.line();
     parser.step();
-    begun(parser, at, word, line, depth)
+    rest_of_statement(parser, at, word, line, depth)
 }
 
 /// Statements, up to what ends them. At most so many blocks stand within one another.

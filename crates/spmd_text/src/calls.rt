@@ -12,7 +12,7 @@ ghost use Rattle.spmd_text.specs.Statements.{IsMore, Makes, begun_part, held, is
 
 use crate::expressions::expression_at;
 use crate::fault::ParseReason;
-use crate::keeping::{Made, boxed, keep, refused};
+use crate::keeping::{Made, boxed, keep, refuse};
 use crate::labels::is_label;
 use crate::parser::Parser;
 use crate::piece::{Piece, Word};
@@ -368,7 +368,7 @@ pub(crate) fn call(parser: &mut Parser<'_>, word: Word, line: u32) -> Made
         Reads (begun_part (scope_of parser.old) depth line word) parser.old parser.new (held result) }
 {
     let Some(form) = form_of(word) else {
-        return refused(parser, ParseReason::NoStatement);
+        return refuse(parser, ParseReason::NoStatement);
     };
     let arguments = arguments(parser, form);
     parser.end_line();

@@ -96,7 +96,7 @@ fn row_of(beginning: Beginning) -> Row
 }
 
 /// Something is wrong: what is given in place of an expression is never used.
-fn failed(parser: &mut Parser<'_>, reason: ParseReason) -> Expression
+fn fail(parser: &mut Parser<'_>, reason: ParseReason) -> Expression
     ensures { parser.new ≡ record parser.old { fault = noted parser.old.fault reason } }
 {
     parser.fail(reason);
@@ -104,7 +104,7 @@ fn failed(parser: &mut Parser<'_>, reason: ParseReason) -> Expression
 }
 
 /// What was put together, where memory lasted.
-fn kept(parser: &mut Parser<'_>, made: Result<Expression, AllocError>) -> Expression
+fn keep_made(parser: &mut Parser<'_>, made: Result<Expression, AllocError>) -> Expression
     ensures goes { Goes parser.old parser.new }
     ensures kept { (e : Expression) (rest : List Token) → Stands parser.old rest →
         IfOk made (λ x. Alike x e) → Finds parser.new rest (Alike result e) }
@@ -112,7 +112,7 @@ fn kept(parser: &mut Parser<'_>, made: Result<Expression, AllocError>) -> Expres
 {
     match made {
         Ok(expression) => expression,
-        Err(AllocError) => failed(parser, ParseReason::Memory),
+        Err(AllocError) => fail(parser, ParseReason::Memory),
     }
 }
 
@@ -147,7 +147,7 @@ fn want(parser: &mut Parser<'_>, part: &Expression, condition: bool)
 }
 
 /// Two parts with a joint between them, of which the left one goes with it.
-fn joined(parser: &mut Parser<'_>, joint: Joint, left: Expression, right: Expression) -> Expression
+fn put_joint(parser: &mut Parser<'_>, joint: Joint, left: Expression, right: Expression) -> Expression
     ensures goes { Goes parser.old parser.new }
     ensures joined { (a b : Expression) (p q : Place) (rest : List Token) → Stands parser.old rest →
         Alike left a → Alike right b → may_join joint a b ≡ true →
@@ -156,7 +156,7 @@ fn joined(parser: &mut Parser<'_>, joint: Joint, left: Expression, right: Expres
 {
     want(parser, &right, joins_conditions(joint));
     let alloc = parser.alloc;
-    kept(parser, pair(alloc, joint, left, right))
+    keep_made(parser, pair(alloc, joint, left, right))
 }
 
 /// Why parentheses don't end behind the part in them.
@@ -186,7 +186,7 @@ fn end_prefix(parser: &mut Parser<'_>, prefix: Prefix, inner: &Expression)
 }
 
 /// A part with what stands before it, or around it.
-fn prefixed(parser: &mut Parser<'_>, prefix: Prefix, inner: Expression) -> Expression
+fn put_prefix(parser: &mut Parser<'_>, prefix: Prefix, inner: Expression) -> Expression
     ensures goes { Goes parser.old parser.new }
     ensures prefixed { (a : Expression) (p : Place) (here rest : List Token) → Stands parser.old here →
         Alike inner a → ends_prefix prefix a here rest →
@@ -195,7 +195,7 @@ fn prefixed(parser: &mut Parser<'_>, prefix: Prefix, inner: Expression) -> Expre
 {
     end_prefix(parser, prefix, &inner);
     let alloc = parser.alloc;
-    kept(parser, enclosed(alloc, prefix, inner))
+    keep_made(parser, enclosed(alloc, prefix, inner))
 }
 
 /// A choice whose parts were read.
@@ -214,7 +214,7 @@ fn chosen(
     want(parser, &yes, false);
     want(parser, &no, false);
     let alloc = parser.alloc;
-    kept(parser, choice(alloc, condition, yes, no))
+    keep_made(parser, choice(alloc, condition, yes, no))
 }
 
 /// A factor of one piece.
@@ -225,10 +225,10 @@ fn leaf(parser: &mut Parser<'_>) -> Expression
     ensures sound { (least depth : ℕ) → parser.new.fault ≡ None → WasBegun parser.old parser.new beginning.Leaf least depth result }
 {
     if parser.in_parameter && parser.is(Piece::Word(Word::Rank)) {
-        return failed(parser, ParseReason::RankInParameter);
+        return fail(parser, ParseReason::RankInParameter);
     }
     match leaf_of(parser.piece()) {
-        None => failed(parser, ParseReason::NoExpression),
+        None => fail(parser, ParseReason::NoExpression),
         Some(leaf) => {
             parser.step();
             leaf
@@ -248,11 +248,11 @@ fn behind_prefix(parser: &mut Parser<'_>, prefix: Prefix, least: u32, depth: u32
         WasBegun parser.old parser.new (beginning.Prefix prefix) least depth result }
 {
     if depth == 0 {
-        return failed(parser, ParseReason::TooDeep);
+        return fail(parser, ParseReason::TooDeep);
     }
     parser.step();
     let inner = expression(parser, inside(prefix, least), depth - 1);
-    prefixed(parser, prefix, inner)
+    put_prefix(parser, prefix, inner)
 }
 
 /// A choice.
@@ -267,7 +267,7 @@ fn choice_at(parser: &mut Parser<'_>, depth: u32) -> Expression
         WasBegun parser.old parser.new beginning.Choice least depth result }
 {
     if depth == 0 {
-        return failed(parser, ParseReason::TooDeep);
+        return fail(parser, ParseReason::TooDeep);
     }
     parser.step();
     let condition = expression(parser, ANY, depth - 1);
@@ -326,7 +326,7 @@ fn joins(
         want(parser, &left, joins_conditions(joint));
         parser.step();
         let right = expression(parser, binding_of(joint) + 1, depth);
-        left = joined(parser, joint, left, right);
+        left = put_joint(parser, joint, left, right);
     }
     left
 }

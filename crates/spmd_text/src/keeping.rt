@@ -21,7 +21,7 @@ pub(crate) fn boxed<T: Drop>(alloc: Global, value: T) -> Result<Box<T>, AllocErr
 }
 
 /// What has no meaning here.
-pub(crate) fn refused(parser: &mut Parser<'_>, reason: ParseReason) -> Made
+pub(crate) fn refuse(parser: &mut Parser<'_>, reason: ParseReason) -> Made
     ensures { parser.new ≡ record parser.old { fault = noted parser.old.fault reason } }
 {
     parser.fail(reason);
@@ -33,7 +33,7 @@ pub(crate) fn keep(parser: &mut Parser<'_>, statement: Statement) -> Made
     ensures { Makes parser.old parser.new (held result ≡ statement) }
 {
     match boxed(parser.alloc, statement) {
-        Err(AllocError) => refused(parser, ParseReason::Memory),
+        Err(AllocError) => refuse(parser, ParseReason::Memory),
         Ok(made) => Some(made),
     }
 }

@@ -9,7 +9,7 @@ ghost use Rattle.spmd_text.specs.Statements.{IsStep, begun_part, gap_part, held,
 use crate::calls::{call, wait_all};
 use crate::expressions::expression_at;
 use crate::fault::ParseReason;
-use crate::keeping::{Made, keep, refused};
+use crate::keeping::{Made, keep, refuse};
 use crate::parser::Parser;
 use crate::piece::{Piece, Word};
 use crate::reading::Policy;
@@ -74,8 +74,8 @@ pub(crate) fn simple(parser: &mut Parser<'_>, word: Word, line: u32) -> Made
         Word::Let => assign(parser, line),
         Word::Error => unreached(parser, line),
         Word::Waitall => wait_all(parser, line),
-        Word::Param => refused(parser, ParseReason::LateParameter),
-        Word::Policy => refused(parser, ParseReason::LatePolicy),
+        Word::Param => refuse(parser, ParseReason::LateParameter),
+        Word::Policy => refuse(parser, ParseReason::LatePolicy),
         _ => call(parser, word, line),
     }
 }

@@ -1,9 +1,8 @@
 //! What the words of a script stand for. Where they stand for nothing, the reply says so.
 use crate::given::{Given, MEMORY, add};
-use batches::{Batch, BatchLine, Hint};
+use refutations::{Batch, BatchLine, Hint, Line, MakeLineFault, Node, ProofTree};
 use clauses::{Assignment, Clause, ClauseFault, Formula, Lit};
 use pool::{Event, Why};
-use refutations::{Line, MakeLineFault, Node, ProofTree};
 use semantics::Step;
 
 /// What is written as a word, or as a part of a text.

@@ -5,3 +5,5 @@ pub mod NeededCalls
 pub mod NeededRanks
 pub mod OutstandingNeeds
 pub mod WaitingGraphs
+pub mod MissedParts
+pub mod NearMisses

@@ -1,6 +1,7 @@
 //! What holds where a program is stuck, apart from any code.
 
 ghost use Rattle.waits.specs.Laws.{StuckRanksWaitInOneCall, NoRankIsReadyWhereStuck, FitCallsAreNotBothOpen, NeededCallsAreNotOpen, WaitingRanksNeed};
+ghost use Rattle.waits.specs.MissLaws.{MissedPartsAreTheOnlyOnes, FitCallsMissNoPart};
 
 /// In a stuck state each rank that is not finished waits in exactly one call.
 pub fn stuck_ranks_wait_in_one_call()
@@ -27,4 +28,16 @@ pub fn needed_calls_are_not_open()
 /// or the receive on the handle of a matched probe.
 pub fn waiting_ranks_need()
     ensures { WaitingRanksNeed }
+{}
+
+/// The part that is told of a send and a receive, a matched probe or a probe is one that fails, and
+/// all others hold; and where exactly one fails, it is told.
+pub fn missed_parts_are_the_only_ones()
+    ensures { MissedPartsAreTheOnlyOnes }
+{}
+
+/// A send fits a receive, a matched probe or a probe exactly where no part fails, and then none is
+/// told as missed.
+pub fn fit_calls_miss_no_part()
+    ensures { FitCallsMissNoPart }
 {}

@@ -9,7 +9,7 @@ use crate::numbers::number_of;
 use crate::source::Cubes;
 use crate::stop::Stop;
 use crate::worker::Worker;
-use batches::{Batch, Hint};
+use refutations::{Batch, Hint};
 use cdcl::Found;
 use clauses::Lit;
 use pool::{Share, SplitFault, Why};

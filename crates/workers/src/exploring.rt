@@ -6,7 +6,7 @@ use crate::kept::KeptLines;
 use crate::numbers::{line_place, number_of};
 use crate::stop::Stop;
 use crate::worker::Worker;
-use batches::Batch;
+use refutations::Batch;
 use cdcl::Found;
 use clauses::Clause;
 use matchset_search::{SHORT, StateSearch};

@@ -4,7 +4,7 @@ ghost use Rattle.std.specs.Prelude.{◌≡◌};
 ghost use Rattle.pool.specs.Batches.{capped_hint};
 ghost use Rattle.workers.specs.Numbers.{capped_place, place_of};
 
-use batches::Hint;
+use refutations::Hint;
 
 /// The number of what a hint names, where the batch's first line has this one. A number that
 /// doesn't fit counts as the largest that does, which no clause has.

@@ -6,7 +6,7 @@ use crate::imports::longest;
 use crate::numbers::{line_number, line_place};
 use crate::probing::probing_order;
 use crate::stop::Stop;
-use batches::Batch;
+use refutations::Batch;
 use cdcl::{Found, Solver};
 use clauses::{Assignment, Clause, Lit};
 use cubes::branching_variables;

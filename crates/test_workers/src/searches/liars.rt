@@ -6,7 +6,7 @@ ghost use Rattle.crossbeam_utils.specs.Seq.{cell_view};
 ghost use Rattle.sharedpool.specs.Views.{knower};
 
 use crate::searches::{ENOUGH, MANNERS, RELAY, encoded, shown_by, tree_of};
-use batches::{Batch, BatchLine, Hint};
+use refutations::{Batch, BatchLine, Hint};
 use clauses::{Clause, Lit};
 use encode::Encoded;
 use pool::{CloseFault, Entry, FoundFault, Operation, Pool, PublishFault, Share};

@@ -1,6 +1,6 @@
 use Rattle.std.proofs.Common.{◌≡◌, ◌++◌, ◌∷◌, [], map, take, get_or, List, Option, IfNone, IfSome, ap, sym, subst, ◌∙◌, arith}
 use Rattle.std.proofs.lemmas.Grind.{common_steps}
-use Rattle.batches.specs.declared.BatchLine.{BatchLine}
+use Rattle.refutations.specs.declared.batch.BatchLine.{BatchLine}
 use Rattle.refutations.specs.Derivations.{Derives}
 use Rattle.refutations.specs.Proofs.{ProofLine}
 use Rattle.pool.specs.Replies.{resolved}

@@ -14,4 +14,4 @@ returns g c =
     subst AreDealt
     (sym (written_back deques_of dealt.len c.fill.new.supplies dealt.items (sym dealt.ok.0) (c.fill.ensures ∙ ap (map deques_of) c.as_mut_slice.ensures.value)) ∙ (ap (map deques_of) (sym supplies) ∙ map-map deques_of (λ s. s.supply) stations.items))
     (dealt_deques dealt.items c.in_ok-supplies.ensures.supplies))
-    c.paired.ensures
+    c.pair.ensures

@@ -3,7 +3,7 @@ use Rattle.session.proofs.Ended.{ended}
 use Rattle.session.proofs.run.decide_each.Goals as goal
 
 pub returns-then-asked : goal.returns-then-asked
-returns-then-asked g c = λ words terminal. inl (c.if-asked.true, refl, (c.misused.ensures.status, refl, c.misused.ensures.told))
+returns-then-asked g c = λ words terminal. inl (c.if-asked.true, refl, (c.complain_of_words.ensures.status, refl, c.complain_of_words.ensures.told))
 
 pub returns : goal.returns
 returns g c = λ words terminal. inr (

@@ -1,6 +1,6 @@
 use Rattle.std.proofs.Common.{List, IsTrue, subst}
 use Rattle.std.specs.Prelude.{IfSome}
-use Rattle.batches.specs.declared.BatchLine.{BatchLine}
+use Rattle.refutations.specs.declared.batch.BatchLine.{BatchLine}
 use Rattle.pool.specs.Moves.{are_earlier, number_after}
 use Rattle.pool.specs.Replies.{resolved_lines, DeriveAfter}
 use Rattle.sharedpool.specs.Told.{IsDerivedFrom}

@@ -32,7 +32,7 @@ after_else-returns-clause-reads t c line =
 
 pub branch-returns-then-depth-eq0-clause-reads : goal.branch-returns-then-depth-eq0-clause-reads
 branch-returns-then-depth-eq0-clause-reads t c =
-    refused_behind _ c.condition_at-condition.ensures.goes c.refused.ensures (λ x may. when_none c.args.parser.now c.args.depth c.args.line c.args.chained x c.if-depth-eq0.true may)
+    refused_behind _ c.condition_at-condition.ensures.goes c.refuse.ensures (λ x may. when_none c.args.parser.now c.args.depth c.args.line c.args.chained x c.if-depth-eq0.true may)
 
 pub branch-returns-clause-reads : goal.branch-returns-clause-reads
 branch-returns-clause-reads t c =
@@ -59,11 +59,11 @@ looped-returns-clause-reads t c =
 
 pub looped-returns-then-depth-eq0-clause-reads : goal.looped-returns-then-depth-eq0-clause-reads
 looped-returns-then-depth-eq0-clause-reads t c =
-    refused_behind _ (keeps_on c.variable-name.ensures.goes c.span_at-span.ensures.goes) c.refused.ensures (λ x may. repeat_none c.args.parser.now c.args.depth x c.if-depth-eq0.true may)
+    refused_behind _ (keeps_on c.variable-name.ensures.goes c.span_at-span.ensures.goes) c.refuse.ensures (λ x may. repeat_none c.args.parser.now c.args.depth x c.if-depth-eq0.true may)
 
 pub begun-returns-in-For-clause-reads : goal.begun-returns-in-For-clause-reads
 begun-returns-in-For-clause-reads t c first =
-    subst (λ (w : Word). Reads (begun_part (scope_of c.args.parser.now) c.args.depth c.args.line w) c.args.parser.now c.looped.new.parser (held c.looped.result)) (sym c.in-For.is) c.looped.ensures.reads
+    subst (λ (w : Word). Reads (begun_part (scope_of c.args.parser.now) c.args.depth c.args.line w) c.args.parser.now c.for_loop.new.parser (held c.looped.result)) (sym c.in-For.is) c.for_loop.ensures.reads
 
 pub begun-returns-in-If-clause-reads : goal.begun-returns-in-If-clause-reads
 begun-returns-in-If-clause-reads t c first =
@@ -81,11 +81,11 @@ statement-returns-clause-reads t c first is =
     ap (λ (n : ℕ). put_back n c.args.word (Some c.step.new.self.rest.now)) c.line-line.ensures
     ∙ (ap (λ (z : List Token). put_back (line_at old.rest.now) c.args.word (Some z)) c.step.ensures.left
     ∙ put_back_is c.args.word old.rest.now (next_begins c.args.word old.fault old.rest.now sound is)))
-    (on_scope (λ scope. begun_part scope c.args.depth c.line-line.result c.args.word) goes (c.begun.ensures.reads first))
+    (on_scope (λ scope. begun_part scope c.args.depth c.line-line.result c.args.word) goes (c.rest_of_statement.ensures.reads first))
 
 pub statement-returns-clause-shorter : goal.statement-returns-clause-shorter
 statement-returns-clause-shorter t c first is =
-    let r = c.begun.ensures.reads first in
+    let r = c.rest_of_statement.ensures.reads first in
     omega (arith, r.goes.shorter, ap length c.step.ensures.left, next_shorter c.args.word c.args.parser.now.fault c.args.parser.now.rest.now is)
 
 pub inside-returns-clause-reads : goal.inside-returns-clause-reads
@@ -100,7 +100,7 @@ pub body_of-returns-in-Ok-clause-reads : goal.body_of-returns-in-Ok-clause-reads
 body_of-returns-in-Ok-clause-reads t c = body_read {pushed = record c.args.parser.now { loops = c.push.new.self }} c.args.name c.args.depth refl c.in-Ok.ensures.items c.inside.ensures.reads
 
 pub body_of-returns-in-Err-clause-reads : goal.body_of-returns-in-Err-clause-reads
-body_of-returns-in-Err-clause-reads t c = no_memory {pushed = record c.args.parser.now { loops = c.push.new.self }} refl c.in-Err.ensures.items c.refused.ensures
+body_of-returns-in-Err-clause-reads t c = no_memory {pushed = record c.args.parser.now { loops = c.push.new.self }} refl c.in-Err.ensures.items c.refuse.ensures
 
 pub tail-returns-then-take-clause-reads : goal.tail-returns-then-take-clause-reads
 tail-returns-then-take-clause-reads t c =
@@ -199,10 +199,10 @@ branch-returns-then-depth-eq0-clause-stays t c why e = refl
 
 pub branch-returns-then-depth-eq0-clause-line : goal.branch-returns-then-depth-eq0-clause-line
 branch-returns-then-depth-eq0-clause-line t c block outer is told =
-    head_deep_tells c.args.parser.now c.refused.new.parser c.args.chained block outer c.args.depth c.args.line c.args.at.now c.if-depth-eq0.true told
+    head_deep_tells c.args.parser.now c.refuse.new.parser c.args.chained block outer c.args.depth c.args.line c.args.at.now c.if-depth-eq0.true told
 
 pub branch-returns-then-depth-eq0-clause-ends : goal.branch-returns-then-depth-eq0-clause-ends
-branch-returns-then-depth-eq0-clause-ends t c chained sound = absurd (never_failed c.condition_at-condition.new.parser c.refused.new.parser _ c.refused.ensures sound)
+branch-returns-then-depth-eq0-clause-ends t c chained sound = absurd (never_failed c.condition_at-condition.new.parser c.refuse.new.parser _ c.refuse.ensures sound)
 
 pub branch-returns-clause-stays : goal.branch-returns-clause-stays
 branch-returns-clause-stays t c why e =
@@ -237,7 +237,7 @@ looped-returns-then-depth-eq0-clause-stays t c why e = refl
 
 pub looped-returns-then-depth-eq0-clause-line : goal.looped-returns-then-depth-eq0-clause-line
 looped-returns-then-depth-eq0-clause-line t c block outer is told =
-    loop_deep_tells c.args.parser.now c.refused.new.parser block outer c.args.depth c.args.line c.args.at.now c.if-depth-eq0.true told
+    loop_deep_tells c.args.parser.now c.refuse.new.parser block outer c.args.depth c.args.line c.args.at.now c.if-depth-eq0.true told
 
 pub looped-returns-clause-stays : goal.looped-returns-clause-stays
 looped-returns-clause-stays t c why e =
@@ -255,7 +255,7 @@ looped-returns-clause-line t c block outer is told =
     (record { sticks = c.end_block.ensures.reads.goes.sticks; stays = c.end_block.ensures.stays; tells = c.end_block.ensures.line })) c.repeat.ensures
 
 pub begun-returns-in-For-clause-stays : goal.begun-returns-in-For-clause-stays
-begun-returns-in-For-clause-stays t c = c.looped.ensures.stays
+begun-returns-in-For-clause-stays t c = c.for_loop.ensures.stays
 
 pub begun-returns-in-If-clause-stays : goal.begun-returns-in-If-clause-stays
 begun-returns-in-If-clause-stays t c = c.branch-parser.ensures.stays
@@ -265,8 +265,8 @@ begun-returns-in_default-clause-stays t c why e = refl
 
 pub begun-returns-in-For-clause-line : goal.begun-returns-in-For-clause-line
 begun-returns-in-For-clause-line t c block outer is w told =
-    subst (λ (v : Word). Tells (level_at block c.args.parser.now c.args.depth ∷ outer) c.args.parser.now c.looped.new.parser (from_word c.args.line v c.args.parser.now) c.looped.new.at) (sym c.in-For.is)
-    (c.looped.ensures.line block outer is told)
+    subst (λ (v : Word). Tells (level_at block c.args.parser.now c.args.depth ∷ outer) c.args.parser.now c.for_loop.new.parser (from_word c.args.line v c.args.parser.now) c.for_loop.new.at) (sym c.in-For.is)
+    (c.for_loop.ensures.line block outer is told)
 
 pub begun-returns-in-If-clause-line : goal.begun-returns-in-If-clause-line
 begun-returns-in-If-clause-line t c block outer is w told =
@@ -279,17 +279,17 @@ begun-returns-in_default-clause-line t c block outer is w told =
     simple_tells block outer c.args.depth c.args.line c.args.at.now c.args.word is w plain (c.simple.ensures c.args.depth plain) told
 
 pub statement-returns-clause-stays : goal.statement-returns-clause-stays
-statement-returns-clause-stays t c why e = c.begun.ensures.stays why (c.step.ensures.fault ∙ e) ∙ c.begin_line.ensures.stays why e
+statement-returns-clause-stays t c why e = c.rest_of_statement.ensures.stays why (c.step.ensures.fault ∙ e) ∙ c.begin_line.ensures.stays why e
 
 pub statement-returns-clause-line : goal.statement-returns-clause-line
 statement-returns-clause-line t c block outer settled w is =
     let old : Parser = c.args.parser.now in
-    tells_begun c.begun.new.parser c.args.word block outer c.args.depth (keeps_of c.step.ensures.goes) (λ sound. c.step.ensures.fault ∙ sound)
+    tells_begun c.rest_of_statement.new.parser c.args.word block outer c.args.depth (keeps_of c.step.ensures.goes) (λ sound. c.step.ensures.fault ∙ sound)
     (λ sound.
     ap (λ (n : ℕ). put_back n c.args.word (Some c.step.new.self.rest.now)) c.line-line.ensures
     ∙ (ap (λ (z : List Token). put_back (line_at old.rest.now) c.args.word (Some z)) c.step.ensures.left
     ∙ put_back_is c.args.word old.rest.now (next_begins c.args.word old.fault old.rest.now sound is)))
-    (λ sound. c.begun.ensures.line block outer settled w (c.begin_line.ensures.sound sound ∙ sym c.line-line.ensures))
+    (λ sound. c.rest_of_statement.ensures.line block outer settled w (c.begin_line.ensures.sound sound ∙ sym c.line-line.ensures))
 
 pub inside-returns-clause-stays : goal.inside-returns-clause-stays
 inside-returns-clause-stays t c = c.statements-body.ensures.stays
@@ -321,10 +321,10 @@ body_of-returns-in-Err-clause-line t c block outer is =
     let old : Parser = c.args.parser.now in
     let pushed : Parser = record old { loops = c.push.new.self } in
     let level : Level = record { block = block; scope = within_loop c.args.name (scope_of old); depth = c.args.depth } in
-    tells_made old {mid = pushed} {Made = Unit {0}} (tells_none (level ∷ outer) old pushed old.rest.now c.args.at.now refl) (inr c.refused.ensures)
+    tells_made old {mid = pushed} {Made = Unit {0}} (tells_none (level ∷ outer) old pushed old.rest.now c.args.at.now refl) (inr c.refuse.ensures)
 
 pub body_of-returns-in-Err-clause-ended : goal.body_of-returns-in-Err-clause-ended
-body_of-returns-in-Err-clause-ended t c sound = absurd (never_failed (record c.args.parser.now { loops = c.push.new.self }) c.refused.new.parser _ c.refused.ensures sound)
+body_of-returns-in-Err-clause-ended t c sound = absurd (never_failed (record c.args.parser.now { loops = c.push.new.self }) c.refuse.new.parser _ c.refuse.ensures sound)
 
 pub tail-returns-then-take-clause-stays : goal.tail-returns-then-take-clause-stays
 tail-returns-then-take-clause-stays t c why e = c.branch-parser.ensures.stays why ((c.if-take.ensures.passed refl).0 ∙ e) ∙ c.begin_line.ensures.stays why e

@@ -10,7 +10,7 @@ use Rattle.spmd_text.proofs.calls.call.Goals as goal
 pub returns-in_default : goal.returns-in_default
 returns-in_default c depth calls =
     let none = sym c.form_of.ensures.form ∙ c.in_default.is in
-    refused_read _ c.refused.ensures (λ x rest sound e may ends. no_form c.args.parser.now depth c.args.line c.args.word x calls none may)
+    refused_read _ c.refuse.ensures (λ x rest sound e may ends. no_form c.args.parser.now depth c.args.line c.args.word x calls none may)
 
 pub returns : goal.returns
 returns c depth calls =

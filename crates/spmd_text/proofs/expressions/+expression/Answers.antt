@@ -24,12 +24,12 @@ behind_prefix-returns-clause-complete t c = λ a p rest ahead may.
     let old : Parser = c.args.parser.now in
     let i = inner c.args.prefix c.args.least c.args.depth old.in_parameter p a old.rest.now rest ahead.spelled ahead.within may in
     let stands = stepped old c.step.new.self i.begin i.first c.step.ensures.left c.step.ensures.fault ahead.sound i.begins in
-    found_then c.expression-inner.new.parser c.prefixed.new.parser i.behind rest (Alike c.expression-inner.result a) (Alike c.prefixed.result (enclosed c.args.prefix p a))
+    found_then c.expression-inner.new.parser c.put_prefix.new.parser i.behind rest (Alike c.expression-inner.result a) (Alike c.prefixed.result (enclosed c.args.prefix p a))
     (c.expression-inner.ensures.complete a i.behind
     (ahead_at old c.step.new.self (c.args.depth - 1) a i.first i.behind c.step.ensures.goes stands i.spelled i.within)
     (subst (λ (k : ℕ). MayStand k a i.behind) (sym c.inside.ensures) i.stand))
-    c.prefixed.ensures.goes.sticks
-    (λ stands alike. c.prefixed.ensures.prefixed a p i.behind rest stands alike i.ends)
+    c.put_prefix.ensures.goes.sticks
+    (λ stands alike. c.put_prefix.ensures.prefixed a p i.behind rest stands alike i.ends)
 
 pub choice_at-returns-clause-complete : goal.choice_at-returns-clause-complete
 choice_at-returns-clause-complete t c = λ d a b p q s rest ahead stop.
@@ -194,8 +194,8 @@ expression-returns-clause-sound t c = λ sound most.
 
 pub behind_prefix-returns-clause-sound : goal.behind_prefix-returns-clause-sound
 behind_prefix-returns-clause-sound t c = λ sound begins.
-    prefix_begun c.args.parser.now c.step.new.self c.expression-inner.new.parser c.prefixed.new.parser c.args.prefix c.args.least c.args.depth c.inside.result c.expression-inner.result c.prefixed.result
-    sound begins (omega (arith, c.if-depth-eq0.false)) c.step.ensures.left c.step.ensures.goes c.inside.ensures c.expression-inner.ensures.sound c.prefixed.ensures.sound c.prefixed.ensures.goes
+    prefix_begun c.args.parser.now c.step.new.self c.expression-inner.new.parser c.put_prefix.new.parser c.args.prefix c.args.least c.args.depth c.inside.result c.expression-inner.result c.prefixed.result
+    sound begins (omega (arith, c.if-depth-eq0.false)) c.step.ensures.left c.step.ensures.goes c.inside.ensures c.expression-inner.ensures.sound c.put_prefix.ensures.sound c.put_prefix.ensures.goes
 
 pub choice_at-returns-clause-sound : goal.choice_at-returns-clause-sound
 choice_at-returns-clause-sound t c = λ least sound begins.

@@ -14,12 +14,12 @@ returns-clause-chosen c = λ d a b p q s rest stands cond yes no yes_number no_n
     let made =
     ok_more c.choice.result (λ (made : Expression). (p : Place) × (q : Place) × (s : Place) × (made ≡ form.Choice' p c.args.condition q c.args.yes s c.args.no)) (λ (made : Expression). Alike made (form.Choice' p d q a s b))
     (λ made h. alike_choice h.0 c.args.condition h.1 c.args.yes h.2 c.args.no made d a b p q s h.3 cond yes no) c.choice.ensures in
-    c.kept.ensures.kept (form.Choice' p d q a s b) rest here made
+    c.keep_made.ensures.kept (form.Choice' p d q a s b) rest here made
 
 pub returns-clause-sound : goal.returns-clause-sound
 returns-clause-sound c = λ sound.
-    let k = c.kept.ensures.sound sound in
-    let after = sound_before c.want-2.new.parser c.kept.new.parser c.kept.ensures.goes sound in
+    let k = c.keep_made.ensures.sound sound in
+    let after = sound_before c.want-2.new.parser c.keep_made.new.parser c.keep_made.ensures.goes sound in
     let second = c.want-2.ensures.sound after in
     let first = c.want.ensures.sound (sound_before c.want.new.parser c.want-2.new.parser c.want-2.ensures.goes after) in
     let made = ok_so c.choice.result c.kept.result (λ (made : Expression). (p : Place) × (q : Place) × (s : Place) × (made ≡ form.Choice' p c.args.condition q c.args.yes s c.args.no)) k.0 c.choice.ensures in

@@ -1,6 +1,6 @@
 use Rattle.std.proofs.Common.{List, subst}
 use Rattle.std.specs.Prelude.{IfSome}
-use Rattle.batches.specs.declared.BatchLine.{BatchLine}
+use Rattle.refutations.specs.declared.batch.BatchLine.{BatchLine}
 use Rattle.clauses.specs.Clauses.{Conjunction}
 use Rattle.refutations.specs.Proofs.{ProofLine}
 use Rattle.pool.specs.Moves.{number_after}

@@ -1,2 +1,0 @@
-pub mod MissedParts
-pub mod NearMisses

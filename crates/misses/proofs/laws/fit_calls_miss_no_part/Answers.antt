@@ -1,5 +1,0 @@
-use Rattle.misses.proofs.MissedParts as missed
-use Rattle.misses.proofs.laws.fit_calls_miss_no_part.Goals as goal
-
-pub returns : goal.returns
-returns c = missed.fit_calls_miss_no_part

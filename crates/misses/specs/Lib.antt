@@ -1,2 +1,0 @@
-pub mod Misses
-pub mod Laws

@@ -1,4 +1,0 @@
-use Rattle.prover.proofs.proving.told_trimmed.Goals as goal
-
-pub returns-in-Ok : goal.returns-in-Ok
-returns-in-Ok g c = λ p text within on is_text. c.told.ensures p text (c.shorten.ensures p on) is_text
