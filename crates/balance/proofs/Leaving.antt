@@ -17,7 +17,7 @@ use Rattle.balance.specs.declared.channels.Channel.{Channel}
 use Rattle.balance.specs.declared.channels.Address.{Address}
 use Rattle.balance.specs.declared.channels.Loose.{Loose}
 use Rattle.balance.specs.Balance.{channel_at, channel_of, channel_of_call, channel_sent, channel_taken, taken_by, takes_any_source, takes_any_source_as, takes_any_tag, takes_any_tag_as}
-use Rattle.balance.specs.Wildcards.{address_of, address_sent, address_taken, IsLoose, AreLoose, AreNumbers}
+use Rattle.balance.specs.parts.Wildcards.{address_of, address_sent, address_taken, IsLoose, AreLoose, AreNumbers}
 use Rattle.std.specs.Option.{option_map}
 use Rattle.balance.proofs.Closing.{no_message, taker_kind}
 use Rattle.balance.proofs.Lists.{item_there, front_or_end, set_here, set_elsewhere}

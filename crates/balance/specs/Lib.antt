@@ -1,4 +1,4 @@
 pub mod Balance
-pub mod Wildcards
 pub mod Sides
 pub mod Laws
+pub mod parts

@@ -3,7 +3,7 @@
 ghost use Rattle.std.specs.Prelude.{◌≡◌, ◌++◌, ◌∷◌, ℕ, List, [], map, IfOk, length, slice_get, Some, Option};
 ghost use Rattle.callorder.specs.Programs.{MpiProgram};
 ghost use Rattle.balance.specs.Balance.{channel_at, channel_of, channel_to, taken_by};
-ghost use Rattle.balance.specs.Wildcards.{address_of, AreLoose, AreNumbers, IsLoose};
+ghost use Rattle.balance.specs.parts.Wildcards.{address_of, AreLoose, AreNumbers, IsLoose};
 
 use callorder::{Call, LongProgram, Pattern};
 use interning::number;

@@ -7,7 +7,7 @@ use Rattle.callorder.specs.declared.links.Links.{Links}
 use Rattle.callorder.specs.declared.faults.NameFaults.{NameFaults}
 use Rattle.callorder.specs.Calls.{holds_of}
 use Rattle.callorder.specs.Names.{Uses, uses_of, starts, ends, previous, is_ended}
-use Rattle.callorder.specs.Tables.{AreLinks, name_faults}
+use Rattle.callorder.specs.parts.Tables.{AreLinks, name_faults}
 
 pub name_faults_told : (kind : NameKind) (parts : List UnlinkedCall) (names : List (Option (List ℕ))) (links : Links) (k : ℕ) (d : UnlinkedCall) (starts_here ends_here follows ended : Bool) (before : Option ℕ) (earlier : List (Option ℕ)) (later : List Bool) (result : NameFaults)
     → k < length parts → AreLinks (uses_of kind parts names) links

@@ -8,8 +8,8 @@ use Rattle.calltext.specs.declared.line.LineFault.{LineFault}
 use Rattle.calltext.specs.declared.line.LineFault.TheVariants as wrong
 use Rattle.calltext.specs.Grammar.{call_words, rank_words, rank_lines, CallFits}
 use Rattle.calltext.specs.RefusedWords.{refused_word}
-use Rattle.calltext.specs.Item.{IsWrong, IsUnended}
-use Rattle.calltext.specs.Body.{HasRanks, StopsAt, IsStopped}
+use Rattle.calltext.specs.parts.Item.{IsWrong, IsUnended}
+use Rattle.calltext.specs.parts.Body.{HasRanks, StopsAt, IsStopped}
 use Rattle.calltext.specs.declared.limits.Limits.{Limits}
 use Rattle.calltext.proofs.Blocks.{AllFit, rank_lines-call, rank_lines-rank}
 

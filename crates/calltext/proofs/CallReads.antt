@@ -6,8 +6,9 @@ use Rattle.calltext.specs.Names.{is_name}
 use Rattle.calltext.specs.declared.call.CallLine.{CallLine}
 use Rattle.calltext.specs.declared.verb.Verb.{Verb}
 use Rattle.calltext.specs.Grammar.{call_words, HasNames}
-use Rattle.calltext.specs.Capped.{capped_call}
-use Rattle.calltext.specs.Verbs.{is_started, verb_word, operands, request_words, IsReadAs}
+use Rattle.calltext.specs.parts.Capped.{capped_call}
+use Rattle.calltext.specs.parts.Verbs.{operands, request_words, IsReadAs}
+use Rattle.calltext.specs.Verbs.{is_started, verb_word}
 use Rattle.calltext.proofs.Verbs.{call_words_are, no_call}
 use Rattle.calltext.proofs.Once.{request_injective}
 

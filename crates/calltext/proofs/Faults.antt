@@ -15,8 +15,8 @@ use Rattle.calltext.specs.declared.line.LineFault.{LineFault}
 use Rattle.calltext.specs.declared.line.LineFault.TheVariants as wrong
 use Rattle.calltext.specs.Grammar.{ProgramText, call_words, ranks_words, policy_words, rank_words, rank_lines, program_lines, HasNames, AllHaveNames, IsInRange, CallFits, Fits, IsTextWithin, IsReadableWithin}
 use Rattle.calltext.specs.Fault.{HasShape, CanGoOn, IsOutOfProfile, HasFaultWithin}
-use Rattle.calltext.specs.Item.{IsWrong, IsRanksLine, AreRanksWithin, IsPolicyLine, IsFirstRankLine, IsWrongHeading, BeginsWrong}
-use Rattle.calltext.specs.Body.{HasRanks, StopsAt, IsStopped}
+use Rattle.calltext.specs.parts.Item.{IsWrong, IsRanksLine, AreRanksWithin, IsPolicyLine, IsFirstRankLine, IsWrongHeading, BeginsWrong}
+use Rattle.calltext.specs.parts.Body.{HasRanks, StopsAt, IsStopped}
 use Rattle.calltext.specs.AtLine.{at_line}
 use Rattle.calltext.specs.declared.limits.Limits.{Limits}
 use Rattle.calltext.proofs.Lines.{plain_ranks, ranks_injective}

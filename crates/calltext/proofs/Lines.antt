@@ -14,14 +14,15 @@ use Rattle.calltext.specs.declared.call.Policy.{Policy}
 use Rattle.calltext.specs.declared.call.Policy.TheVariants as policies
 use Rattle.calltext.specs.Grammar.{or_star, communicator_words, call_words, policy_words, ranks_words, rank_words, UpTo, IsCommunicator, HasNames, IsInRange, CallFits}
 use Rattle.calltext.specs.Names.{is_name, is_letter, is_letter_or_digit, are_letters_or_digits}
-use Rattle.calltext.specs.Verbs.{verb_of, operands, request_words, message_words, pattern_words, IsRequest}
+use Rattle.calltext.specs.parts.Verbs.{operands, request_words, message_words, pattern_words, IsRequest}
+use Rattle.calltext.specs.Verbs.{verb_of}
 use Rattle.calltext.specs.RefusedWords.{refused_word, refused_words}
-use Rattle.calltext.specs.Capped.{capped_option, capped_call}
+use Rattle.calltext.specs.parts.Capped.{capped_option, capped_call}
 use Rattle.calltext.specs.declared.line.LineFault.{LineFault}
 use Rattle.calltext.specs.declared.line.LineFault.TheVariants as wrong
 use Rattle.calltext.specs.Limits.{AreLimits}
 use Rattle.calltext.specs.declared.limits.Limits.{Limits}
-use Rattle.calltext.specs.Item.{IsRefused, IsUnended, BeginsWrong}
+use Rattle.calltext.specs.parts.Item.{IsRefused, IsUnended, BeginsWrong}
 use Rattle.calltext.proofs.Conjunctions.{and_true}
 use Rattle.calltext.proofs.RefusedLaws.{plain_refused}
 use Rattle.calltext.proofs.Verbs.{call_words_are, plain_verb}

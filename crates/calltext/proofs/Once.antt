@@ -16,7 +16,8 @@ use Rattle.calltext.specs.declared.verb.Verb.{Verb}
 use Rattle.calltext.specs.declared.verb.Verb.TheVariants as verb
 use Rattle.calltext.specs.Grammar.{ProgramText, or_star, communicator_words, call_words, policy_words, ranks_words, rank_words, rank_lines, program_lines, text_of, HasNames, AllHaveNames, CallFits, Fits}
 use Rattle.calltext.specs.declared.limits.Limits.{Limits}
-use Rattle.calltext.specs.Verbs.{is_started, verb_of, verb_word, operands, request_words, message_words, pattern_words}
+use Rattle.calltext.specs.parts.Verbs.{operands, request_words, message_words, pattern_words}
+use Rattle.calltext.specs.Verbs.{is_started, verb_of, verb_word}
 use Rattle.calltext.proofs.Verbs.{call_words_are, verb_word_injective}
 use Rattle.calltext.proofs.Lines.{plain_call, plain_rank, plain_ranks, plain_policy, some_words}
 

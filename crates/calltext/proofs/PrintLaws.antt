@@ -10,8 +10,9 @@ use Rattle.plaintext.proofs.Spaced.{spaced-append, spaced-join}
 use Rattle.calltext.specs.declared.call.CallLine.{CallLine}
 use Rattle.calltext.specs.Body.{views}
 use Rattle.calltext.specs.Grammar.{ProgramText, call_words, rank_words, ranks_words, policy_words, rank_lines, text_of}
-use Rattle.calltext.specs.Printed.{rank_text, ranks_text, heads}
-use Rattle.calltext.specs.Verbs.{verb_of, verb_word, name_words, number_words, operands}
+use Rattle.calltext.specs.parts.Printed.{rank_text, ranks_text, heads}
+use Rattle.calltext.specs.parts.Verbs.{name_words, number_words, operands}
+use Rattle.calltext.specs.Verbs.{verb_of, verb_word}
 use Rattle.calltext.proofs.Verbs.{call_words_are}
 use Rattle.calltext.proofs.Blocks.{call_lines}
 

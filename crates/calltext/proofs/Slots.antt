@@ -11,7 +11,8 @@ use Rattle.calltext.specs.declared.verb.Verb.TheVariants as verb
 use Rattle.calltext.specs.Grammar.{call_words, communicator_words, send_word, HasNames}
 use Rattle.calltext.specs.Names.{AreNames}
 use Rattle.calltext.specs.Slots.{AreFilled, slots_of, WordsFillSlots}
-use Rattle.calltext.specs.Verbs.{operands, verb_of, verb_word}
+use Rattle.calltext.specs.parts.Verbs.{operands}
+use Rattle.calltext.specs.Verbs.{verb_of, verb_word}
 use Rattle.calltext.proofs.Verbs.{call_words_are, verb_word_injective}
 
 filled : (c : CallLine) → HasNames c → AreFilled (slots_of (verb_of c)) (operands c)

@@ -14,7 +14,8 @@ use Rattle.calltext.specs.declared.call.Mode.TheVariants.{Standard, Synchronous,
 use Rattle.calltext.specs.declared.verb.Verb.{Verb}
 use Rattle.calltext.specs.declared.verb.Verb.TheVariants as verb
 use Rattle.calltext.specs.Grammar.{call_words, HasNames, rank_words}
-use Rattle.calltext.specs.Verbs.{verb_of, verb_word, verbs, request_words, operands, AreNoOperands}
+use Rattle.calltext.specs.parts.Verbs.{verbs, request_words, operands, AreNoOperands}
+use Rattle.calltext.specs.Verbs.{verb_of, verb_word}
 use Rattle.calltext.specs.Names.{AreNames}
 
 pub call_words_are : (c : CallLine) → call_words c ≡ verb_word (verb_of c) ∷ operands c

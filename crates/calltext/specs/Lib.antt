@@ -3,10 +3,8 @@ pub mod Names
 pub mod Limits
 pub mod Grammar
 pub mod Fault
-pub mod Capped
 pub mod Verbs
 pub mod Slots
-pub mod Item
 pub mod Body
 pub mod AtLine
-pub mod Printed
+pub mod parts

@@ -2,7 +2,8 @@
 
 ghost use Rattle.std.specs.Prelude.{◌≡◌, ◌≤◌, IfOk, IfErr, length};
 ghost use Rattle.calltext.specs.Limits.{AreLimits};
-ghost use Rattle.calltext.specs.Body.{HasRanks, IsStopped, views};
+ghost use Rattle.calltext.specs.parts.Body.{HasRanks, IsStopped};
+ghost use Rattle.calltext.specs.Body.{views};
 ghost use Rattle.calltext.specs.declared.body.Stopped.{Stopped};
 ghost use Rattle.calltext.specs.declared.line.LineFault.TheVariants.{Memory};
 

@@ -3,8 +3,9 @@
 ghost use Rattle.std.specs.Prelude.{◌≡◌, ◌≢◌, ◌∷◌, ◌++◌, ℕ, List, Option, IsTrue, IfNone, IfSome, IfOk, map};
 ghost use Rattle.calltext.specs.Names.{is_name};
 ghost use Rattle.calltext.specs.Grammar.{call_words, HasNames};
-ghost use Rattle.calltext.specs.Verbs.{is_started, request_words, IsRequest, IsReadAs};
-ghost use Rattle.calltext.specs.Capped.{capped_call};
+ghost use Rattle.calltext.specs.parts.Verbs.{request_words, IsRequest, IsReadAs};
+ghost use Rattle.calltext.specs.Verbs.{is_started};
+ghost use Rattle.calltext.specs.parts.Capped.{capped_call};
 
 use crate::call::{CallLine, Mode};
 use crate::name::{Name, name_of, names_of};

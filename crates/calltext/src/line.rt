@@ -3,7 +3,7 @@
 ghost use Rattle.std.specs.Prelude.{◌↔◌, ◌≡◌, ◌≤◌, ◌++◌, ◌∷◌, [], ◌<◌, ◌≢◌, ℕ, List, map, length, IsTrue, IfOk, IfErr, IfNone, IfSome};
 ghost use Rattle.calltext.specs.Grammar.{IsInRange, IsCommunicator, UpTo, rank_words};
 ghost use Rattle.calltext.specs.RefusedWords.{refused_word, refused_words};
-ghost use Rattle.calltext.specs.Item.{IsItem, IsWrong};
+ghost use Rattle.calltext.specs.parts.Item.{IsItem, IsWrong};
 ghost use Rattle.calltext.specs.Limits.{AreLimits};
 ghost use Rattle.calltext.specs.declared.line.LineFault.TheVariants.{Memory};
 

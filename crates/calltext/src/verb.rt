@@ -3,7 +3,8 @@
 ghost use Rattle.std.specs.Prelude.{◌≡◌, ◌≢◌, IfNone, IfSome};
 ghost use Rattle.calltext.specs.Grammar.{send_word};
 ghost use Rattle.calltext.specs.Slots.{slots_of};
-ghost use Rattle.calltext.specs.Verbs.{started_word, verb_of, verb_word, verbs};
+ghost use Rattle.calltext.specs.parts.Verbs.{verbs};
+ghost use Rattle.calltext.specs.Verbs.{started_word, verb_of, verb_word};
 
 use crate::call::{CallLine, Mode};
 use plaintext::is_word;

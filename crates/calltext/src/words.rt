@@ -4,8 +4,8 @@ ghost use Rattle.std.specs.Prelude.{◌≡◌, ◌≢◌, ◌↔◌, ◌≤◌, 
 ghost use Rattle.plaintext.specs.Plain.{numeral};
 ghost use Rattle.calltext.specs.declared.call.Policy.{Policy};
 ghost use Rattle.calltext.specs.Grammar.{policy_words, ranks_words, rank_words, or_star, communicator_words};
-ghost use Rattle.calltext.specs.Verbs.{message_words, pattern_words};
-ghost use Rattle.calltext.specs.Capped.{capped_option};
+ghost use Rattle.calltext.specs.parts.Verbs.{message_words, pattern_words};
+ghost use Rattle.calltext.specs.parts.Capped.{capped_option};
 
 use crate::call::Policy;
 use plaintext::{is_word, number_of};

@@ -1,7 +1,7 @@
 //! The search itself.
 
 ghost use Rattle.std.specs.Prelude.{◌≤◌};
-ghost use Rattle.cdcl.specs.Searches.{IfEnded, IsCounted, IsNotBudget, IsRight};
+ghost use Rattle.cdcl.specs.parts.Searches.{IfEnded, IsCounted, IsNotBudget, IsRight};
 
 use crate::analysis::{Learnt, analyse, analyse_cube, analyse_root};
 use crate::engine::Engine;

@@ -18,7 +18,7 @@ use Rattle.charts.specs.declared.placing.Placed.{Placed}
 use Rattle.charts.specs.declared.placing.Shared.{Shared}
 use Rattle.charts.specs.declared.placing.Row.{Row}
 use Rattle.charts.specs.Columns.{AreInOrder, AreWaitsOfOneLine, KeepsOrder, column_from, column_if, column_of, is_wait, line_if, wait_line}
-use Rattle.charts.specs.Placing.{ArePlaced, IsFind, IsIssuedBefore, IsKnown, IsKnownStep, IsPast, IsRaised, IsRow, column_in, empty_row, fresh_row, raised, row_at, row_behind, row_if, shared_by}
+use Rattle.charts.specs.parts.Placing.{ArePlaced, IsFind, IsIssuedBefore, IsKnown, IsKnownStep, IsPast, IsRaised, IsRow, column_in, empty_row, fresh_row, raised, row_at, row_behind, row_if, shared_by}
 
 -- ---- one more issue, or none
 

@@ -2,5 +2,5 @@ pub mod Lining
 pub mod Cuts
 pub mod Chart
 pub mod Columns
-pub mod Placing
 pub mod Picture
+pub mod parts

@@ -3,7 +3,7 @@
 ghost use Rattle.std.specs.Prelude.{◌≡◌, ◌+◌, ◌<◌, ◌≤◌, ◌++◌, ◌∷◌, [], ℕ, IfOk, OnOk, map, slice_index, slice_set};
 ghost use Rattle.scene.specs.declared.acts.Act.TheVariants.{Issue};
 ghost use Rattle.charts.specs.Columns.{AreColumns, column_of, is_wait, wait_line};
-ghost use Rattle.charts.specs.Placing.{ArePlacedIn, HasPlaced, IsFind, IsRaised, column_in, fresh_row, row_at, row_behind, shared_by};
+ghost use Rattle.charts.specs.parts.Placing.{ArePlacedIn, HasPlaced, IsFind, IsRaised, column_in, fresh_row, row_at, row_behind, shared_by};
 
 use callorder::{Kind, LongProgram};
 use scene::{Act, CallLabel};

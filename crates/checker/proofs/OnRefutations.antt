@@ -15,7 +15,7 @@ use Rattle.refutations.specs.Derivations.{clauses_before}
 use Rattle.refutations.specs.Proofs.{ProofLine}
 use Rattle.refutations.specs.Refutations.{AreDerived, IsFirstFaulty}
 use Rattle.refutations.specs.Trees.{AcceptsTree, HasTreeFault}
-use Rattle.refutations.specs.TreeFaults.{walk}
+use Rattle.refutations.specs.parts.TreeFaults.{walk}
 use Rattle.refutations.proofs.ExactTrees.{fault_of_placed-only}
 use Rattle.refutations.proofs.Preorders.{walk_of_tree, walk_of_fault}
 use Rattle.pieces.proofs.Answers.{one_first, faulty_not_derived}

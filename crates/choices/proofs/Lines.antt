@@ -5,7 +5,8 @@ use Rattle.std.proofs.lemmas.Grind.{flat_map-append}
 use Rattle.std.proofs.lemmas.List.Concat.{flat_map-cons}
 use Rattle.plaintext.specs.Plain.{text_lines}
 use Rattle.plaintext.proofs.Texts.{joined-lines}
-use Rattle.choices.specs.Pins.{AreAround, IsPast, IsPinned, joined}
+use Rattle.choices.specs.parts.Pins.{AreAround, IsPast}
+use Rattle.choices.specs.Pins.{IsPinned, joined}
 use Rattle.choices.specs.Words.{line_with}
 use Rattle.narrowing.specs.declared.taken.Taken.{Taken}
 

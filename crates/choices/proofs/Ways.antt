@@ -10,7 +10,8 @@ use Rattle.choices.specs.declared.asking.Way.TheVariants.{Hangs, Never}
 use Rattle.narrowing.specs.declared.taken.Taken.{Taken}
 use Rattle.choices.specs.declared.items.Choice.{Choice}
 use Rattle.choices.specs.declared.items.Weighed.{Weighed}
-use Rattle.choices.specs.Weights.{AreNever, AreWeighed, HangsWith, IsWayWith, IsWeighed, NeverWith, SomeHangs}
+use Rattle.choices.specs.parts.Weights.{IsWayWith}
+use Rattle.choices.specs.Weights.{AreNever, AreWeighed, HangsWith, IsWeighed, NeverWith, SomeHangs}
 
 -- the way at a place hangs
 pub some_hangs : (text : List ℕ) (number : ℕ) (p : MpiProgram) (call : ℕ) (read others : List Taken) (i : ℕ) (d : Taken) (way : Way) → i < length others → read ≡ others → way ≡ Hangs

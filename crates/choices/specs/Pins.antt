@@ -18,19 +18,3 @@ pub record IsPinned (text : List ℕ) (number : ℕ) (taken : Taken) (pinned : L
   pub cut : text_lines text ≡ before ++ (old ++ 10 ∷ []) ∷ after
   pub place : number ≡ length before + 1
   pub is : pinned ≡ joined (before ++ (line_with taken old ++ 10 ∷ []) ∷ after)
-
--- the line of this number, from 1, without its LF; the lines before it are the front, and the lines
--- after it the back
-pub record AreAround (text : List ℕ) (number : ℕ) (front old back : List ℕ) : Type 0 where
-  pub before : List (List ℕ)
-  pub after : List (List ℕ)
-  pub cut : text_lines text ≡ before ++ (old ++ 10 ∷ []) ∷ after
-  pub place : number ≡ length before + 1
-  pub front_is : front ≡ joined before
-  pub back_is : back ≡ joined after
-
--- so many lines stand before the rest
-pub record IsPast (text : List ℕ) (count : ℕ) (rest : List ℕ) : Type 0 where
-  pub before : List (List ℕ)
-  pub cut : text_lines text ≡ before ++ text_lines rest
-  pub many : length before ≡ count

@@ -11,7 +11,6 @@ use Rattle.narrowing.specs.Laws.{LeavesOpen, IsTakenSo}
 use Rattle.checker.specs.Headline.{IsNeverStuck}
 use Rattle.prover.specs.Answers.{CanHang}
 use Rattle.choices.specs.Pins.{IsPinned}
-use Rattle.choices.specs.declared.asking.Way.{Way}
 use Rattle.choices.specs.declared.asking.Way.TheVariants as ways
 use Rattle.choices.specs.declared.items.Choice.{Choice}
 use Rattle.choices.specs.declared.items.Need.{Need}
@@ -23,10 +22,6 @@ use Rattle.choices.specs.declared.items.Weighed.{Weighed}
 pub record IsChoiceOf (p : MpiProgram) (choice : Choice) : Type 0 where
   pub leaves : LeavesOpen p choice.call choice.taken
   pub ways : AreOtherWays p choice.call choice.taken choice.others.items
-
--- all of them are
-abbrev pub AreChoicesOf : MpiProgram → List Choice → Type 0
-AreChoicesOf p choices = All (IsChoiceOf p) choices
 
 -- with other words in the place of the line of this number, which leave open no more than this, the
 -- text is a program's that has a run that ends stuck
@@ -47,18 +42,6 @@ pub record NeverWith (text : List ℕ) (number : ℕ) (p : MpiProgram) (call : �
   pub is_narrowed : IsNarrowedText p call taken pinned
   pub never : IsNeverStuck pinned
 
--- what is told of a text holds
-abbrev pub IsWay : List ℕ → Way → Type 0
-IsWay text ways.Hangs = CanHang text
-IsWay text ways.Never = IsNeverStuck text
-IsWay text ways.Open = Unit {0}
-
--- what is told of the text of this program with such words holds
-abbrev pub IsWayWith : List ℕ → ℕ → MpiProgram → ℕ → Taken → Way → Type 0
-IsWayWith text number p call taken ways.Hangs = HangsWith text number taken
-IsWayWith text number p call taken ways.Never = NeverWith text number p call taken
-IsWayWith text number p call taken ways.Open = Unit {0}
-
 -- in each of these ways no run ends stuck
 abbrev pub AreNever : List ℕ → MpiProgram → Choice → List Taken → Type 0
 AreNever text p choice others = All (λ taken. NeverWith text choice.line p choice.call taken) others
@@ -71,13 +54,6 @@ pub record NoneHangs (text : List ℕ) (p : MpiProgram) (choice : Choice) : Type
 -- in some of these ways a run ends stuck
 abbrev pub SomeHangs : List ℕ → ℕ → List Taken → Type 0
 SomeHangs text number others = (place : ℕ) × (taken : Taken) × (slice_get others place ≡ Some taken) × HangsWith text number taken
-
--- what is told of the other ways of a choice
-abbrev pub AreOthers : List ℕ → MpiProgram → Choice → Need → Type 0
-AreOthers text p choice needs.Known = NoneHangs text p choice
-AreOthers text p choice needs.Tried = Unit {0}
-AreOthers text p choice needs.No = SomeHangs text choice.line choice.others.items
-AreOthers text p choice needs.NotAsked = Unit {0}
 
 -- The choice is one of the text's program, with all of its other ways, of which there are some, and
 -- in none of which a run ends stuck.

@@ -4,7 +4,8 @@ ghost use Rattle.std.specs.Prelude.{IfOk, IsTrue};
 ghost use Rattle.narrowing.specs.Narrowed.{IsNarrowed};
 ghost use Rattle.semantics.specs.Machine.{IsStuckRun};
 ghost use Rattle.prover.specs.Answers.{CanHang};
-ghost use Rattle.choices.specs.Weights.{HangsWith, IsNarrowedText, IsWay, IsWayWith};
+ghost use Rattle.choices.specs.parts.Weights.{IsWay, IsWayWith};
+ghost use Rattle.choices.specs.Weights.{HangsWith, IsNarrowedText};
 
 use crate::items::Choice;
 use crate::pinning::with_choice;

@@ -3,7 +3,8 @@
 ghost use Rattle.std.specs.Prelude.{IfOk, OnOk};
 ghost use Rattle.semantics.specs.Machine.{IsStuckRun};
 ghost use Rattle.narrowing.specs.Laws.{LeavesOpen};
-ghost use Rattle.choices.specs.Weights.{AreChoicesOf, IsChoiceOf};
+ghost use Rattle.choices.specs.parts.Weights.{AreChoicesOf};
+ghost use Rattle.choices.specs.Weights.{IsChoiceOf};
 
 use crate::items::Choice;
 use crate::places::{line_numbers, lines_of};

@@ -1,7 +1,8 @@
 //! Texts with one choice pinned.
 
 ghost use Rattle.std.specs.Prelude.{IfOk, IfSome};
-ghost use Rattle.choices.specs.Pins.{AreAround, IsPinned};
+ghost use Rattle.choices.specs.parts.Pins.{AreAround};
+ghost use Rattle.choices.specs.Pins.{IsPinned};
 
 use crate::wording::line_with;
 use narrowing::Taken;

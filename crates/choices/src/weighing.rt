@@ -4,7 +4,8 @@ ghost use Rattle.std.specs.Prelude.{◌≡◌, [], true, IfErr, IfOk, OnOk, IsTr
 ghost use Rattle.callorder.specs.Resolving.{IsTextOf};
 ghost use Rattle.semantics.specs.Machine.{IsStuckRun};
 ghost use Rattle.checker.specs.Parts.{IsNoRun};
-ghost use Rattle.choices.specs.Weights.{AreChoicesOf, AreOthers, AreWeighed, HangsWith, IsChoiceOf, IsWeighed};
+ghost use Rattle.choices.specs.parts.Weights.{AreChoicesOf, AreOthers};
+ghost use Rattle.choices.specs.Weights.{AreWeighed, HangsWith, IsChoiceOf, IsWeighed};
 
 use crate::asking::{Way, hangs_with, way_with};
 use crate::finding::choices_of;

@@ -12,9 +12,10 @@ use Rattle.knowledge.proofs.Less.{union_justified}
 use Rattle.std.specs.declared.alloc.AllocError.{AllocError}
 use Rattle.clocks.specs.declared.rows.Count.{Count}
 use Rattle.clocks.specs.declared.race.Race.{Race}
-use Rattle.clocks.specs.Clocks.{Numbering, AreTold, IsNoRace, IsChecked, IsSingle, IsUnordered, with_partners}
-use Rattle.clocks.specs.Exact.{Asked, IsAsked, IsColumn, IsOrdered, IsUnorderedBy, IsWithin, Extends, ShowsFrom}
-use Rattle.clocks.specs.Finders.{IsListing, IsLookedAt, Listing, before_at}
+use Rattle.clocks.specs.parts.Clocks.{Numbering, AreTold, IsChecked, IsSingle, with_partners}
+use Rattle.clocks.specs.Clocks.{IsNoRace, IsUnordered}
+use Rattle.clocks.specs.parts.Exact.{Asked, IsAsked, IsColumn, IsOrdered, IsUnorderedBy, IsWithin, Extends, ShowsFrom}
+use Rattle.clocks.specs.parts.Finders.{IsListing, IsLookedAt, Listing, before_at}
 use Rattle.clocks.proofs.Counts.{same_some}
 use Rattle.clocks.proofs.Levels.{SamePartners, or_left, or_right, justified_as}
 use Rattle.clocks.proofs.Looks.{AreLookedAt, looked_between, one_more_place, one_more_send}

@@ -12,8 +12,9 @@ use Rattle.semantics.proofs.RankOrder.{one_rank_between}
 use Rattle.races.specs.Blocks.{Blocks, HasFellow}
 use Rattle.races.specs.Tells.{Table, IsJustified, tells_return_call}
 use Rattle.races.proofs.Steps.{issued_within, within_issued, one_rank, one_rank_made}
-use Rattle.clocks.specs.Clocks.{IsNoRace, ShowsAll, HasEarlier, IsTaken, IsChecked, Numbering, rounds}
-use Rattle.clocks.specs.Finders.{IsListing, Listing, before_at}
+use Rattle.clocks.specs.parts.Clocks.{HasEarlier, IsTaken, IsChecked, Numbering, rounds}
+use Rattle.clocks.specs.Clocks.{IsNoRace, ShowsAll}
+use Rattle.clocks.specs.parts.Finders.{IsListing, Listing, before_at}
 use Rattle.clocks.proofs.Levels.{or_left, rounds_within}
 
 -- what is known where a call is issued is known at each later call of its rank, some rounds later

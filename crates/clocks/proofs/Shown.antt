@@ -23,15 +23,16 @@ use Rattle.std.proofs.lemmas.List.Sums.{sum_by-cons}
 use Rattle.std.proofs.lemmas.List.FromFn.{get_or-map-range_with_len}
 use Rattle.clocks.specs.declared.race.Race.{Race}
 use Rattle.clocks.specs.declared.rows.Count.{Count}
-use Rattle.clocks.specs.Clocks.{Numbering, AreTold, AreToldSoundly, IsNoRace, ShowsAll, HasNoRaceShown, HasEarlier, IsTaken, IsSingle, IsSurePartner, IsChecked, IsRival, IsRivalIfSingle, level, rounds}
+use Rattle.clocks.specs.parts.Clocks.{Numbering, AreTold, AreToldSoundly, HasEarlier, IsTaken, IsSingle, IsSurePartner, IsChecked, IsRivalIfSingle, level, rounds}
+use Rattle.clocks.specs.Clocks.{IsNoRace, ShowsAll, HasNoRaceShown, IsRival}
 use Rattle.clocks.specs.Spans.{AreSpans}
 use Rattle.clocks.proofs.Members.{chain, name_below, named_from, spans_are_blocks}
 use Rattle.std.specs.Option.{unwrap_or}
-use Rattle.clocks.specs.Clocks.{with_partners}
+use Rattle.clocks.specs.parts.Clocks.{with_partners}
 use Rattle.clocks.proofs.Counts.{same_some}
 use Rattle.clocks.proofs.Looks.{checked_shows, checked_by, send_there}
 use Rattle.clocks.proofs.Levels.{level_justified, rounds_justified}
-use Rattle.clocks.specs.Exact.{ShowsFrom}
+use Rattle.clocks.specs.parts.Exact.{ShowsFrom}
 use Rattle.clocks.proofs.Extending.{shows_as}
 use Rattle.std.specs.declared.alloc.AllocError.{AllocError}
 

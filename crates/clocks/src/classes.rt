@@ -2,7 +2,7 @@
 
 ghost use Rattle.std.specs.Prelude.{◌≡◌, ◌≤◌, ◌<◌, ℕ, IsTrue, IfSome, IfNone};
 ghost use Rattle.callorder.specs.Programs.{are_fit, are_of_one_rank};
-ghost use Rattle.clocks.specs.Clocks.{HasEarlier, IsTaken, IsOfRank, block_of};
+ghost use Rattle.clocks.specs.parts.Clocks.{HasEarlier, IsTaken, IsOfRank, block_of};
 ghost use Rattle.clocks.specs.Spans.{AreSpans};
 
 use crate::spans::name;

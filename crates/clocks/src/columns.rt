@@ -1,7 +1,7 @@
 //! Finders in columns, numbered.
 
 ghost use Rattle.std.specs.Prelude.{◌≡◌, slice_get, slice_index};
-ghost use Rattle.clocks.specs.Clocks.{IsRaised};
+ghost use Rattle.clocks.specs.parts.Clocks.{IsRaised};
 
 use crate::reads::done_by_return;
 use callorder::LongProgram;
@@ -28,7 +28,7 @@ pub struct Columns {
 }
 
 impl Model for Columns {
-    ghost use Rattle.clocks.specs.Clocks.{Numbering};
+    ghost use Rattle.clocks.specs.parts.Clocks.{Numbering};
 
     ghost Value = { Numbering };
 

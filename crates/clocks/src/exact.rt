@@ -4,8 +4,8 @@
 ghost use Rattle.std.specs.Prelude.{◌≡◌, ℕ, Some, IfOk, OnOk, true, false, slice_get};
 ghost use Rattle.std.specs.Option.{unwrap_or};
 ghost use Rattle.callorder.specs.Programs.{MpiProgram};
-ghost use Rattle.clocks.specs.Clocks.{with_partners};
-ghost use Rattle.clocks.specs.Exact.{IsAsked, IsOrdered, IsUnorderedBy};
+ghost use Rattle.clocks.specs.parts.Clocks.{with_partners};
+ghost use Rattle.clocks.specs.parts.Exact.{IsAsked, IsOrdered, IsUnorderedBy};
 
 use callorder::LongProgram;
 use knowledge::column_of;
@@ -25,7 +25,7 @@ pub struct Exact {
 }
 
 impl Model for Exact {
-    ghost use Rattle.clocks.specs.Exact.{Asked};
+    ghost use Rattle.clocks.specs.parts.Exact.{Asked};
 
     ghost Value = { Asked };
 

@@ -2,8 +2,8 @@
 //! that they have found.
 
 ghost use Rattle.std.specs.Prelude.{◌≡◌, ◌≤◌, ◌<◌, ◌+◌, ℕ, Bool, List, Some, IfOk, OnOk, IsTrue, false, slice_get};
-ghost use Rattle.clocks.specs.Clocks.{IsCount, Numbering, block_of};
-ghost use Rattle.clocks.specs.Finders.{AreListed, AreListedUpTo, AreReaches, CannotRace, IsListing, IsNumbered, IsReach, before_at};
+ghost use Rattle.clocks.specs.parts.Clocks.{IsCount, Numbering, block_of};
+ghost use Rattle.clocks.specs.parts.Finders.{AreListed, AreListedUpTo, AreReaches, CannotRace, IsListing, IsNumbered, IsReach, before_at};
 ghost use Rattle.clocks.specs.Spans.{AreSpans};
 
 use crate::columns::Columns;
@@ -36,7 +36,7 @@ pub struct Finders {
 }
 
 impl Model for Finders {
-    ghost use Rattle.clocks.specs.Finders.{Listing};
+    ghost use Rattle.clocks.specs.parts.Finders.{Listing};
 
     ghost Value = { Listing };
 

@@ -5,9 +5,10 @@ ghost use Rattle.semantics.specs.Machine.{opening, after_all, IsConfigurationOf,
 ghost use Rattle.races.specs.Races.{BuffersNoneByChoice, NamesSources};
 ghost use Rattle.races.specs.Tells.{Table};
 ghost use Rattle.semantics.specs.Headline.{NoStuckRun};
-ghost use Rattle.clocks.specs.Clocks.{AreTold, IsCount, IsNoRace, IsChecked, HasNoRaceShown, IsTaken, IsSingle, IsSurePartner, IsRival, IsRivalIfSingle, IsUnordered, block_of, with_partners};
-ghost use Rattle.clocks.specs.Exact.{IsAsked, IsUnorderedBy, ShowsFrom};
-ghost use Rattle.clocks.specs.Finders.{AreReaches, IsListing, IsLookedAt};
+ghost use Rattle.clocks.specs.parts.Clocks.{AreTold, IsCount, IsChecked, IsTaken, IsSingle, IsSurePartner, IsRivalIfSingle, block_of, with_partners};
+ghost use Rattle.clocks.specs.Clocks.{IsNoRace, HasNoRaceShown, IsRival, IsUnordered};
+ghost use Rattle.clocks.specs.parts.Exact.{IsAsked, IsUnorderedBy, ShowsFrom};
+ghost use Rattle.clocks.specs.parts.Finders.{AreReaches, IsListing, IsLookedAt};
 ghost use Rattle.clocks.specs.Spans.{AreSpans};
 ghost use Rattle.callorder.specs.Programs.{are_fit, are_of_one_rank};
 

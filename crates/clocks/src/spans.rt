@@ -4,7 +4,7 @@ ghost use Rattle.std.specs.Prelude.{◌≡◌, ◌≤◌, ◌<◌, ◌^◌, ℕ,
 ghost use Rattle.callorder.specs.Programs.{call_at, are_fit, are_of_one_rank};
 ghost use Rattle.races.specs.Blocks.{IsPrompt, is_finder};
 ghost use Rattle.clocks.specs.Spans.{is_done_at_once_call, returns_at_once, is_receive_call, IsWaitFor, WaitsWithin, IsMember, IsJoined, IsNamed, AreSpans};
-ghost use Rattle.clocks.specs.Clocks.{block_of, IsSingle};
+ghost use Rattle.clocks.specs.parts.Clocks.{block_of, IsSingle};
 
 use callorder::{Kind, LongProgram};
 use calltext::Mode;

@@ -7,7 +7,8 @@ use Rattle.std.proofs.lemmas.Bool.Decides.{nat_tests}
 use Rattle.callorder.specs.Programs.{MpiProgram, IsProgram}
 use Rattle.clauses.specs.Clauses.{Literal, is_within}
 use Rattle.formula.specs.Facts.{Meaning, fact, before, Statement, is_true, is_false, is_earlier}
-use Rattle.formula.specs.Families.{SymbolicClause, sends_are_buffered_as_allowed, families_with_orders, last_families, probes_see_messages, place_of, said, first_families}
+use Rattle.formula.specs.parts.Families.{sends_are_buffered_as_allowed, probes_see_messages}
+use Rattle.formula.specs.Families.{SymbolicClause, families_with_orders, last_families, place_of, said, first_families}
 use Rattle.formula.specs.Orders.{SignedMeaning, order_clauses}
 use Rattle.formula.specs.Numbering.{meanings, is_same_meaning, variable_of, literal, literal_of, put, comes_first, sorted, has_both_signs, in_normal_form, normal_form, numbered, literal_of_signed, numbered_order}
 use Rattle.formula.specs.Laws.{ClausesAreWithin}

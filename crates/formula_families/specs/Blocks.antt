@@ -1,17 +1,10 @@
 -- The clauses of a program in blocks, each of a family for one call or for one pair.
-use Rattle.std.specs.Prelude.{ℕ, not, nat_lt, if◌then◌else◌, ◌+◌, List, [], ◌∷◌, length, map}
-use Rattle.std.specs.List.{range_with_len}
+use Rattle.std.specs.Prelude.{ℕ, not, nat_lt, if◌then◌else◌, ◌+◌, List, [], ◌∷◌, length}
 use Rattle.callorder.specs.Programs.{MpiProgram, is_probe, are_of_one_rank}
 use Rattle.candidates.specs.Pairs.{pairs_of, pair_at}
 use Rattle.formula.specs.declared.families.Family.{Family}
 use Rattle.formula.specs.Families.{SymbolicClause, is_standard, family_of, Blocks, by_call, by_standard_send, by_last_call, by_pair, by_see}
 use Rattle.formula_families.specs.declared.families.Block.{Block}
-
--- what is said of a pair, whatever it is
-abbrev pub of_pair : MpiProgram → Blocks → ℕ × ℕ → List SymbolicClause
-of_pair p (by_pair clauses) pair = clauses p pair.0 pair.1
-of_pair p (by_see clauses) pair = clauses p pair.0 pair.1
-of_pair p other pair = []
 
 -- what is said of a pair of a send and a taker; nothing of a pair of a send and a probe
 abbrev pub where_taken : MpiProgram → ℕ × ℕ → List SymbolicClause → List SymbolicClause
@@ -50,11 +43,3 @@ clauses_of p b = block_in p (family_of b.family).says b.place
 -- how many blocks a family has
 abbrev pub size_of : MpiProgram → Family → ℕ
 size_of p family = count_in p (family_of family).says
-
--- a block by its parts
-abbrev pub block : Family → ℕ → Block
-block family place = record { family = family; place = place }
-
--- the blocks of a family
-abbrev pub blocks_of : MpiProgram → Family → List Block
-blocks_of p family = map (block family) (range_with_len 0 (size_of p family))

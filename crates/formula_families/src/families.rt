@@ -5,7 +5,8 @@ ghost use Rattle.formula.specs.declared.facts.Fact.TheVariants.{Unfinished as un
 ghost use Rattle.formula.specs.declared.facts.Statement.TheVariants.{Holds as is_true, Fails as is_false};
 ghost use Rattle.formula.specs.Families.{last_calls, rank_of, is_standard, where_returned, buffered_under, issued_after, issued_after_return_of, issue_does_not_wait, family_of, first_families, last_families};
 ghost use Rattle.formula.specs.declared.families.Family.TheVariants.{SomeUnfinished, Sees};
-ghost use Rattle.formula_families.specs.Blocks.{clauses_of, size_of, block, where_taken, where_seen, where_last, of_pair};
+ghost use Rattle.formula_families.specs.parts.Blocks.{block, of_pair};
+ghost use Rattle.formula_families.specs.Blocks.{clauses_of, size_of, where_taken, where_seen, where_last};
 ghost use Rattle.candidates.specs.Pairs.{pairs_of, pair_at};
 
 use crate::symbolic::Symbolic;

@@ -8,7 +8,8 @@ use Rattle.callorder.specs.Programs.{MpiProgram, call_at, are_of_one_rank}
 use Rattle.semantics.specs.Machine.{Configuration}
 use Rattle.races.specs.Tells.{Table, tells_return_call, tells_issue, IsJustified}
 use Rattle.races.proofs.Steps.{one_rank}
-use Rattle.knowledge.specs.Knowledge.{entry_at, column_table, count_known, Covers, CoversJustified, IsTold, TablesOfColumnsAreJustified, table_of}
+use Rattle.knowledge.specs.parts.Knowledge.{count_known, Covers, CoversJustified, IsTold}
+use Rattle.knowledge.specs.Knowledge.{entry_at, column_table, TablesOfColumnsAreJustified, table_of}
 use Rattle.knowledge.proofs.Less.{issue_less}
 
 pub entry_of : (finder : ℕ) (known : List Bool) (c : ℕ) → column_table finder known c finder ≡ true → entry_at known c ≡ true

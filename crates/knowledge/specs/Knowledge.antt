@@ -1,5 +1,5 @@
 -- For one finder, the calls that are issued only where it has found: one column of a table.
-use Rattle.std.specs.Prelude.{ℕ, suc, Bool, true, false, ◌&&◌, ◌||◌, ◌==◌, IsTrue, List, [], ◌∷◌, Option, slice_get}
+use Rattle.std.specs.Prelude.{ℕ, Bool, false, ◌&&◌, ◌||◌, ◌==◌, IsTrue, List, [], Option, slice_get}
 use Rattle.std.specs.Option.{unwrap_or}
 use Rattle.callorder.specs.Programs.{MpiProgram}
 use Rattle.semantics.specs.Machine.{Configuration}
@@ -16,24 +16,6 @@ entry_at known c = unwrap_or (slice_get known c) false
 -- the table of this one column
 abbrev pub column_table : ℕ → List Bool → Table
 column_table finder known c f = (f == finder) && entry_at known c
-
--- how many entries are true
-abbrev pub count_known : List Bool → ℕ
-count_known [] = 0
-count_known (true ∷ known) = suc (count_known known)
-count_known (false ∷ known) = count_known known
-
--- what the table knows of the finder, the column does too
-abbrev pub Covers : ℕ → List Bool → Table → Type 0
-Covers finder known knows = (c : ℕ) → IsTrue (knows c finder) → IsTrue (column_table finder known c finder)
-
--- so of each justified table
-abbrev pub CoversJustified : MpiProgram → Configuration → ℕ → List Bool → Type 0
-CoversJustified p e finder known = (knows : Table) → IsJustified p e knows → Covers finder known knows
-
--- the entry at the call, where it is true, follows from the column
-abbrev pub IsTold : MpiProgram → Configuration → ℕ → List Bool → ℕ → Type 0
-IsTold p e finder known c = IsTrue (entry_at known c) → IsTrue (tells_issue p e (column_table finder known) c finder)
 
 -- the entries of two tables
 abbrev pub union : Table → Table → Table

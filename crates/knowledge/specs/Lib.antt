@@ -1,1 +1,2 @@
 pub mod Knowledge
+pub mod parts

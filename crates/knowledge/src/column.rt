@@ -2,7 +2,8 @@
 
 ghost use Rattle.std.specs.Prelude.{◌≡◌, ◌<◌, ℕ, IsTrue, IfOk, length, slice_set, replicate, true, false};
 ghost use Rattle.races.specs.Tells.{Table, IsJustified};
-ghost use Rattle.knowledge.specs.Knowledge.{column_table, count_known, with_partners, Covers, CoversJustified, IsTold};
+ghost use Rattle.knowledge.specs.parts.Knowledge.{count_known, Covers, CoversJustified, IsTold};
+ghost use Rattle.knowledge.specs.Knowledge.{column_table, with_partners};
 
 use crate::rules::{knows, tells_issue};
 use callorder::LongProgram;

@@ -13,9 +13,9 @@ use Rattle.leastrun.specs.declared.tables.Tables.{Tables}
 use Rattle.leastrun.specs.declared.walk.Buffering.{Buffering}
 use Rattle.leastrun.specs.declared.walk.Buffering.TheVariants.{Least, Most}
 use Rattle.leastrun.specs.LeastBuffered.{BuffersSo}
-use Rattle.leastrun.specs.Slots.{HasForms}
-use Rattle.leastrun.specs.Queues.{row}
-use Rattle.leastrun.specs.Waiting.{AreInOrder, IsKept, NoOpenPair}
+use Rattle.leastrun.specs.parts.Slots.{HasForms}
+use Rattle.leastrun.specs.parts.Queues.{row}
+use Rattle.leastrun.specs.parts.Waiting.{AreInOrder, IsKept, NoOpenPair}
 use Rattle.leastrun.proofs.Openings.{open_parts}
 
 abbrev empty : List ℕ

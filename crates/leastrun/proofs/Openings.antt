@@ -10,7 +10,7 @@ use Rattle.run_laws.specs.Places.{find_step}
 use Rattle.races.proofs.Steps.{not_true, is_or_not, issued_within, within_issued, one_rank, same_some}
 use Rattle.leastrun.specs.declared.walk.Buffering.{Buffering}
 use Rattle.leastrun.specs.declared.walk.Buffering.TheVariants.{Least, Most}
-use Rattle.leastrun.specs.Waiting.{is_mate, IsLeastMate, NoMate, step_between, NoOpenPair, IsFresh, IsFind, IsNext}
+use Rattle.leastrun.specs.parts.Waiting.{is_mate, IsLeastMate, NoMate, step_between, NoOpenPair, IsFresh, IsFind, IsNext}
 use Rattle.leastrun.proofs.Slotting.{not_itself}
 
 -- ---- open calls

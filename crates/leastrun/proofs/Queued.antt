@@ -6,7 +6,7 @@ use Rattle.callorder.proofs.Lookups.{slice_get_of_append}
 use Rattle.semantics.specs.Machine.{Configuration, is_matched}
 use Rattle.races.proofs.Steps.{is_or_not}
 use Rattle.leastrun.specs.declared.rows.Rows.{Rows}
-use Rattle.leastrun.specs.Queues.{row, StandsIn, IsAdded, IsGrown, IsSkipped, IsPassed}
+use Rattle.leastrun.specs.parts.Queues.{row, StandsIn, IsAdded, IsGrown, IsSkipped, IsPassed}
 use Rattle.leastrun.proofs.Entries.{get_front, get_behind, get_end, only_one, no_shorter}
 
 -- ---- a call is added

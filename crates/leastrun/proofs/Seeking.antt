@@ -11,9 +11,9 @@ use Rattle.races.proofs.Steps.{is_or_not, same_some, one_rank_back}
 use Rattle.leastrun.specs.declared.slot.Form.{Form}
 use Rattle.leastrun.specs.declared.rows.Rows.{Rows}
 use Rattle.leastrun.specs.declared.tables.Tables.{Tables}
-use Rattle.leastrun.specs.Slots.{send_slot, finder_slot, form_of}
-use Rattle.leastrun.specs.Queues.{row, StandsIn}
-use Rattle.leastrun.specs.Waiting.{IsKept, AreInOrder, is_mate, IsFirstMate, NoMateAmong, IsLeastIn, NoMateIn, lesser, IsLeastMate, NoFinder, NoSend, NoMate}
+use Rattle.leastrun.specs.parts.Slots.{send_slot, finder_slot, form_of}
+use Rattle.leastrun.specs.parts.Queues.{row, StandsIn}
+use Rattle.leastrun.specs.parts.Waiting.{IsKept, AreInOrder, is_mate, IsFirstMate, NoMateAmong, IsLeastIn, NoMateIn, lesser, IsLeastMate, NoFinder, NoSend, NoMate}
 use Rattle.leastrun.proofs.Slotting.{fit_of, same_form, same_at, not_both, not_itself, one_receiver, no_send_slot, send_fits, finder_fits}
 use Rattle.leastrun.proofs.Openings.{mate_made, mate_open, mate_fits}
 

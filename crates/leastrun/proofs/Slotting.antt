@@ -11,7 +11,7 @@ use Rattle.callorder.specs.Calls.{message_of, pattern_of, covers, fits_between, 
 use Rattle.callorder.specs.Programs.{MpiProgram, call_at, are_fit, are_of_one_rank}
 use Rattle.races.proofs.Steps.{one_rank_made}
 use Rattle.leastrun.specs.declared.slot.Form.{Form}
-use Rattle.leastrun.specs.Slots.{named, slot_of, slot_of_message, slot_of_pattern, send_slot, finder_slot, form_of}
+use Rattle.leastrun.specs.parts.Slots.{named, slot_of, slot_of_message, slot_of_pattern, send_slot, finder_slot, form_of}
 
 named_covers : (wanted : Option ℕ) (number : ℕ) → covers wanted number ≡ true → named (is_some wanted) number ≡ wanted
 named_covers None number fit = refl

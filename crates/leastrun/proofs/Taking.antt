@@ -14,11 +14,11 @@ use Rattle.races.proofs.Passing.{issued_call_before}
 use Rattle.leastrun.specs.declared.rows.Rows.{Rows}
 use Rattle.leastrun.specs.declared.tables.Tables.{Tables}
 use Rattle.leastrun.specs.declared.slot.Form.{Form}
-use Rattle.leastrun.specs.Slots.{HasForms}
-use Rattle.leastrun.specs.Along.{IsAddedTo}
-use Rattle.leastrun.specs.Queues.{row, StandsIn, IsGrown, IsPassed}
+use Rattle.leastrun.specs.parts.Slots.{HasForms}
+use Rattle.leastrun.specs.parts.Along.{IsAddedTo}
+use Rattle.leastrun.specs.parts.Queues.{row, StandsIn, IsGrown, IsPassed}
 use Rattle.leastrun.specs.declared.walk.Buffering.{Buffering}
-use Rattle.leastrun.specs.Waiting.{IsSendIn, AreInOrder, IsKept, NoOpenPair, IsFresh, fresh_after, IsSettled, IsNext}
+use Rattle.leastrun.specs.parts.Waiting.{IsSendIn, AreInOrder, IsKept, NoOpenPair, IsFresh, fresh_after, IsSettled, IsNext}
 use Rattle.leastrun.proofs.Queued.{grown_there}
 use Rattle.leastrun.proofs.Openings.{open_made, open_parts, pair_made, pair_open}
 

@@ -13,7 +13,7 @@ use Rattle.semantics.proofs.Runs.{after_all-push, IsRun-push}
 use Rattle.leastrun.specs.declared.walk.Buffering.{Buffering}
 use Rattle.leastrun.specs.declared.walk.Buffering.TheVariants.{Least, Most}
 use Rattle.leastrun.specs.LeastBuffered.{NothingEnabled, BuffersSo, IsBufferedRun}
-use Rattle.leastrun.specs.Waiting.{IsNext}
+use Rattle.leastrun.specs.parts.Waiting.{IsNext}
 
 pub now_more : (m : Configuration) (steps next : List Step) (step : Step) (s t : Configuration) → s ≡ after_all m steps → t ≡ after s step → next ≡ steps ++ step ∷ [] → t ≡ after_all m next
 now_more m steps next step s t now one more =

@@ -14,10 +14,10 @@ use Rattle.races.proofs.Telling.{programs_are_in_order}
 use Rattle.leastrun.specs.declared.rows.Rows.{Rows}
 use Rattle.leastrun.specs.declared.slot.Form.{Form}
 use Rattle.leastrun.specs.declared.tables.Tables.{Tables}
-use Rattle.leastrun.specs.Slots.{HasForms}
-use Rattle.leastrun.specs.Queues.{row, StandsIn, IsGrown}
-use Rattle.leastrun.specs.Waiting.{AreInOrder, IsFinderIn, IsFresh, IsKept, IsSendIn, NoOpenPair}
-use Rattle.leastrun.specs.Along.{AreApart, AreOpenCalls, IsAddedTo}
+use Rattle.leastrun.specs.parts.Slots.{HasForms}
+use Rattle.leastrun.specs.parts.Queues.{row, StandsIn, IsGrown}
+use Rattle.leastrun.specs.parts.Waiting.{AreInOrder, IsFinderIn, IsFresh, IsKept, IsSendIn, NoOpenPair}
+use Rattle.leastrun.specs.parts.Along.{AreApart, AreOpenCalls, IsAddedTo}
 use Rattle.leastrun.proofs.Entries.{get_front, get_end, only_one}
 use Rattle.leastrun.proofs.Openings.{open_parts, pair_open}
 use Rattle.leastrun.proofs.Queued.{grown_there}

@@ -1,5 +1,2 @@
-pub mod Slots
-pub mod Queues
-pub mod Waiting
 pub mod LeastBuffered
-pub mod Along
+pub mod parts

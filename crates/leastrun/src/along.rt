@@ -3,7 +3,7 @@
 ghost use Rattle.std.specs.Prelude.{◌≡◌, IfOk, IfSome, IsTrue, OnOk};
 ghost use Rattle.always.specs.Always.{IsEndedRun};
 ghost use Rattle.semantics.specs.Machine.{opening, after_all};
-ghost use Rattle.leastrun.specs.Along.{AreApart, AreOpenCalls, FitsNone, IsReached};
+ghost use Rattle.leastrun.specs.parts.Along.{AreApart, AreOpenCalls, FitsNone, IsReached};
 
 use crate::tables::Tables;
 use crate::walk::{Buffering, buffered_run, go_on};

@@ -2,7 +2,7 @@
 
 ghost use Rattle.std.specs.Prelude.{◌≡◌, ℕ, IfSome, IfNone, Some};
 ghost use Rattle.callorder.specs.Programs.{call_at};
-ghost use Rattle.leastrun.specs.Waiting.{IsKept, IsFresh, AreInOrder, is_mate, IsFirstMate, NoMateAmong, IsLeastIn, NoMateIn, lesser, IsLeastMate, NoFinder, NoSend, NoMate, step_between, NoOpenPair, IsFind};
+ghost use Rattle.leastrun.specs.parts.Waiting.{IsKept, IsFresh, AreInOrder, is_mate, IsFirstMate, NoMateAmong, IsLeastIn, NoMateIn, lesser, IsLeastMate, NoFinder, NoSend, NoMate, step_between, NoOpenPair, IsFind};
 
 use crate::rows::Rows;
 use crate::slot::{finder_slot, send_slot};

@@ -2,7 +2,7 @@
 
 ghost use Rattle.std.specs.Prelude.{◌≡◌, ℕ, [], OnOk};
 ghost use Rattle.std.specs.Option.{option_copied};
-ghost use Rattle.leastrun.specs.Queues.{row, row_of, IsAdded, IsSkipped, IsPassed};
+ghost use Rattle.leastrun.specs.parts.Queues.{row, row_of, IsAdded, IsSkipped, IsPassed};
 
 use semantics::State;
 use std::alloc::{AllocError, Global};

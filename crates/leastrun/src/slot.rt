@@ -4,7 +4,7 @@
 
 ghost use Rattle.std.specs.Prelude.{◌≡◌, ◌<◌, ℕ, true, IfOk, OnOk};
 ghost use Rattle.callorder.specs.Calls.{pattern_of};
-ghost use Rattle.leastrun.specs.Slots.{mix, told, named, slot_of, form_of, send_slot, finder_slot, Lists, ListsMore, HasForms};
+ghost use Rattle.leastrun.specs.parts.Slots.{mix, told, named, slot_of, form_of, send_slot, finder_slot, Lists, ListsMore, HasForms};
 
 use callorder::{Call, LongProgram, Pattern};
 use std::alloc::{AllocError, Global};

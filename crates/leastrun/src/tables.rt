@@ -2,9 +2,9 @@
 
 ghost use Rattle.std.specs.Prelude.{ℕ, OnOk, IfOk, Option, None, Some};
 ghost use Rattle.semantics.specs.Machine.{opening};
-ghost use Rattle.leastrun.specs.Along.{AreOpenCalls, IsAddedTo};
-ghost use Rattle.leastrun.specs.Queues.{IsGrown, IsPassed};
-ghost use Rattle.leastrun.specs.Waiting.{IsSendIn, IsFinderIn, IsKept, IsFresh};
+ghost use Rattle.leastrun.specs.parts.Along.{AreOpenCalls, IsAddedTo};
+ghost use Rattle.leastrun.specs.parts.Queues.{IsGrown, IsPassed};
+ghost use Rattle.leastrun.specs.parts.Waiting.{IsSendIn, IsFinderIn, IsKept, IsFresh};
 
 use crate::rows::Rows;
 use crate::slot::{Form, finder_slot, forms_of, send_slot};

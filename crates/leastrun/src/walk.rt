@@ -2,8 +2,8 @@
 
 ghost use Rattle.std.specs.Prelude.{◌≡◌, ℕ, [], IfSome, IfNone, IfOk, OnOk, None, Option};
 ghost use Rattle.semantics.specs.Machine.{IsConfigurationOf, opening, after_all};
-ghost use Rattle.leastrun.specs.Along.{IsReached};
-ghost use Rattle.leastrun.specs.Waiting.{IsKept, NoOpenPair, IsFresh, fresh_after, IsSettled, IsNext, NoIssueOf};
+ghost use Rattle.leastrun.specs.parts.Along.{IsReached};
+ghost use Rattle.leastrun.specs.parts.Waiting.{IsKept, NoOpenPair, IsFresh, fresh_after, IsSettled, IsNext, NoIssueOf};
 ghost use Rattle.leastrun.specs.LeastBuffered.{BuffersSo, NothingEnabled, IsLeastBufferedRun, IsMostBufferedRun, IsBufferedRun};
 
 use crate::lookup::find_of;

@@ -1,7 +1,7 @@
 //! The search itself: one task after the other.
 
 ghost use Rattle.std.specs.Prelude.{◌≤◌, []};
-ghost use Rattle.cdcl.specs.Searches.{IfEnded, IsCounted, IsNotBudget, IsRight};
+ghost use Rattle.cdcl.specs.parts.Searches.{IfEnded, IsCounted, IsNotBudget, IsRight};
 
 use crate::engine::Conflict;
 use crate::explorer::Explorer;

@@ -10,7 +10,7 @@ use Rattle.phase_checker.specs.declared.phase.Phase.{Phase}
 use Rattle.phase_checker.specs.declared.reason.NotJoined.{NotJoined}
 use Rattle.phase_checker.specs.declared.reason.NotJoined.TheVariants as joins
 use Rattle.phase_checker.specs.Dealing.{ComesTo, Dealt, IsAt, IsEarly, IsFirst, IsTaken, IsWrong, KeepsToItself}
-use Rattle.phase_checker.specs.Parts.{IsDealtAt, IsFirstEarly, IsUnkept}
+use Rattle.phase_checker.specs.parts.Parts.{IsDealtAt, IsFirstEarly, IsUnkept}
 
 dealt_more : (phases : List Phase) (number : ℕ) (p q rest : MpiProgram) (order : List ℕ) → Dealt phases p order q → IsTaken phases number q rest
     → Dealt phases p (order ++ number ∷ []) rest

@@ -14,7 +14,7 @@ use Rattle.callorder.specs.Programs.{MpiProgram}
 use Rattle.races.specs.Races.{names_source, NamesSources}
 use Rattle.sealing.specs.declared.loose.Loose.{Loose}
 use Rattle.sealing.specs.Loose.{AreLoose, IsLoose, IsLooseSend}
-use Rattle.phase_checker.specs.Senders.{is_message_of, is_same, is_sent, key_of}
+use Rattle.phase_checker.specs.parts.Senders.{is_message_of, is_same, is_sent, key_of}
 
 -- ---- equal keys
 

@@ -10,8 +10,8 @@ use Rattle.sealing.specs.declared.loose.Loose.{Loose}
 use Rattle.sealing.specs.Loose.{AreLoose}
 use Rattle.phase_checker.specs.declared.phase.Phase.{Phase}
 use Rattle.phase_checker.specs.declared.senders.Senders.{Senders}
-use Rattle.phase_checker.specs.Senders.{is_sent, place_of, IsRaised}
-use Rattle.phase_checker.specs.Early.{AreEnds, AreLast, AreSenders}
+use Rattle.phase_checker.specs.parts.Senders.{is_sent, place_of, IsRaised}
+use Rattle.phase_checker.specs.parts.Early.{AreEnds, AreLast, AreSenders}
 
 -- ---- last places
 

@@ -7,7 +7,7 @@ use Rattle.phase_checker.specs.declared.phase.Phase.{Phase}
 use Rattle.phase_checker.specs.declared.reason.NotJoined.{NotJoined}
 use Rattle.phase_checker.specs.declared.reason.NotJoined.TheVariants as joins
 use Rattle.phase_checker.specs.Dealing.{AreJoined, IsNotJoined}
-use Rattle.phase_checker.specs.Parts.{IsFirstWrong, MakeUp}
+use Rattle.phase_checker.specs.parts.Parts.{IsFirstWrong, MakeUp}
 
 pub are_joined : (text : List ℕ) (phases : List Phase) (order : List ℕ) (p : MpiProgram) → IsTextOfWithin long text p → MakeUp phases order p → AreJoined text phases order
 are_joined text phases order p of all = record { p = p; left = all.left; is_text = of; all = all.all; nothing = all.nothing }

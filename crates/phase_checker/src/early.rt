@@ -2,8 +2,8 @@
 
 ghost use Rattle.std.specs.Prelude.{◌≡◌, ◌↔◌, ◌<◌, [], IfOk, IfSome, IsTrue, get_or};
 ghost use Rattle.sealing.specs.Loose.{AreLoose};
-ghost use Rattle.phase_checker.specs.Early.{AreEmpty, AreEnds, AreLast, AreReaches, AreSenders, IsFirstWithin, IsReach};
-ghost use Rattle.phase_checker.specs.Parts.{IsFirstEarly};
+ghost use Rattle.phase_checker.specs.parts.Early.{AreEmpty, AreEnds, AreLast, AreReaches, AreSenders, IsFirstWithin, IsReach};
+ghost use Rattle.phase_checker.specs.parts.Parts.{IsFirstEarly};
 
 use crate::phase::Phase;
 use crate::senders::Senders;

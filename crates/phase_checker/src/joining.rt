@@ -6,8 +6,8 @@ ghost use Rattle.callorder.specs.Programs.{MpiProgram};
 ghost use Rattle.semantics.specs.Headline.{IsNeverStuckWithin};
 ghost use Rattle.phases.specs.Rests.{IsRest};
 ghost use Rattle.phase_checker.specs.Dealing.{AreJoined, IsNotJoined, IsWrong, KeepsToItself};
-ghost use Rattle.phase_checker.specs.Early.{HoldsAt};
-ghost use Rattle.phase_checker.specs.Parts.{IsDealtAt, IsFirstEarly, IsFirstWrong, IsUnkept, MakeUp};
+ghost use Rattle.phase_checker.specs.parts.Early.{HoldsAt};
+ghost use Rattle.phase_checker.specs.parts.Parts.{IsDealtAt, IsFirstEarly, IsFirstWrong, IsUnkept, MakeUp};
 
 use crate::early::first_early;
 use crate::phase::Phase;

@@ -17,7 +17,7 @@ use Rattle.callorder.specs.Programs.{MpiProgram}
 use Rattle.phases.specs.declared.leaving.Address.{Address}
 use Rattle.phases.specs.declared.leaving.Traffic.{Traffic}
 use Rattle.phases.specs.Conditions.{goes_to, finds_on, is_send_to, is_taker_at, LeavesNothing}
-use Rattle.phases.specs.Traffic.{address_of, address_sent, is_even, is_even_at, AreNumbers, AreTraffic, IsTraffic}
+use Rattle.phases.specs.parts.Traffic.{address_of, address_sent, is_even, is_even_at, AreNumbers, AreTraffic, IsTraffic}
 
 -- ---- equal addresses
 

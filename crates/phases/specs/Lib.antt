@@ -3,7 +3,6 @@ pub mod Cuts
 pub mod Joining
 pub mod Conditions
 pub mod Order
-pub mod Traffic
 pub mod Rests
-pub mod Moves
 pub mod Laws
+pub mod parts

@@ -6,7 +6,7 @@ ghost use Rattle.callorder.specs.Programs.{MpiProgram, IsProgramWithin};
 ghost use Rattle.semantics.specs.Machine.{first_call};
 ghost use Rattle.phases.specs.Parts.{moved_kind, moved_call};
 ghost use Rattle.phases.specs.Rests.{calls_by, behind, IsFront, IsRest};
-ghost use Rattle.phases.specs.Moves.{IsMovedOn, StandsAt, StandFirst};
+ghost use Rattle.phases.specs.parts.Moves.{IsMovedOn, StandsAt, StandFirst};
 
 use callorder::{Call, Kind, LongProgram};
 use std::alloc::{AllocError, Global};

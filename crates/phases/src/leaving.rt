@@ -3,7 +3,7 @@
 ghost use Rattle.std.specs.Prelude.{◌≡◌, ◌↔◌, ◌≤◌, ◌<◌, ◌++◌, ◌∷◌, true, List, [], IfOk, map, length, Some};
 ghost use Rattle.std.specs.List.{list_all};
 ghost use Rattle.phases.specs.Conditions.{LeavesNothing};
-ghost use Rattle.phases.specs.Traffic.{address_of, address_taken, is_even_at, AreNumbers, AreTraffic, IsTraffic};
+ghost use Rattle.phases.specs.parts.Traffic.{address_of, address_taken, is_even_at, AreNumbers, AreTraffic, IsTraffic};
 
 use callorder::{Call, LongProgram};
 use interning::number;

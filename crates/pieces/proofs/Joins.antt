@@ -12,7 +12,8 @@ use Rattle.refutations.specs.declared.refutation.FaultyLine.{FaultyLine}
 use Rattle.refutations.proofs.Covers.{AreDerivedBetween-none}
 use Rattle.pieces.specs.declared.piece.LinesFault.{LinesFault}
 use Rattle.pieces.specs.declared.piece.LinesFault.TheVariants.{Memory, Line}
-use Rattle.pieces.specs.Pieces.{Answer, Answers, AreOfPieces, OfPart, OfPiece, first_fault, is_memory, joined, start_of}
+use Rattle.pieces.specs.parts.Pieces.{AreOfPieces, first_fault, is_memory, joined}
+use Rattle.pieces.specs.Pieces.{Answer, Answers, OfPart, OfPiece, start_of}
 
 -- one part after another
 both_parts : (f : Conjunction) (lines : List ProofLine) (mid to : ℕ) → AreDerivedBetween f lines 0 mid → AreDerivedBetween f lines mid to → AreDerivedBetween f lines 0 to

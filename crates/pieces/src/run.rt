@@ -1,7 +1,8 @@
 //! All pieces.
 
 ghost use Rattle.std.specs.Prelude.{◌≡◌, ◌≤◌, ◌<◌, IfOk, ℕ, vec_len, slice_index_or};
-ghost use Rattle.pieces.specs.Pieces.{Answers, AreOfPieces, OfPiece};
+ghost use Rattle.pieces.specs.parts.Pieces.{AreOfPieces};
+ghost use Rattle.pieces.specs.Pieces.{Answers, OfPiece};
 
 use crate::join::joined;
 use crate::piece::{LinesFault, check_piece};

@@ -5,7 +5,7 @@ use Rattle.std.specs.Option.{is_some}
 use Rattle.std.proofs.lemmas.List.{get_or-set_same, length-set}
 use Rattle.std.proofs.lemmas.Option.{slice_get-get_or, slice_get_within}
 use Rattle.plaintext.specs.Plain.{numeral}
-use Rattle.places.specs.Noting.{Notes}
+use Rattle.places.specs.parts.Noting.{Notes}
 use Rattle.places.specs.declared.entries.Entry.{Entry}
 
 abbrev nones : ℕ → List (Option Entry)

@@ -10,7 +10,7 @@ use Rattle.plaintext.specs.Plain.{numeral, text_lines}
 use Rattle.plaintext.proofs.Cuts.{no_line_of}
 use Rattle.plaintext.proofs.Numerals.{numeral_injective}
 use Rattle.places.specs.Maps.{AreOf, CanGoOn, HasLineOf, IsLineOf, IsMapFault, IsMapOf, IsRemark, MayStand, entry_line}
-use Rattle.places.specs.Noting.{HasNoPlace, IsLeft, IsTaken, IsTakenIf, Notes}
+use Rattle.places.specs.parts.Noting.{HasNoPlace, IsLeft, IsTaken, IsTakenIf, Notes}
 use Rattle.places.specs.declared.entries.Entry.{Entry}
 use Rattle.places.specs.declared.map.MapFault.TheVariants as faults
 use Rattle.places.proofs.Digits.{no_digit, same_digits}

@@ -1,5 +1,5 @@
 pub mod Maps
 pub mod Marks
-pub mod Noting
 pub mod Sources
 pub mod Woven
+pub mod parts

@@ -11,7 +11,7 @@ use Rattle.clauses.specs.Clauses.{Literal, Conjunction, rises}
 use Rattle.refutations.specs.Propagation.{PartialValues, assign}
 use Rattle.refutations.specs.Derivations.{clauses_before, clause_numbered, Propagates, Derives}
 use Rattle.refutations.specs.Proofs.{ProofLine, is_number, are_numbers}
-use Rattle.pool.specs.Batches.{capped_hint}
+use Rattle.pool.specs.parts.Batches.{capped_hint}
 use Rattle.pool.specs.Replies.{resolved, resolved_hint}
 
 pub number_parts : (n : ℕ) → is_number n ≡ true → (1 ≤ n) × (n ≤ 2147483647)

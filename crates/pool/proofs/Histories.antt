@@ -6,7 +6,7 @@ use Rattle.callorder.specs.Programs.{MpiProgram}
 use Rattle.refutations.specs.BinaryTrees.{preorder}
 use Rattle.refutations.specs.Proofs.{ProofLine}
 use Rattle.refutations.proofs.Covers.{accepted-refute}
-use Rattle.trees.specs.Preorders.{tree_below}
+use Rattle.trees.specs.parts.Preorders.{tree_below}
 use Rattle.trees.proofs.Splits.{one_leaf_for_each}
 use Rattle.trees.proofs.Written.{root_hangs}
 use Rattle.pool.specs.declared.entry.Operation.{Operation}

@@ -12,7 +12,7 @@ use Rattle.refutations.specs.declared.batch.Hint.{Hint}
 use Rattle.refutations.specs.declared.batch.Hint.TheVariants.{Known, Own}
 use Rattle.clauses.specs.Clauses.{Conjunction}
 use Rattle.refutations.specs.Proofs.{ProofLine, is_number, are_numbers}
-use Rattle.pool.specs.Batches.{capped_move}
+use Rattle.pool.specs.parts.Batches.{capped_move}
 use Rattle.pool.specs.Moves.{is_earlier, are_earlier, moved_hint, moved_line}
 use Rattle.pool.specs.Replies.{resolved_hint, resolved_lines, DeriveAfter}
 use Rattle.pool.proofs.Hints.{number_parts, derived_numbers}

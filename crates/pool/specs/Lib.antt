@@ -1,13 +1,12 @@
-pub mod Batches
 pub mod Calls
 pub mod Counts
 pub mod Evidence
 pub mod Growth
 pub mod Laws
-pub mod Ledgers
 pub mod Moves
 pub mod Reasons
 pub mod Refusals
 pub mod Replies
 pub mod Runs
 pub mod States
+pub mod parts

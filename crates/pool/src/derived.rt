@@ -3,7 +3,7 @@
 ghost use Rattle.std.specs.Prelude.{◌≡◌, IsTrue, map};
 ghost use Rattle.std.specs.List.{list_all};
 ghost use Rattle.refutations.specs.Proofs.{are_numbers};
-ghost use Rattle.pool.specs.Batches.{capped_move};
+ghost use Rattle.pool.specs.parts.Batches.{capped_move};
 ghost use Rattle.pool.specs.Moves.{moved_hint, moved_line};
 
 use refutations::Line;

@@ -4,7 +4,7 @@ ghost use Rattle.std.specs.Prelude.{◌≡◌, ◌+◌, ◌++◌, ◌≤◌, IfE
 ghost use Rattle.refutations.specs.Derivations.{Derives};
 ghost use Rattle.refutations.specs.Proofs.{are_numbers};
 ghost use Rattle.pool.specs.Replies.{resolved, resolved_hint, resolved_lines, DeriveAfter};
-ghost use Rattle.pool.specs.Batches.{capped_hint, IsStopped, IsExtended};
+ghost use Rattle.pool.specs.parts.Batches.{capped_hint, IsStopped, IsExtended};
 ghost use Rattle.pool.specs.Moves.{AreOfBatch};
 
 use crate::derived::DerivedLines;

@@ -1,7 +1,7 @@
 //! The history with the reasons to leave, and the places that are kept in both.
 
 ghost use Rattle.std.specs.Prelude.{◌≡◌, ◌+◌, ◌-◌, ◌<◌, ◌≤◌, ◌++◌, ◌∷◌, [], IsOk, IsSome, OnOk, OnErr};
-ghost use Rattle.pool.specs.Ledgers.{FitsCall, FitsReason, IsSameLedger};
+ghost use Rattle.pool.specs.parts.Ledgers.{FitsCall, FitsReason, IsSameLedger};
 ghost use Rattle.pool.specs.Reasons.{IsSmallest};
 ghost use Rattle.pool.specs.States.{with_reason};
 
@@ -21,7 +21,7 @@ pub(crate) struct Ledger {
 
 impl Model for Ledger {
     ghost use Rattle.std.specs.Prelude.{◌+◌, ◌≤◌, vec_len, vec_capacity};
-    ghost use Rattle.pool.specs.Ledgers.{LedgerState};
+    ghost use Rattle.pool.specs.parts.Ledgers.{LedgerState};
 
     ghost Value = { LedgerState };
 

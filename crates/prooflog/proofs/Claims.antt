@@ -7,7 +7,7 @@ use Rattle.prooflog.specs.declared.refutation.Version.TheVariants.{One}
 use Rattle.prooflog.specs.Steps.{step_line, schedule_line}
 use Rattle.prooflog.specs.Refutations.{ClaimedRefutation, Item, item_line, items}
 use Rattle.prooflog.specs.Grammar.{Written, as_schedule, as_refutation, refutation_line, written_lines}
-use Rattle.prooflog.specs.Reading.{opening}
+use Rattle.prooflog.specs.parts.Reading.{opening}
 use Rattle.prooflog.proofs.ProofWords.{item_line_injective, item_line_nonempty}
 use Rattle.prooflog.proofs.Fronts.{Next, next_or_end}
 use Rattle.prooflog.proofs.Exact.{kinds_differ, below_heading}

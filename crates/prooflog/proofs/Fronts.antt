@@ -14,7 +14,7 @@ use Rattle.prooflog.specs.declared.fault.EvidenceFault.TheVariants.{Memory, Synt
 use Rattle.prooflog.specs.Refutations.{IsSmall, is_depth, depths}
 use Rattle.prooflog.specs.Grammar.{Written, as_schedule, as_refutation, written_lines}
 use Rattle.prooflog.specs.Fault.{IsShaped, IsRanged, IsFew, HasShape, IsInRange, CanGoOn, IsWhy, HasEvidenceFault}
-use Rattle.prooflog.specs.Reading.{HasFaultAfter}
+use Rattle.prooflog.specs.parts.Reading.{HasFaultAfter}
 
 -- ---- values in lines
 

@@ -18,7 +18,7 @@ use Rattle.prooflog.specs.Steps.{written, step_line, IsSchedule, schedule_line}
 use Rattle.prooflog.specs.Refutations.{ClaimedRefutation, IsSmall, IsRefutation, items, item_line}
 use Rattle.prooflog.specs.Grammar.{Written, as_schedule, as_refutation, heading_line, refutation_line, written_lines, IsEvidenceText}
 use Rattle.prooflog.specs.Fault.{HasShape, IsInRange, CanGoOn, HasEvidenceFault}
-use Rattle.prooflog.specs.Reading.{words_of, counts_words, opening, HasFaultAfter}
+use Rattle.prooflog.specs.parts.Reading.{words_of, counts_words, opening, HasFaultAfter}
 use Rattle.prooflog.proofs.Fronts.{small_front, stops_syntax, stops_range, after_more, of_text}
 use Rattle.prooflog.proofs.Exact.{plain_counts, same_counts, kinds_differ, below_heading}
 

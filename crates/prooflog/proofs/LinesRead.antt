@@ -10,7 +10,7 @@ use Rattle.plaintext.proofs.FirstFaults.{heads}
 use Rattle.clauses.specs.Clauses.{Literal, rises, rises_above, is_within}
 use Rattle.refutations.specs.Proofs.{ProofLine, is_number, are_numbers}
 use Rattle.prooflog.specs.Refutations.{literal_word, proof_words, is_line_in_range}
-use Rattle.prooflog.specs.Reading.{capped, IsVariable, AreRead}
+use Rattle.prooflog.specs.parts.Reading.{capped, IsVariable, AreRead}
 use Rattle.prooflog.proofs.ProofWords.{same_literals}
 
 -- what is said of a value, where there is one

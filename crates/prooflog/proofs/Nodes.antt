@@ -18,7 +18,7 @@ use Rattle.prooflog.specs.declared.refutation.Version.{Version}
 use Rattle.prooflog.specs.Refutations.{ClaimedRefutation, Item, node_words, item_words, item_line, items, a_proof, a_node, the_tree, depths, is_depth, IsInRangeRefutation, IsSmall, waiting_after}
 use Rattle.prooflog.specs.Grammar.{Written, as_refutation, written_lines}
 use Rattle.prooflog.specs.Fault.{IsShaped, IsRanged, IsFew, CanGoOn}
-use Rattle.prooflog.specs.Reading.{words_of, capped_node, HasFaultAfter, opening, above_tree, FitsAbove}
+use Rattle.prooflog.specs.parts.Reading.{words_of, capped_node, HasFaultAfter, opening, above_tree, FitsAbove}
 use Rattle.prooflog.proofs.ProofWords.{plain_item, some_item_words, item_line_injective, item_line_nonempty}
 use Rattle.prooflog.proofs.Items.{cut_at_tree, same_nodes, next_of_nodes}
 use Rattle.prooflog.proofs.Fronts.{stops_syntax, stops_range, stops_large, small_front}

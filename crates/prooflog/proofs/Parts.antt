@@ -10,7 +10,7 @@ use Rattle.plaintext.proofs.Cuts.{text_lines_first}
 use Rattle.plaintext.proofs.Texts.{IsLine, is_line, text_joined}
 use Rattle.refutations.specs.Proofs.{ProofLine}
 use Rattle.prooflog.specs.Refutations.{item_line, item_words, a_proof, is_line_in_range}
-use Rattle.prooflog.specs.Reading.{HaveReached, AreWhole}
+use Rattle.prooflog.specs.parts.Reading.{HaveReached, AreWhole}
 use Rattle.prooflog.proofs.ProofWords.{plain_item}
 use Rattle.prooflog.proofs.ProofLines.{all_push}
 

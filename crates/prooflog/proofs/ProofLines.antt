@@ -15,7 +15,7 @@ use Rattle.prooflog.specs.declared.refutation.Version.{Version}
 use Rattle.prooflog.specs.Refutations.{ClaimedRefutation, proof_words, item_words, item_line, a_proof, a_node, the_tree, is_line_in_range, IsInRangeRefutation, IsSmall}
 use Rattle.prooflog.specs.Grammar.{as_refutation, written_lines}
 use Rattle.prooflog.specs.Fault.{IsRanged, IsFew, CanGoOn}
-use Rattle.prooflog.specs.Reading.{words_of, HasFaultAfter, opening, LinesSoFar}
+use Rattle.prooflog.specs.parts.Reading.{words_of, HasFaultAfter, opening, LinesSoFar}
 use Rattle.prooflog.proofs.ProofWords.{plain_item, some_item_words, item_line_injective, item_line_nonempty}
 use Rattle.prooflog.proofs.Items.{next_of_lines, tree_missing}
 use Rattle.prooflog.proofs.Fronts.{stops_syntax, stops_range, stops_large, small_front}

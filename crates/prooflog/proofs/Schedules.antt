@@ -19,7 +19,7 @@ use Rattle.prooflog.specs.Steps.{written, step_words, step_line, IsStepInRange, 
 use Rattle.prooflog.specs.Refutations.{item_line, items}
 use Rattle.prooflog.specs.Grammar.{Written, as_schedule, as_refutation, heading_line, refutation_line, written_lines, IsEvidenceText}
 use Rattle.prooflog.specs.Fault.{IsRanged, IsFew, CanGoOn}
-use Rattle.prooflog.specs.Reading.{HasFaultAfter}
+use Rattle.prooflog.specs.parts.Reading.{HasFaultAfter}
 use Rattle.prooflog.proofs.StepLines.{step_line_injective, step_line_nonempty}
 use Rattle.prooflog.proofs.Fronts.{Next, next_or_end, stops_syntax, stops_range, stops_large}
 use Rattle.prooflog.proofs.Exact.{kinds_differ, below_heading}

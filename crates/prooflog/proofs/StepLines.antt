@@ -12,7 +12,8 @@ use Rattle.plaintext.proofs.FirstFaults.{heads}
 use Rattle.prooflog.specs.declared.step.WrittenStep.{WrittenStep}
 use Rattle.prooflog.specs.declared.step.WrittenStep.TheVariants.{Issue, Match, See}
 use Rattle.prooflog.specs.Steps.{buffered_words, step_words, step_line, IsStepInRange, AreCallsInRange}
-use Rattle.prooflog.specs.Reading.{words_of, capped, capped_step, find_word, find_step}
+use Rattle.prooflog.specs.parts.Reading.{words_of, capped, capped_step}
+use Rattle.prooflog.specs.Reading.{find_word, find_step}
 
 -- ---- one line
 

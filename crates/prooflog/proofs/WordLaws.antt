@@ -5,7 +5,7 @@ use Rattle.std.proofs.lemmas.List.Splits.{join_with_byte-slice_split, length-sli
 use Rattle.plaintext.specs.Plain.{IsPlain, numeral}
 use Rattle.plaintext.proofs.Numerals.{IsPlain-numeral}
 use Rattle.plaintext.proofs.Cuts.{parts_joined}
-use Rattle.prooflog.specs.Reading.{words_of}
+use Rattle.prooflog.specs.parts.Reading.{words_of}
 
 -- a line of one word is that word
 pub only_word : (word line : List ℕ) → word ∷ [] ≡ words_of line → word ≡ line

@@ -9,7 +9,7 @@ use Rattle.plaintext.proofs.Ascii.{all_append}
 use Rattle.plaintext.proofs.FirstFaults.{heads}
 use Rattle.clauses.specs.Clauses.{Literal}
 use Rattle.prooflog.specs.Refutations.{literal_word}
-use Rattle.prooflog.specs.Reading.{words_after, capped, IsVariable, IsReadLiteral, AreRead}
+use Rattle.prooflog.specs.parts.Reading.{words_after, capped, IsVariable, IsReadLiteral, AreRead}
 use Rattle.prooflog.proofs.ProofWords.{no_colon}
 
 -- how many bytes are left, and one more where there are words

@@ -15,7 +15,7 @@ use Rattle.prooflog.specs.declared.refutation.Version.TheVariants.{One, Two}
 use Rattle.prooflog.specs.Refutations.{ClaimedRefutation, a_proof, the_tree, a_node, literal_word, item_line, items, IsRefutation}
 use Rattle.refutations.specs.declared.tree.Node.{Node}
 use Rattle.prooflog.specs.Grammar.{heading_line, refutation_line, IsEvidenceText}
-use Rattle.prooflog.specs.Portions.{front_text, lines_text, tree_text}
+use Rattle.prooflog.specs.parts.Portions.{front_text, lines_text, tree_text}
 
 -- ---- words
 

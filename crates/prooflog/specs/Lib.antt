@@ -6,4 +6,4 @@ pub mod Reading
 pub mod Depths
 pub mod FormulaText
 pub mod Trims
-pub mod Portions
+pub mod parts

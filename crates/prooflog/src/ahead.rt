@@ -1,7 +1,7 @@
 //! Proof lines that are read ahead of the others, in parts, each in a thread of its own.
 
 ghost use Rattle.std.specs.Prelude.{◌≡◌, ◌+◌, ◌≤◌, IfSome, IfOk, length};
-ghost use Rattle.prooflog.specs.Reading.{AreWhole, IsPart, AreParts, LinesSoFar, HaveReached};
+ghost use Rattle.prooflog.specs.parts.Reading.{AreWhole, IsPart, AreParts, LinesSoFar, HaveReached};
 
 use crate::proof_line::proof_line_of;
 use crate::refutation::{MOST_LINES, MOST_NODES};

@@ -3,7 +3,7 @@
 ghost use Rattle.std.specs.Prelude.{◌≡◌, ◌≢◌, ◌++◌, IfNone, IfSome, OnOk};
 ghost use Rattle.refutations.specs.declared.tree.Node.{Node};
 ghost use Rattle.prooflog.specs.Refutations.{node_words, item_line, a_node};
-ghost use Rattle.prooflog.specs.Reading.{words_of, capped_node};
+ghost use Rattle.prooflog.specs.parts.Reading.{words_of, capped_node};
 
 use crate::words::cut_word;
 use plaintext::{is_word, number_of, put_number};

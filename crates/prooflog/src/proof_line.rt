@@ -5,7 +5,7 @@ ghost use Rattle.std.specs.Option.{option_copied};
 ghost use Rattle.plaintext.specs.Plain.{numeral};
 ghost use Rattle.clauses.specs.Clauses.{Literal};
 ghost use Rattle.prooflog.specs.Refutations.{literal_word, proof_words, is_line_in_range};
-ghost use Rattle.prooflog.specs.Reading.{words_of, words_after, capped, IsReadLiteral, AreRead, IsUnread};
+ghost use Rattle.prooflog.specs.parts.Reading.{words_of, words_after, capped, IsReadLiteral, AreRead, IsUnread};
 ghost use Rattle.prooflog.specs.declared.proof_line.Unread.TheVariants.{Memory as NoMemory};
 
 use crate::words::cut_word;

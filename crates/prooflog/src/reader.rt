@@ -6,7 +6,7 @@ ghost use Rattle.prooflog.specs.Steps.{IsSchedule, written, step_line, schedule_
 ghost use Rattle.prooflog.specs.Grammar.{IsEvidenceText, heading_line};
 ghost use Rattle.prooflog.specs.declared.refutation.Version.TheVariants.{One};
 ghost use Rattle.prooflog.specs.Fault.{HasEvidenceFault};
-ghost use Rattle.prooflog.specs.Reading.{HasFaultAfter, IsOpened, LinesSoFar};
+ghost use Rattle.prooflog.specs.parts.Reading.{HasFaultAfter, IsOpened, LinesSoFar};
 
 use crate::ahead::{Ahead, lines_ahead, no_lines};
 use crate::evidence::Evidence;

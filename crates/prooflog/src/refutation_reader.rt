@@ -6,7 +6,7 @@ ghost use Rattle.plaintext.specs.Plain.{text_lines};
 ghost use Rattle.plaintext.specs.Fronts.{to_end};
 ghost use Rattle.refutations.specs.Proofs.{ProofLine, is_tree, are_numbered};
 ghost use Rattle.prooflog.specs.Refutations.{item_line, items, a_proof, a_node, the_tree, is_line_in_range, IsSmall, IsRefutation};
-ghost use Rattle.prooflog.specs.Reading.{words_of, capped, counts_words, opening, above_tree, FitsAbove, HasFaultAfter, LinesSoFar};
+ghost use Rattle.prooflog.specs.parts.Reading.{words_of, capped, counts_words, opening, above_tree, FitsAbove, HasFaultAfter, LinesSoFar};
 
 use crate::ahead::Ahead;
 use crate::fault::EvidenceFault;

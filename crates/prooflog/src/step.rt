@@ -4,7 +4,8 @@ ghost use Rattle.std.specs.Prelude.{◌≡◌, ◌≢◌, ◌↔◌, ◌+◌, �
 ghost use Rattle.std.specs.Option.{option_copied};
 ghost use Rattle.prooflog.specs.declared.step.WrittenStep.{WrittenStep};
 ghost use Rattle.prooflog.specs.Steps.{step_words, step_line, buffered_words, IsStepInRange, AreCallsInRange, written};
-ghost use Rattle.prooflog.specs.Reading.{words_of, words_after, capped_step, find_word, find_step};
+ghost use Rattle.prooflog.specs.parts.Reading.{words_of, words_after, capped_step};
+ghost use Rattle.prooflog.specs.Reading.{find_word, find_step};
 
 use crate::words::cut_word;
 use plaintext::{is_word, number_of, put_number};

@@ -2,7 +2,7 @@
 
 ghost use Rattle.std.specs.Prelude.{◌≡◌, ◌≢◌, ◌∷◌, [], ℕ, List, IsTrue, IfNone, IfSome, ◌<◌, length};
 ghost use Rattle.std.specs.Option.{option_copied};
-ghost use Rattle.prooflog.specs.Reading.{words_of, words_after};
+ghost use Rattle.prooflog.specs.parts.Reading.{words_of, words_after};
 
 /// The first word, and what follows the space after it; nothing where no space follows.
 pub fn cut_word(line: &[u8]) -> (&[u8], Option<&[u8]>)

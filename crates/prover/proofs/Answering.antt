@@ -21,7 +21,7 @@ use Rattle.prover.specs.declared.answer.Answer.{Answer}
 use Rattle.prover.specs.declared.answer.Answer.TheVariants as answers
 use Rattle.prover.specs.Answers.{CanFinish, FinishesIfUnknown}
 use Rattle.encode.specs.Encodings.{EncodedProgram}
-use Rattle.prover.specs.Searches.{HasFinishedRun, IsEvidenceOn, IsFormulaOf, IsOver}
+use Rattle.prover.specs.parts.Searches.{HasFinishedRun, IsEvidenceOn, IsFormulaOf, IsOver}
 
 -- the text of a refutation of the program's formula, and what it says
 pub refuted : (text evidence : List ℕ) (p : MpiProgram) (claim : ClaimedRefutation) → IsTextOf text p → IsEvidenceText evidence (Refutation claim) → IsRefutedBy p claim

@@ -20,7 +20,7 @@ use Rattle.semantics.specs.StuckParts.{NoIssue}
 use Rattle.semantics.proofs.Lengths.{runs_are_short}
 use Rattle.semantics.proofs.Runs.{after_all-push, IsRun-push, IsRun-at}
 use Rattle.run_laws.specs.Places.{find_step}
-use Rattle.prover.specs.Walks.{IsWalk, NothingButSees, NothingEnabled, NoFindBy, NoIssueOf, finds, is_other, is_open_send, is_open_send_call, is_open_finder, is_open_finder_call}
+use Rattle.prover.specs.parts.Walks.{IsWalk, NothingButSees, NothingEnabled, NoFindBy, NoIssueOf, finds, is_other, is_open_send, is_open_send_call, is_open_finder, is_open_finder_call}
 use Rattle.prover.proofs.Elements.{contains_below}
 
 pub now_more : (m : Configuration) (steps next : List Step) (step : Step) (s t : Configuration) → s ≡ after_all m steps → t ≡ after s step → next ≡ steps ++ step ∷ [] → t ≡ after_all m next

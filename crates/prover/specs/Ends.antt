@@ -1,7 +1,7 @@
 -- How walks of a program ended.
 use Rattle.std.specs.Prelude.{IsTrue}
 use Rattle.callorder.specs.Programs.{MpiProgram}
-use Rattle.prover.specs.Searches.{HasFinishedRun, HasStuckRun}
+use Rattle.prover.specs.parts.Searches.{HasFinishedRun, HasStuckRun}
 use Rattle.prover.specs.declared.ends.WalkEnds.{WalkEnds}
 
 -- where some walk is told to have ended stuck, or finished, there is such a run

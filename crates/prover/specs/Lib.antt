@@ -1,4 +1,3 @@
 pub mod Answers
 pub mod Ends
-pub mod Searches
-pub mod Walks
+pub mod parts

@@ -2,7 +2,7 @@
 
 ghost use Rattle.std.specs.Prelude.{◌↔◌, IfNone, IfOk, IfSome, IsTrue};
 ghost use Rattle.semantics.specs.Machine.{IsFinishedRun, IsStuckRun};
-ghost use Rattle.prover.specs.Searches.{HasFinishedRun};
+ghost use Rattle.prover.specs.parts.Searches.{HasFinishedRun};
 
 use crate::manner::{CHANCES, CHANCES_BEHIND, by_chance, manner_at, manners, unbuffered};
 use crate::walk::{walk, walk_along};

@@ -7,7 +7,7 @@ ghost use Rattle.checker.specs.Verdicts.{HasFormula};
 ghost use Rattle.prover.specs.Answers.{Answers, FinishesIfUnknown, HasNoFormulaText};
 ghost use Rattle.formula.specs.Numbering.{formula_of};
 ghost use Rattle.pool.specs.Evidence.{IsUndecided};
-ghost use Rattle.prover.specs.Searches.{HasFinishedRun, IsEvidenceOn, IsOver, IsUnknownFor, unnoted};
+ghost use Rattle.prover.specs.parts.Searches.{HasFinishedRun, IsEvidenceOn, IsOver, IsUnknownFor, unnoted};
 
 use crate::answer::Answer;
 use crate::explore::stuck_walk;

@@ -4,7 +4,7 @@ ghost use Rattle.std.specs.Prelude.{◌≡◌, ◌<◌, ◌≤◌, [], IfOk, len
 ghost use Rattle.steal.specs.Deques.{AreDealt, deques_of};
 ghost use Rattle.crossbeam_utils.specs.Seq.{cell_view};
 ghost use Rattle.sharedpool.specs.Views.{knower};
-ghost use Rattle.prover.specs.Searches.{smallest_with};
+ghost use Rattle.prover.specs.parts.Searches.{smallest_with};
 
 use cubes::{CubeFault, split};
 use encode::Encoded;

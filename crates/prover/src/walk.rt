@@ -4,7 +4,7 @@ ghost use Rattle.std.specs.Prelude.{◌≡◌, ℕ, Contains, IfSome, IfNone, If
 ghost use Rattle.std.specs.List.{range_with_len};
 ghost use Rattle.semantics.specs.Machine.{IsConfigurationOf, IsEnabled};
 ghost use Rattle.run_laws.specs.Places.{find_step};
-ghost use Rattle.prover.specs.Walks.{IsWalk, NothingButSees, NothingEnabled, NoFindBy, NoIssueOf, finds, is_open_finder, is_open_send, is_other};
+ghost use Rattle.prover.specs.parts.Walks.{IsWalk, NothingButSees, NothingEnabled, NoFindBy, NoIssueOf, finds, is_open_finder, is_open_send, is_other};
 
 use crate::manner::{Manner, next_chance};
 use callorder::{Kind, LongProgram};

@@ -1,10 +1,9 @@
 pub mod BinaryTrees
 pub mod Derivations
-pub mod LineFaults
 pub mod Marks
 pub mod Proofs
 pub mod Propagation
 pub mod Refutations
 pub mod Tables
-pub mod TreeFaults
 pub mod Trees
+pub mod parts

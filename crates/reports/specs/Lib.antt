@@ -2,7 +2,7 @@ pub mod Explanations
 pub mod Exports
 pub mod Sizes
 pub mod Trimming
-pub mod Numbers
 pub mod FormulaTexts
 pub mod Replays
 pub mod Telling
+pub mod parts

@@ -2,7 +2,7 @@
 
 ghost use Rattle.std.specs.Prelude.{◌≡◌, ◌++◌, IfOk, OnOk, codes};
 ghost use Rattle.reports.specs.Explanations.{choice_lines, claim_lines, count_line, counts_text, leaves, marks_of, open_line, size_lines, sizes_text, wildcard_line};
-ghost use Rattle.reports.specs.Numbers.{AreTold, IsTold, line_of, lines_of, marked_text, texts_of};
+ghost use Rattle.reports.specs.parts.Numbers.{AreTold, IsTold, line_of, lines_of, marked_text, texts_of};
 ghost use Rattle.reports.specs.Sizes.{choices};
 
 use crate::sizes::{choices, messages, open_sends, wildcards};

@@ -3,7 +3,7 @@
 ghost use Rattle.std.specs.Prelude.{IfOk, IfErr};
 ghost use Rattle.prover.specs.Answers.{HasNoFormulaText};
 ghost use Rattle.reports.specs.FormulaTexts.{HasDimacsText, HasFormulaText};
-ghost use Rattle.prover.specs.Searches.{IsFormulaOf};
+ghost use Rattle.prover.specs.parts.Searches.{IsFormulaOf};
 
 use checker::{Reason, formula_of, program_of};
 use encode::Encoded;

@@ -12,7 +12,7 @@ use Rattle.callorder.specs.Calls.{message_of, pattern_of, is_probe_kind}
 use Rattle.phases.specs.Order.{Envelope, is_addressed, sends_with, is_number, is_named, takes_with}
 use Rattle.sealing.specs.declared.sides.Side.{Side}
 use Rattle.sealing.specs.declared.sides.Wanted.{Wanted}
-use Rattle.sealing.specs.Sides.{wanted_found, wanted_of, side_named, side_taken, side_sent, side_of, envelope_of, acts_for}
+use Rattle.sealing.specs.parts.Sides.{wanted_found, wanted_of, side_named, side_taken, side_sent, side_of, envelope_of, acts_for}
 
 -- ---- what a test tells of a call
 

@@ -13,7 +13,7 @@ use Rattle.callorder.specs.declared.calls.Call.{Call}
 use Rattle.sealing.specs.declared.sides.Side.{Side}
 use Rattle.sealing.specs.declared.sides.Wanted.{Wanted}
 use Rattle.sealing.specs.declared.occurrences.Occurrence.{Occurrence}
-use Rattle.sealing.specs.Sides.{wanted_of, side_of, acts_for, same_side, same_wanted, same_occurrence, occurrence_behind, occurrence_there, occurrence_at, AreCounts, AreOccurrences, ArePlaces, IsAsked, AreAsked}
+use Rattle.sealing.specs.parts.Sides.{wanted_of, side_of, acts_for, same_side, same_wanted, same_occurrence, occurrence_behind, occurrence_there, occurrence_at, AreCounts, AreOccurrences, ArePlaces, IsAsked, AreAsked}
 use Rattle.sealing.proofs.Acts.{acts_so, side_is, side_with}
 
 -- ---- equal sides, and equal occurrences

@@ -22,8 +22,8 @@ use Rattle.sealing.specs.declared.ends.Findings.{Findings}
 use Rattle.sealing.specs.declared.finders.Finder.{Finder}
 use Rattle.sealing.specs.Sure.{HasSurePartners}
 use Rattle.sealing.specs.Loose.{IsOfAnySource, IsUntold, IsLoose, AreLoose}
-use Rattle.sealing.specs.Sides.{HasAllSure}
-use Rattle.sealing.specs.Ends.{IsLastCall, AreLasts, AreFindings, tells_end, tells_finish, finder_with, finder_there, finder_at, sent_to, Lists, IsUntoldBelow, Adds, IsLooseBelow, AreLooseBelow}
+use Rattle.sealing.specs.parts.Sides.{HasAllSure}
+use Rattle.sealing.specs.parts.Ends.{IsLastCall, AreLasts, AreFindings, tells_end, tells_finish, finder_with, finder_there, finder_at, sent_to, Lists, IsUntoldBelow, Adds, IsLooseBelow, AreLooseBelow}
 use Rattle.sealing.proofs.More.{or_both, return_more, justified_more}
 use Rattle.sealing.proofs.Numbered.{unless}
 

@@ -2,5 +2,4 @@ pub mod Sealing
 pub mod Sure
 pub mod Loose
 pub mod Laws
-pub mod Sides
-pub mod Ends
+pub mod parts

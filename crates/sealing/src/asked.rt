@@ -2,7 +2,7 @@
 
 ghost use Rattle.std.specs.Prelude.{◌≡◌, IfOk, length};
 ghost use Rattle.std.specs.HashSet.{contains};
-ghost use Rattle.sealing.specs.Sides.{is_exact, same_wanted, AreAsked};
+ghost use Rattle.sealing.specs.parts.Sides.{is_exact, same_wanted, AreAsked};
 
 use crate::sides::{Side, Wanted, wanted_of};
 use callorder::Call;

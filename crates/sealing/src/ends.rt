@@ -3,7 +3,7 @@
 ghost use Rattle.std.specs.Prelude.{◌≡◌, IfOk, OnOk};
 ghost use Rattle.knowledge.specs.Knowledge.{column_table, with_partners};
 ghost use Rattle.sealing.specs.Loose.{AreLoose};
-ghost use Rattle.sealing.specs.Ends.{tells_end, tells_finish, Adds, AddsLoose, AreFindings, IsUntoldBelow};
+ghost use Rattle.sealing.specs.parts.Ends.{tells_end, tells_finish, Adds, AddsLoose, AreFindings, IsUntoldBelow};
 
 use crate::finders::{Finder, finder_at};
 use crate::lasts::last_calls;

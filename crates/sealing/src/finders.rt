@@ -1,7 +1,7 @@
 //! Finders of any source.
 
 ghost use Rattle.std.specs.Prelude.{◌≡◌};
-ghost use Rattle.sealing.specs.Ends.{finder_at};
+ghost use Rattle.sealing.specs.parts.Ends.{finder_at};
 
 use callorder::LongProgram;
 

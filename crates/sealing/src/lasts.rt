@@ -1,7 +1,7 @@
 //! The last call of each rank.
 
 ghost use Rattle.std.specs.Prelude.{◌≡◌, IfOk, Some, map};
-ghost use Rattle.sealing.specs.Ends.{AreLasts};
+ghost use Rattle.sealing.specs.parts.Ends.{AreLasts};
 
 use callorder::LongProgram;
 use interning::last_places;

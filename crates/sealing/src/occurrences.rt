@@ -4,7 +4,7 @@ ghost use Rattle.std.specs.Prelude.{◌≡◌, ◌<◌, ◌≤◌, IfOk, length}
 ghost use Rattle.std.specs.HashMap.{get};
 ghost use Rattle.std.specs.Option.{unwrap_or};
 ghost use Rattle.sealing.specs.declared.sides.Side.{Side};
-ghost use Rattle.sealing.specs.Sides.{same_side, same_occurrence, CountsOneMore, IsCounted, AreOccurrences, ArePlaces};
+ghost use Rattle.sealing.specs.parts.Sides.{same_side, same_occurrence, CountsOneMore, IsCounted, AreOccurrences, ArePlaces};
 
 use crate::sides::{Side, side_of};
 use callorder::Call;

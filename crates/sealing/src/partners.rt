@@ -5,7 +5,7 @@ ghost use Rattle.std.specs.HashMap.{get};
 ghost use Rattle.std.specs.HashSet.{contains};
 ghost use Rattle.knowledge.specs.Knowledge.{with_partners};
 ghost use Rattle.sealing.specs.Sure.{HasSurePartners};
-ghost use Rattle.sealing.specs.Sides.{opposite, partner_in, same_occurrence, same_wanted, HasAllSure};
+ghost use Rattle.sealing.specs.parts.Sides.{opposite, partner_in, same_occurrence, same_wanted, HasAllSure};
 
 use crate::asked::{asked_by, is_exact};
 use crate::occurrences::{Occurrence, occurrences_of, places_of};

@@ -1,7 +1,7 @@
 //! Who sends messages with an envelope, and who takes them.
 
 ghost use Rattle.std.specs.Prelude.{◌≡◌, Some};
-ghost use Rattle.sealing.specs.Sides.{wanted_of, side_of, side_taken};
+ghost use Rattle.sealing.specs.parts.Sides.{wanted_of, side_of, side_taken};
 
 use callorder::Call;
 

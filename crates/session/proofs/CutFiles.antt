@@ -5,7 +5,8 @@ use Rattle.std.proofs.lemmas.Bool.{cases_lt}
 use Rattle.std.proofs.lemmas.Option.{same_Some, slice_get-map, slice_get_read, slice_get_within}
 use Rattle.std.proofs.lemmas.List.{length-map}
 use Rattle.files.specs.Contents.{KeepsOthers}
-use Rattle.session.specs.Phasing.{AreApart, ChangesThese, FileText, Hold, files_of}
+use Rattle.session.specs.parts.Phasing.{AreApart, files_of}
+use Rattle.session.specs.Phasing.{ChangesThese, FileText, Hold}
 use Rattle.session.specs.declared.cut_files.Output.{Output}
 
 -- each of the first files has its text

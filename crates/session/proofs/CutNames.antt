@@ -5,7 +5,8 @@ use Rattle.std.proofs.lemmas.Fmt.{decimal_injective, first_decimal}
 use Rattle.std.proofs.lemmas.List.{append_cancel_left, append_cancel_right, length-replicate}
 use Rattle.std.proofs.lemmas.Option.{same_Some}
 use Rattle.callorder.proofs.Lookups.{slice_get_of_append}
-use Rattle.session.specs.Phasing.{AreApart, ChangesThese, ChangesWithin, Cut, FileText, Hold, Part, cut_files, file_name, job_lines, order_lines, path_in, text_files, text_path}
+use Rattle.session.specs.parts.Phasing.{AreApart}
+use Rattle.session.specs.Phasing.{ChangesThese, ChangesWithin, Cut, FileText, Hold, Part, cut_files, file_name, job_lines, order_lines, path_in, text_files, text_path}
 
 -- ---- names
 

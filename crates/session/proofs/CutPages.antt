@@ -15,7 +15,8 @@ use Rattle.deciding.specs.declared.decision.Decision.TheVariants as decisions
 use Rattle.deciding.specs.declared.texts.Undecided.{Undecided}
 use Rattle.cutting.specs.Orders.{IsOrder}
 use Rattle.cutting.specs.declared.whole.Phases.{Phases}
-use Rattle.session.specs.Phasing.{AreApart, AreOutputs, AreTexts, ChangesThese, ChangesWithin, FileText, HaveTexts, Hold, IsCut, IsCutDecision, IsCutPage, IsPageOf, IsPart, IsWrittenCut, MakeUp, Part, cut_line, files_of, is_race, job_lines, order_lines, path_in, text_files}
+use Rattle.session.specs.parts.Phasing.{AreApart, AreOutputs, AreTexts, IsPageOf, files_of}
+use Rattle.session.specs.Phasing.{ChangesThese, ChangesWithin, FileText, HaveTexts, Hold, IsCut, IsCutDecision, IsCutPage, IsPart, IsWrittenCut, MakeUp, Part, cut_line, is_race, job_lines, order_lines, path_in, text_files}
 use Rattle.session.specs.Ties.{AreToldTies}
 use Rattle.session.specs.declared.commands.Stop.{Stop}
 use Rattle.session.specs.declared.cut_files.Outputs.{Outputs}

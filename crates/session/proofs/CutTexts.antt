@@ -5,7 +5,8 @@ use Rattle.std.specs.Global.{Vec}
 use Rattle.std.proofs.lemmas.List.{append-nil, length-map, map-append}
 use Rattle.std.proofs.lemmas.List.Sums.{count_by-le-length, sum_by-append, sum_by-cons}
 use Rattle.callorder.proofs.Lookups.{All-append}
-use Rattle.session.specs.Phasing.{AreTexts, HaveTexts, IsPart, Part, count_jobs, file_name, files_of, job_line, job_lines, path_in, text_files, text_path}
+use Rattle.session.specs.parts.Phasing.{AreTexts, files_of}
+use Rattle.session.specs.Phasing.{HaveTexts, IsPart, Part, count_jobs, file_name, job_line, job_lines, path_in, text_files, text_path}
 use Rattle.session.specs.declared.cut_files.Texts.{Texts}
 use Rattle.session.proofs.CutNames.{length-text_files}
 

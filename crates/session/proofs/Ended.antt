@@ -1,7 +1,8 @@
 -- A command ends by its page, by want of memory or by a file that failed.
 use Rattle.std.proofs.Common.{◌≡◌, IfErr, IfOk, ℕ, List, Bool, Result, Ok, Err, subst}
-use Rattle.session.specs.Pages.{StopsBy}
-use Rattle.session.specs.Runs.{Ends, Finishes, SessionRun, by_file, by_memory, by_page, on_outputs}
+use Rattle.session.specs.parts.Pages.{StopsBy}
+use Rattle.session.specs.parts.Runs.{Finishes, on_outputs}
+use Rattle.session.specs.Runs.{Ends, SessionRun, by_file, by_memory, by_page}
 use Rattle.session.specs.declared.commands.Stop.{Stop}
 use Rattle.session.specs.declared.commands.Stop.TheVariants as stop
 use Rattle.session.specs.declared.page.Page.{Page}

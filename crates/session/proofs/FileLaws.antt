@@ -3,7 +3,8 @@ use Rattle.std.proofs.Common.{◌≡◌, ◌∙◌, ◌<◌, arith, ap, inl, inr
 use Rattle.checker.specs.declared.reason.Reason.TheVariants as reasons
 use Rattle.checker.specs.declared.reason.Verdict.{Verdict}
 use Rattle.checker.specs.declared.reason.Verdict.TheVariants as verdicts
-use Rattle.session.specs.FileLaws.{ExportedAnswerIsPrinted, ExportedProofIsWritten, ExportedSafetyIsTrue, IsHandedOver, IsMapWritten, ShrunkProgramHangs, TrimmedRefutationIsWritten}
+use Rattle.session.specs.parts.FileLaws.{IsHandedOver, IsMapWritten, ShrunkProgramHangs}
+use Rattle.session.specs.FileLaws.{ExportedAnswerIsPrinted, ExportedProofIsWritten, ExportedSafetyIsTrue, TrimmedRefutationIsWritten}
 use Rattle.session.specs.Lines.{line_text, lines_words, no_deadlock_line, told_of_untrimmed, told_of_verdict, told_status}
 use Rattle.session.specs.Pages.{ChangesAtMost, IsExportedTo, IsTrimmed, IsWritten}
 use Rattle.session.specs.Runs.{PrintsAlone, SessionRun}

@@ -11,7 +11,7 @@ use Rattle.std.proofs.lemmas.Bool.{leb-true}
 use Rattle.files.specs.Contents.{AreAll, AreEnough, is_enough}
 use Rattle.files.specs.declared.extent.Extent.{Extent}
 use Rattle.files.specs.declared.extent.Extent.TheVariants.{Most, Begins}
-use Rattle.session.specs.Texts.{AreAlikeEvidences, AreAlikePrograms, IsStray, IsTooLarge, StandsFor}
+use Rattle.session.specs.parts.Texts.{AreAlikeEvidences, AreAlikePrograms, IsStray, IsTooLarge, StandsFor}
 
 -- either all was read, or enough was, and then the rest changes nothing
 module _ (AreAlike : List ℕ → List ℕ → Type 0) (extent : Extent) where

@@ -14,7 +14,7 @@ use Rattle.prooflog.specs.Grammar.{heading_line, IsEvidenceText}
 use Rattle.prooflog.specs.Fault.{HasEvidenceFault}
 use Rattle.prooflog.proofs.Headings.{first_faulty}
 use Rattle.prooflog.proofs.Exact as exact
-use Rattle.session.specs.Texts.{IsStray}
+use Rattle.session.specs.parts.Texts.{IsStray}
 
 -- each heading begins alike
 number_line : Version → List ℕ

@@ -19,7 +19,7 @@ use Rattle.reports.specs.declared.trimmed.Shortened.{Shortened}
 use Rattle.reports.specs.declared.trimmed.Untrimmed.{Untrimmed}
 use Rattle.reports.specs.declared.trimmed.Untrimmed.TheVariants as untrimmed
 use Rattle.session.specs.Pages.{HasTextOfFormula}
-use Rattle.session.specs.Texts.{AreAlikeEvidences, AreAlikePrograms, IsStray, IsTooLarge}
+use Rattle.session.specs.parts.Texts.{AreAlikeEvidences, AreAlikePrograms, IsStray, IsTooLarge}
 use Rattle.session.proofs.StrayEvidences.{fault_of_stray, no_evidence}
 use Rattle.session.proofs.WholeTexts.{large_program_reason, large_reason, no_program, none_refuted, none_refutes, none_shown, none_shows, of_both, of_evidence, of_program, stray_reason}
 

@@ -13,7 +13,7 @@ use Rattle.checker.specs.declared.reason.Reason.{Reason}
 use Rattle.checker.specs.declared.reason.Reason.TheVariants as reasons
 use Rattle.checker.specs.declared.reason.Verdict.{Verdict}
 use Rattle.checker.specs.declared.reason.Verdict.TheVariants as verdicts
-use Rattle.session.specs.Texts.{AreAlikeEvidences, AreAlikePrograms, IsStray, IsTooLarge}
+use Rattle.session.specs.parts.Texts.{AreAlikeEvidences, AreAlikePrograms, IsStray, IsTooLarge}
 use Rattle.session.proofs.StrayEvidences.{fault_of_stray, no_evidence}
 
 -- what holds of one text holds of a text that is like it

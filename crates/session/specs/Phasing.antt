@@ -1,5 +1,5 @@
 -- The pages of `phases`, `join` and `decide --phases`.
-use Rattle.std.specs.Prelude.{◌≡◌, ◌≢◌, ◌⊎◌, ℕ, ◌+◌, ◌-◌, ◌<◌, ◌≤◌, Bool, true, false, IsTrue, List, [], ◌∷◌, ◌++◌, length, map, replicate, codes, decimal, Option, Some, Result, Ok, Err, slice_get, string_bytes}
+use Rattle.std.specs.Prelude.{◌≡◌, ◌≢◌, ◌⊎◌, ℕ, ◌+◌, ◌-◌, ◌<◌, ◌≤◌, Bool, true, false, IsTrue, List, [], ◌∷◌, ◌++◌, length, map, replicate, codes, decimal, Option, Some, Result, Ok, Err, slice_get}
 use Rattle.std.specs.List.{AllByRecursion, count_by, flat_map}
 use Rattle.calltext.specs.Limits.{long}
 use Rattle.callorder.specs.Programs.{MpiProgram}
@@ -19,11 +19,6 @@ use Rattle.cutting.specs.declared.whole.Phases.{Phases}
 use Rattle.session.specs.Lines.{BeginsWith, IsLine, line_text}
 use Rattle.session.specs.Pages.{IsDecideFile, IsDecisionPage, IsProgram, IsScheduled, IsUnread, IsWritten}
 use Rattle.session.specs.Ties.{AreToldTies}
-use Rattle.session.specs.declared.by_phases.Shown.{Shown}
-use Rattle.session.specs.declared.by_phases.Shown.TheVariants as shows
-use Rattle.session.specs.declared.cut_files.Output.{Output}
-use Rattle.session.specs.declared.cut_files.Outputs.{Outputs}
-use Rattle.session.specs.declared.cut_files.Texts.{Texts}
 use Rattle.session.specs.declared.told.Outcome.TheVariants as told
 
 -- ---- what phases tell
@@ -39,11 +34,6 @@ is_race (Err why) = false
 abbrev pub IsLackingLine : Bool → List ℕ → ℕ → Type 0
 IsLackingLine json text status =
     (words : List ℕ) × BeginsWith words (codes "unknown phases") × (text ≡ line_text json words 2) × (status ≡ 2)
-
--- what phases show of the program that bytes are the text of
-abbrev pub IsShown : List ℕ → Shown → Type 0
-IsShown program shows.Never = IsNeverStuckWithin long program
-IsShown program (shows.Stuck steps) = IsStuckRunWithin long program steps.items
 
 -- Phases show that no run of the program gets stuck, and that is told; or a run that does, whose
 -- schedule is written; or what they lack is told. But for a schedule all files are as before.
@@ -70,20 +60,9 @@ IsJoinedPage tells old new path out json text status =
     (program : List ℕ) × (d : Result Decision Undecided) × AreAll (old path) program × IsDecided program d
     × IsJoinDecision tells old new out json program d text status
 
--- the file at this path is the one that is named for a schedule, and some run of the program of
--- this text gets stuck
-abbrev pub IsShownFile : Option (List ℕ) → List ℕ → List ℕ → Type 0
-IsShownFile out program path = (out ≡ Some path) × (steps : List Step) × IsStuckRunWithin long program steps
-
 -- the path of a file in a folder
 abbrev pub path_in : List ℕ → List ℕ → List ℕ
 path_in folder name = folder ++ (codes "/" ++ name)
-
--- the file that failed is told as its folder: it has the order of the phases, and no file has
--- changed; or it is the one that is named for a schedule, and there is one
-abbrev pub IsFolderFile : (List ℕ → Bool) → List ℕ → Option (List ℕ) → List ℕ → (List ℕ → Option (List ℕ)) → (List ℕ → Option (List ℕ)) → List ℕ → Type 0
-IsFolderFile reads folder out program old new path =
-    ((path ≡ folder) × IsUnread reads (path_in folder (codes "phases")) × (new ≡ old)) ⊎ IsShownFile out program path
 
 -- the file that failed is one that can fail in `decide`; or it is told as its folder: it has the
 -- order of the phases, and no file has changed
@@ -211,22 +190,6 @@ abbrev pub ChangesThese : List FileText → (List ℕ → Option (List ℕ)) →
 ChangesThese files old new =
     (path : List ℕ) → ((place : ℕ) (file : FileText) → slice_get files place ≡ Some file → path ≢ file.path) → new path ≡ old path
 
--- no two files have one path
-abbrev pub AreApart : List FileText → Type 0
-AreApart files =
-    (i j : ℕ) (a b : FileText) → i < j → slice_get files i ≡ Some a → slice_get files j ≡ Some b → a.path ≢ b.path
-
--- the files that are to be written
-abbrev pub files_of : List Output → List FileText
-files_of outputs = map (λ output. record { path = string_bytes output.path; text = output.text }) outputs
-
--- what is to be written of phases so far, each with its text
-pub record AreTexts (folder : List ℕ) (parts : List Part) (texts : Texts) : Type 0 where
-  pub all : AllByRecursion IsPart parts
-  pub files : files_of texts.files.items ≡ text_files folder 1 parts
-  pub list : string_bytes texts.list ≡ job_lines folder 1 parts
-  pub jobs : texts.jobs ≡ count_jobs parts
-
 -- of each phase there is its text, and whether it has to be proved
 abbrev pub HaveTexts : List Part → List (Vec ℕ) → Type 0
 HaveTexts parts texts = map (λ part. part.text) parts ≡ map (λ text. text.items) texts
@@ -245,21 +208,7 @@ pub record IsWhole (program : List ℕ) (cut : Cut) : Type 0 where
   pub of : IsCutOf phases cut
   pub made : MakeUp p phases
 
--- what is to be written and told is that of a cut
-pub record AreOutputs (folder : List ℕ) (given : Phases) (outputs : Outputs) : Type 0 where
-  pub cut : Cut
-  pub is : IsCut cut
-  pub of : IsCutOf given cut
-  pub files : files_of outputs.files.items ≡ cut_files folder cut
-  pub phases : outputs.phases ≡ length cut.order
-  pub different : outputs.different ≡ length cut.parts
-  pub jobs : outputs.jobs ≡ count_jobs cut.parts
-
 -- ---- the page of a cut
-
--- the page tells these numbers, and this below
-abbrev pub IsPageOf : Outputs → List ℕ → List ℕ → ℕ → Type 0
-IsPageOf outputs told text status = (text ≡ cut_line outputs.phases outputs.different outputs.jobs ++ told) × (status ≡ 0)
 
 -- the program is cut, how it is cut is told, and the files of the cut are written, as far as their
 -- set tells what is written; no other file has changed

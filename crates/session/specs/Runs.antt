@@ -1,13 +1,10 @@
 -- One run of the program, and what it prints.
-use Rattle.std.specs.Prelude.{◌≡◌, ◌⊎◌, ℕ, Bool, false, List, [], Option, None, Result, Ok, Err}
+use Rattle.std.specs.Prelude.{◌≡◌, ◌⊎◌, ℕ, Bool, List, Option}
 use Rattle.std.specs.Io.KnownBytes.{Appends}
 use Rattle.clap.specs.Words.{Text}
 use Rattle.files.specs.Contents.{AppendsPart}
 use Rattle.progress.specs.Telling.{IsTold}
 use Rattle.session.specs.Lines.{file_line, memory_line}
-use Rattle.session.specs.declared.commands.Stop.{Stop}
-use Rattle.session.specs.declared.commands.Stop.TheVariants as stop
-use Rattle.session.specs.declared.page.Page.{Page}
 use Rattle.session.specs.declared.page.Want.{Want}
 
 -- what a set of files tells: whether it tells the bytes that are written, and which files it reads
@@ -30,20 +27,6 @@ pub record SessionRun : Type 0 where
   pub errors_after : Option (List ℕ)
   pub status : ℕ
 
--- a run of which the outputs and the status alone matter, without words and files
-abbrev pub on_outputs : Option (List ℕ) → Option (List ℕ) → Option (List ℕ) → Option (List ℕ) → ℕ → SessionRun
-on_outputs out_before out_after errors_before errors_after status = record {
-  words = [];
-  tells = record { writes = false; reads = λ path. false; terminal = false };
-  before = λ path. None;
-  after = λ path. None;
-  out_before = out_before;
-  out_after = out_after;
-  errors_before = errors_before;
-  errors_after = errors_after;
-  status = status;
-}
-
 -- all of a text is printed, and the status is its own; or the output failed within the text, and
 -- the status is 5
 abbrev pub Prints : SessionRun → List ℕ → ℕ → Type 0
@@ -58,13 +41,6 @@ PrintsAlone run text own = Prints run text own × (run.errors_after ≡ run.erro
 -- status, while standard output stays as it was
 abbrev pub Complains : SessionRun → List ℕ → ℕ → Type 0
 Complains run text own = (run.status ≡ own) × (run.out_after ≡ run.out_before) × IsTold run.errors_before run.errors_after text
-
--- a page is printed; or want of memory is told, with the status 4; or which file failed is told on
--- standard error, with the status 5
-abbrev pub Finishes : SessionRun → Result Page Stop → Want → Bool → Type 0
-Finishes run (Ok page) want json = PrintsAlone run page.text.items page.status
-Finishes run (Err stop.Memory) want json = PrintsAlone run (memory_line want json) 4
-Finishes run (Err (stop.File path)) want json = Complains run (file_line path.now) 5
 
 -- the same, of any page of this kind and one of these files; where want of memory is told all files
 -- are as before

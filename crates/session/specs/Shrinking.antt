@@ -11,8 +11,6 @@ use Rattle.shrinking.specs.Left.{AreLeft}
 use Rattle.shrinking.specs.Mapping.{map_text}
 use Rattle.shrinking.specs.Told.{left_text}
 use Rattle.shrinking.specs.Shrinking.{CanHangLong, IsNotStuckLong, IsShrunk, IsShrunkLong}
-use Rattle.shrinking.specs.declared.halving.NotShrunkLong.{NotShrunkLong}
-use Rattle.shrinking.specs.declared.halving.NotShrunkLong.TheVariants as unshrunk
 use Rattle.session.specs.Explaining.{IsUndecidedPage}
 use Rattle.session.specs.Pages.{ChangesAtMost, IsProgram, IsWritten}
 use Rattle.session.specs.Unrolling.{IsNamed}
@@ -34,11 +32,6 @@ IsSmaller program smaller = (CanHang program × IsShrunk program smaller) ⊎ (I
 -- least isn't stuck
 abbrev pub IsUnhung : List ℕ → Type 0
 IsUnhung program = CanFinish program ⊎ (IsBeyond program × IsNotStuckLong program)
-
--- why there is no smaller program
-abbrev pub IsNotSmaller : List ℕ → NotShrunkLong → Type 0
-IsNotSmaller program unshrunk.NothingHangs = IsUnhung program
-IsNotSmaller program (unshrunk.Undecided why) = IsUndecided program why
 
 -- the text of the smaller program is the page; or it is written to the file that is named for it,
 -- and the page is the line that tells a deadlock, and the one that tells which lines of the given
@@ -68,12 +61,6 @@ pub record IsHandedSmaller (tells : Bool) (old new : List ℕ → Option (List �
 -- the line that tells that no run of a program that was tried ended stuck
 abbrev pub unshrunk_line : List ℕ
 unshrunk_line = codes "unknown walks\n"
-
--- why there is no smaller program is told: no run that was tried ended stuck, or the program is
--- refused
-abbrev pub IsUnshrunkPage : NotShrunkLong → List ℕ → ℕ → Type 0
-IsUnshrunkPage unshrunk.NothingHangs text status = (text ≡ unshrunk_line) × (status ≡ 2)
-IsUnshrunkPage (unshrunk.Undecided why) text status = IsUndecidedPage false why text status
 
 -- a smaller program is told, or written to the file that is named for it; or no run that was tried
 -- ended stuck, or the program is refused, and all files are as before

@@ -6,8 +6,10 @@ ghost use Rattle.semantics.specs.Headline.{IsNeverStuckWithin};
 ghost use Rattle.command_line.specs.Requests.{path_of};
 ghost use Rattle.session.specs.Endings.{IsFollowedRun};
 ghost use Rattle.session.specs.Lines.{IsLine};
-ghost use Rattle.session.specs.Pages.{ChangesAtMost, IsDecideFile, IsUnread, StopsBy};
-ghost use Rattle.session.specs.Phasing.{IsFolderFile, IsJoinFile, IsJoinedPage, IsPhasesPage, IsShown, IsShownFile, file_name, is_race, path_in};
+ghost use Rattle.session.specs.parts.Pages.{StopsBy};
+ghost use Rattle.session.specs.Pages.{ChangesAtMost, IsDecideFile, IsUnread};
+ghost use Rattle.session.specs.parts.Phasing.{IsFolderFile, IsShown, IsShownFile};
+ghost use Rattle.session.specs.Phasing.{IsJoinFile, IsJoinedPage, IsPhasesPage, file_name, is_race, path_in};
 
 use crate::commands::{Open, Stop};
 use crate::decide::{deadlock_page, decide_text, decision_page, read_whole};

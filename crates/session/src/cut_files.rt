@@ -2,8 +2,9 @@
 //! it prints.
 ghost use Rattle.std.specs.Prelude.{◌≡◌, ◌↔◌, ℕ, ◌+◌, ◌<◌, Bool, true, IsTrue, List, [], ◌∷◌, ◌++◌, length, map, Some, Err, IfErr, IfOk, OnOk, codes, decimal, slice_get, string_bytes};
 ghost use Rattle.cutting.specs.Orders.{IsOrder};
-ghost use Rattle.session.specs.Pages.{StopsBy};
-ghost use Rattle.session.specs.Phasing.{AreApart, AreOutputs, AreTexts, ChangesThese, ChangesWithin, HaveTexts, Hold, IsCutFile, IsCutPage, IsPageOf, IsPart, IsWrittenCut, Part, cut_line, files_of, order_lines, path_in};
+ghost use Rattle.session.specs.parts.Pages.{StopsBy};
+ghost use Rattle.session.specs.parts.Phasing.{AreApart, AreOutputs, AreTexts, IsPageOf, files_of};
+ghost use Rattle.session.specs.Phasing.{ChangesThese, ChangesWithin, HaveTexts, Hold, IsCutFile, IsCutPage, IsPart, IsWrittenCut, Part, cut_line, order_lines, path_in};
 
 use crate::by_phases::{file_name, is_race, path_in};
 use crate::commands::{Stop, write};
@@ -85,7 +86,8 @@ pub struct Texts {
 
 impl Texts {
     ghost use Rattle.std.specs.Prelude.{◌<◌, cond};
-    ghost use Rattle.session.specs.Phasing.{AreTexts, Part};
+    ghost use Rattle.session.specs.parts.Phasing.{AreTexts};
+    ghost use Rattle.session.specs.Phasing.{Part};
 
     /// Notes of a phase, whose file has this name, whether it has to be proved.
     fn note(&mut self, alloc: Global, folder: &str, name: &str, job: bool) -> Result<(), AllocError>

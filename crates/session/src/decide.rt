@@ -6,7 +6,8 @@ ghost use Rattle.files.specs.Contents.{AreAll};
 ghost use Rattle.command_line.specs.Requests.{path_of};
 ghost use Rattle.session.specs.Endings.{IsFollowedRun};
 ghost use Rattle.session.specs.Lines.{IsLine};
-ghost use Rattle.session.specs.Pages.{ChangesAtMost, IsDecideFile, IsDecidedPage, IsDecisionPage, IsProgram, IsRacePage, IsScheduleFile, IsScheduled, IsWritten, StopsBy};
+ghost use Rattle.session.specs.parts.Pages.{IsScheduleFile, StopsBy};
+ghost use Rattle.session.specs.Pages.{ChangesAtMost, IsDecideFile, IsDecidedPage, IsDecisionPage, IsProgram, IsRacePage, IsScheduled, IsWritten};
 
 use crate::commands::{Stop, decided_page, read};
 use crate::page::{Page, page_of};

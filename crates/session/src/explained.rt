@@ -6,7 +6,8 @@ ghost use Rattle.deciding.specs.Decisions.{Decides, IsDecided};
 ghost use Rattle.command_line.specs.Requests.{path_of};
 ghost use Rattle.reports.specs.Explanations.{IsRunDrawn, TellsSizes};
 ghost use Rattle.session.specs.Explaining.{IsAnswerPage, IsDecidedFirst, IsDecisionExplained, IsExplainFile, IsExplainPage, IsExplained, IsExplanationPage, IsFound, IsSearched, IsUndecidedPage, is_object};
-ghost use Rattle.session.specs.Pages.{IsEither, IsProgram, StopsBy};
+ghost use Rattle.session.specs.parts.Pages.{StopsBy};
+ghost use Rattle.session.specs.Pages.{IsEither, IsProgram};
 
 use crate::commands::{Open, PIECES, Stop, Texts, helped_page, is_object, read_both};
 use crate::decide::{race_page, read_whole};

@@ -1,7 +1,8 @@
 //! What follows from how a run ended. Each function does nothing: its contract is the law.
 ghost use Rattle.session.specs.AnyLaws.{PlainWordsAreAnswered, ToldDeadlockIsShown};
 ghost use Rattle.session.specs.CheckLaws.{CheckedDeadlockIsPrinted, CheckedDeadlockIsShown, CheckedSafetyIsPrinted, CheckedSafetyIsTrue, EncodedFormulaIsPrinted, ReadFilesAreNotBlamed, RefutedIsChecked, ReplayedDeadlockIsShown, ReplayedRunIsPrinted, ShownDeadlockIsChecked, ShownDeadlockIsReplayed};
-ghost use Rattle.session.specs.FileLaws.{ExportedAnswerIsPrinted, ExportedProofIsWritten, ExportedSafetyIsTrue, ShrunkProgramHangs, TrimmedRefutationIsWritten};
+ghost use Rattle.session.specs.parts.FileLaws.{ShrunkProgramHangs};
+ghost use Rattle.session.specs.FileLaws.{ExportedAnswerIsPrinted, ExportedProofIsWritten, ExportedSafetyIsTrue, TrimmedRefutationIsWritten};
 ghost use Rattle.session.specs.SweepLaws.{EachRunIsRight, UnrolledRunsAreRight};
 ghost use Rattle.session.specs.UnrollLaws.{UnrolledTextIsPrinted};
 ghost use Rattle.session.specs.PhaseLaws.{CutsAreWritten, CutsStayInFolder, PhasesAreJoined};

@@ -5,7 +5,7 @@ ghost use Rattle.places.specs.Maps.{AreFrom};
 ghost use Rattle.places.specs.Woven.{HasPlaces};
 ghost use Rattle.session.specs.Explaining.{IsExplainFile, IsExplainPage};
 ghost use Rattle.session.specs.Mapping.{IsMapRefused, IsMapped, IsMappedFile, IsPlaced, IsPlacedFile, map_words};
-ghost use Rattle.session.specs.Pages.{StopsBy};
+ghost use Rattle.session.specs.parts.Pages.{StopsBy};
 
 use crate::commands::{Stop, is_object};
 use crate::decide::read_whole;

@@ -2,7 +2,8 @@
 //! page that they print.
 ghost use Rattle.std.specs.Prelude.{◌≡◌, ◌∷◌, ◌++◌, [], IfErr, IfOk, List, OnOk, codes, map, ℕ};
 ghost use Rattle.command_line.specs.Requests.{path_of};
-ghost use Rattle.session.specs.Pages.{ChangesAtMost, IsProgram, IsWritten, StopsBy};
+ghost use Rattle.session.specs.parts.Pages.{StopsBy};
+ghost use Rattle.session.specs.Pages.{ChangesAtMost, IsProgram, IsWritten};
 ghost use Rattle.junit.specs.Report.{Case, IsOf, report_text};
 ghost use Rattle.session.specs.Sweeping.{graver};
 ghost use Rattle.session.specs.Several.{IsDecidedEach, IsDecidedIn, IsExplainedEach, IsFileOfEach, file_row, outcome_of};

@@ -1,12 +1,14 @@
 //! The command `shrink`, from the file that it names to the page that it prints.
 ghost use Rattle.std.specs.Prelude.{◌≡◌, ◌++◌, IfErr, IfOk, OnOk, codes};
 ghost use Rattle.command_line.specs.Requests.{path_of};
-ghost use Rattle.session.specs.Pages.{ChangesAtMost, IsWritten, StopsBy};
+ghost use Rattle.session.specs.parts.Pages.{StopsBy};
+ghost use Rattle.session.specs.Pages.{ChangesAtMost, IsWritten};
 ghost use Rattle.session.specs.Unrolling.{ChangesAtMostTwo, IsFileOf, IsNamed};
 ghost use Rattle.shrinking.specs.Left.{AreLeft};
 ghost use Rattle.shrinking.specs.Mapping.{map_text};
 ghost use Rattle.shrinking.specs.Told.{left_text};
-ghost use Rattle.session.specs.Shrinking.{AreWritten, IsBeyond, IsMadeSmaller, IsNotSmaller, IsShrinkFile, IsSmaller, IsSmallerPage, IsUnshrunkPage};
+ghost use Rattle.session.specs.parts.Shrinking.{IsNotSmaller, IsUnshrunkPage};
+ghost use Rattle.session.specs.Shrinking.{AreWritten, IsBeyond, IsMadeSmaller, IsShrinkFile, IsSmaller, IsSmallerPage};
 
 use crate::commands::{Stop, write};
 use crate::decide::read_whole;

@@ -4,7 +4,8 @@ ghost use Rattle.std.specs.Prelude.{◌≡◌, ◌≤◌, ◌++◌, ◌||◌, If
 ghost use Rattle.command_line.specs.Requests.{path_of};
 ghost use Rattle.places.specs.Woven.{HasPlaces};
 ghost use Rattle.session.specs.Explaining.{is_object};
-ghost use Rattle.session.specs.Pages.{IsProgram, StopsBy};
+ghost use Rattle.session.specs.parts.Pages.{StopsBy};
+ghost use Rattle.session.specs.Pages.{IsProgram};
 ghost use Rattle.session.specs.Sweeping.{IsDecidedFor, IsDecidedUnrolled, IsExplainedFor, IsExplainedUnrolled, IsPageFor, IsRanked, IsTable, IsUnranked, beside_ranks, form_of_answer, graver, gravity, no_ranks, refused_line, row_text};
 
 use crate::commands::{Stop, is_object};

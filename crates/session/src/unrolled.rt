@@ -1,7 +1,8 @@
 //! The command `unroll`, from the file that it names to the page that it prints.
 ghost use Rattle.std.specs.Prelude.{◌≡◌, IfErr, IfOk, List, OnOk, is_some, map, option_map, ℕ};
 ghost use Rattle.command_line.specs.Requests.{path_of};
-ghost use Rattle.session.specs.Pages.{ChangesAtMost, IsWritten, StopsBy};
+ghost use Rattle.session.specs.parts.Pages.{StopsBy};
+ghost use Rattle.session.specs.Pages.{ChangesAtMost, IsWritten};
 ghost use Rattle.session.specs.Unrolling.{AreWritten, ChangesAtMostTwo, IsFileOf, IsNamed, IsProgramPage, IsUnrollFile, IsUnrolledPage, barriers_in, refused_text};
 ghost use Rattle.spmd_program.specs.Unrolling.{IsMapWanted};
 

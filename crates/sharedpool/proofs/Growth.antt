@@ -27,7 +27,8 @@ use Rattle.pool.proofs.Growth.{grows, grows_once, same_program, same_formula, lo
 use Rattle.pool.proofs.Histories.{stay_sound}
 use Rattle.sharedpool.specs.Laws.{NothingSeenIsLost}
 use Rattle.sharedpool.specs.Views.{items_of}
-use Rattle.sharedpool.specs.Seats.{Token, Chair, IsSeat, IsLocked, AreNoted, HoldsAt, AllHeld, HoldsOver, IsRefusedOver}
+use Rattle.sharedpool.specs.parts.Seats.{Token, IsSeat, IsLocked, AreNoted}
+use Rattle.sharedpool.specs.Seats.{Chair, HoldsAt, AllHeld, HoldsOver, IsRefusedOver}
 use Rattle.sharedpool.proofs.Legal.{chair, holds_over}
 
 held_now : (h : PoolState) (deed : Operation) (lines more log : List ProofLine) (steps : List Step) → IsReply h deed lines steps → log ≡ (after_deed h deed lines steps).log ++ more → HoldsAt h.formula log deed lines

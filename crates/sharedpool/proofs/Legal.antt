@@ -10,9 +10,11 @@ use Rattle.pool.specs.declared.entry.LoggedCall.{LoggedCall}
 use Rattle.pool.specs.Calls.{after_call}
 use Rattle.pool.specs.States.{PoolState, PoolWithHistory, after, after_all, noted, with_places, IsStep, IsRun, IsLegal}
 use Rattle.sharedpool.specs.declared.room.View.{View}
-use Rattle.sharedpool.specs.Leaves.{leavers}
-use Rattle.sharedpool.specs.Views.{knower, taker, sitting, items_of}
-use Rattle.sharedpool.specs.Seats.{Token, Chair, Shared, IsSeat, IsLocked, AreReady, AreMatched, AreNoted, HoldsOver, told}
+use Rattle.sharedpool.specs.parts.Leaves.{leavers}
+use Rattle.sharedpool.specs.parts.Views.{taker, sitting}
+use Rattle.sharedpool.specs.Views.{knower, items_of}
+use Rattle.sharedpool.specs.parts.Seats.{Token, Shared, IsSeat, IsLocked, AreReady, AreMatched, AreNoted}
+use Rattle.sharedpool.specs.Seats.{Chair, HoldsOver, told}
 use Rattle.sharedpool.proofs.Places.{leavers_more}
 use Rattle.pool.proofs.Calls.{step_noted}
 

@@ -7,7 +7,8 @@ use Rattle.crossbeam_utils.specs.Register.{Turns, Forks, Merges}
 use Rattle.atomic_table.proofs.Lists.{at_set, set_again}
 use Rattle.pool.specs.declared.entry.LoggedCall.{LoggedCall}
 use Rattle.sharedpool.specs.declared.room.View.{View}
-use Rattle.sharedpool.specs.Views.{items_of, AllBelow, IsNoneOf, AreDifferent, nobody, knower, taker, one_more, next_seat, with_seat, keeper_of, seat_of, with_item, Fits, Kept, Added, Looked, TakenBack}
+use Rattle.sharedpool.specs.parts.Views.{taker, one_more, next_seat, with_seat, keeper_of, seat_of, with_item, Fits, Kept, Added, Looked, TakenBack}
+use Rattle.sharedpool.specs.Views.{items_of, AllBelow, IsNoneOf, AreDifferent, nobody, knower}
 
 off : {A : Type 0} → false ≡ true → A
 off e = absurd (true≢false (sym e))

@@ -3,7 +3,8 @@ use Rattle.std.proofs.Common.{◌≡◌, ◌≢◌, ⊎_elim, ℕ, zero, suc, �
 use Rattle.std.proofs.lemmas.Bool.{cases_eq, or_left, or_right}
 use Rattle.std.proofs.lemmas.List.Folds.{list_any-append}
 use Rattle.pool.specs.declared.entry.LoggedCall.{LoggedCall}
-use Rattle.sharedpool.specs.Leaves.{is_leave, has_left, has_entry, leavers, places_after}
+use Rattle.sharedpool.specs.parts.Leaves.{has_entry, leavers, places_after}
+use Rattle.sharedpool.specs.Leaves.{is_leave, has_left}
 use Rattle.sharedpool.specs.Views.{items_of}
 use Rattle.sharedpool.proofs.Moves.{items_of-mine, items_of-other}
 

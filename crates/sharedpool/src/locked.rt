@@ -5,7 +5,8 @@ ghost use Rattle.std.specs.List.{count_by};
 ghost use Rattle.pool.specs.States.{noted, with_places, leave_item, IsLegal, IsSound, IsPublished, IsFetched, IsClosed, IsSplit, IsFound};
 ghost use Rattle.pool.specs.Moves.{AreOfBatch};
 ghost use Rattle.crossbeam_utils.specs.Seq.{cell_view};
-ghost use Rattle.sharedpool.specs.Leaves.{has_left, has_entry, places_after};
+ghost use Rattle.sharedpool.specs.parts.Leaves.{has_entry, places_after};
+ghost use Rattle.sharedpool.specs.Leaves.{has_left};
 ghost use Rattle.sharedpool.specs.Views.{knower, items_of};
 ghost use Rattle.sharedpool.specs.Seats.{HoldsOver, IsRefusedOver, told_publish, told_fetch, told_close, told_split, told_found, told_leave};
 ghost use Rattle.sharedpool.specs.Told.{IsTold, IsDerivedFrom};
@@ -38,7 +39,7 @@ pub(crate) struct Locked<B: PoolName> {
 
 impl<B: PoolName> Model for Locked<B> {
     ghost use Rattle.crossbeam_utils.specs.Seq.{cell_view};
-    ghost use Rattle.sharedpool.specs.Seats.{Shared, IsLocked};
+    ghost use Rattle.sharedpool.specs.parts.Seats.{Shared, IsLocked};
 
     ghost Value = { Shared };
 

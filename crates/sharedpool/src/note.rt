@@ -3,7 +3,7 @@
 
 ghost use Rattle.std.specs.Prelude.{◌≡◌, true, []};
 ghost use Rattle.crossbeam_utils.specs.Seq.{cell_view};
-ghost use Rattle.sharedpool.specs.Seats.{AreReady, AreMatched, AreNoted};
+ghost use Rattle.sharedpool.specs.parts.Seats.{AreReady, AreMatched, AreNoted};
 
 use crate::passes::{add, blank, join, look, part};
 use crate::room::{Cell, ItemName, Token};

@@ -2,7 +2,8 @@
 
 ghost use Rattle.std.specs.Prelude.{◌≡◌, ◌<◌, ◌∷◌, true, []};
 ghost use Rattle.crossbeam_utils.specs.Seq.{cell_view};
-ghost use Rattle.sharedpool.specs.Views.{one_more, next_seat, taker, with_seat, with_item, keeper_of, seat_of, items_of, AllBelow, AreDifferent};
+ghost use Rattle.sharedpool.specs.parts.Views.{one_more, next_seat, taker, with_seat, with_item, keeper_of, seat_of};
+ghost use Rattle.sharedpool.specs.Views.{items_of, AllBelow, AreDifferent};
 
 use crate::room::{Adds, Blank, Cell, ItemName, Looks, NextSeat, TakesBack, Token, WithSeat};
 use std::sync::Wait;

@@ -22,7 +22,7 @@ pub trait PoolName {
 }
 
 impl PoolName for Brand {
-    ghost use Rattle.sharedpool.specs.Nothing.{no_table, no_pool};
+    ghost use Rattle.sharedpool.specs.parts.Nothing.{no_table, no_pool};
 
     ghost table = { no_table };
 
@@ -39,7 +39,7 @@ pub trait ItemName {
 }
 
 impl ItemName for Brand {
-    ghost use Rattle.sharedpool.specs.Nothing.{no_item};
+    ghost use Rattle.sharedpool.specs.parts.Nothing.{no_item};
 
     ghost item = { no_item };
 }
@@ -75,7 +75,8 @@ pub struct Seated;
 
 impl Protocol<[u64; 1], View> for Seated {
     ghost use Rattle.std.specs.Prelude.{[]};
-    ghost use Rattle.sharedpool.specs.Views.{knower, Kept};
+    ghost use Rattle.sharedpool.specs.parts.Views.{Kept};
+    ghost use Rattle.sharedpool.specs.Views.{knower};
 
     ghost holds = { λ words views. Kept words views };
 
@@ -88,7 +89,7 @@ pub struct Adds<J: ItemName> {
 }
 
 impl<J: ItemName> Outcome<[u64; 1], View> for Adds<J> {
-    ghost use Rattle.sharedpool.specs.Views.{Added};
+    ghost use Rattle.sharedpool.specs.parts.Views.{Added};
 
     ghost then = { Added J.item };
 }
@@ -97,7 +98,7 @@ impl<J: ItemName> Outcome<[u64; 1], View> for Adds<J> {
 pub struct Looks;
 
 impl Outcome<[u64; 1], View> for Looks {
-    ghost use Rattle.sharedpool.specs.Views.{Looked};
+    ghost use Rattle.sharedpool.specs.parts.Views.{Looked};
 
     ghost then = { Looked };
 }
@@ -106,7 +107,7 @@ impl Outcome<[u64; 1], View> for Looks {
 pub struct TakesBack;
 
 impl Outcome<[u64; 1], View> for TakesBack {
-    ghost use Rattle.sharedpool.specs.Views.{TakenBack};
+    ghost use Rattle.sharedpool.specs.parts.Views.{TakenBack};
 
     ghost then = { TakenBack };
 }
@@ -115,7 +116,7 @@ impl Outcome<[u64; 1], View> for TakesBack {
 pub struct NextSeat;
 
 impl Split<View> for NextSeat {
-    ghost use Rattle.sharedpool.specs.Views.{one_more, next_seat};
+    ghost use Rattle.sharedpool.specs.parts.Views.{one_more, next_seat};
 
     ghost left = { one_more };
 
@@ -137,7 +138,7 @@ impl Split<View> for Blank {
 pub struct WithSeat;
 
 impl Split<View> for WithSeat {
-    ghost use Rattle.sharedpool.specs.Views.{keeper_of, seat_of};
+    ghost use Rattle.sharedpool.specs.parts.Views.{keeper_of, seat_of};
 
     ghost left = { keeper_of };
 
@@ -145,7 +146,8 @@ impl Split<View> for WithSeat {
 }
 
 impl Join<View> for WithSeat {
-    ghost use Rattle.sharedpool.specs.Views.{with_seat, nobody};
+    ghost use Rattle.sharedpool.specs.parts.Views.{with_seat};
+    ghost use Rattle.sharedpool.specs.Views.{nobody};
 
     ghost both = { with_seat };
 

@@ -3,9 +3,10 @@
 ghost use Rattle.std.specs.Prelude.{◌≡◌, ◌≤◌, ◌<◌, ◌+◌, ◌∷◌, [], IfOk, IfSome, length, true};
 ghost use Rattle.crossbeam_utils.specs.Seq.{cell_view};
 ghost use Rattle.pool.specs.Moves.{AreOfBatch};
-ghost use Rattle.sharedpool.specs.Seats.{IsSeat};
+ghost use Rattle.sharedpool.specs.parts.Seats.{IsSeat};
 ghost use Rattle.sharedpool.specs.Told.{GoesOn, IsDerivedFrom};
-ghost use Rattle.sharedpool.specs.Views.{taker, items_of, AllBelow, AreDifferent};
+ghost use Rattle.sharedpool.specs.parts.Views.{taker};
+ghost use Rattle.sharedpool.specs.Views.{items_of, AllBelow, AreDifferent};
 
 use crate::passes::{join, take_back};
 use crate::room::{Cell, PoolName, Token};
@@ -27,7 +28,8 @@ pub(crate) struct Ticket<B: PoolName> {
 
 impl<B: PoolName> Model for Ticket<B> {
     ghost use Rattle.crossbeam_utils.specs.Seq.{cell_view};
-    ghost use Rattle.sharedpool.specs.Seats.{Chair, IsSeat};
+    ghost use Rattle.sharedpool.specs.parts.Seats.{IsSeat};
+    ghost use Rattle.sharedpool.specs.Seats.{Chair};
 
     ghost Value = { Chair };
 

@@ -5,7 +5,8 @@ use Rattle.std.proofs.lemmas.List.Elements.{filter-append}
 use Rattle.std.specs.List.{flat_map, AllByRecursion, range_with_len}
 use Rattle.plaintext.proofs.Ascii.{all_append}
 use Rattle.unroll.specs.declared.call.Placed.{Placed}
-use Rattle.spmd_program.specs.Programs.{AreOfRanks, calls_of}
+use Rattle.spmd_program.specs.parts.Programs.{AreOfRanks}
+use Rattle.spmd_program.specs.Programs.{calls_of}
 
 -- one rank more
 pub of_ranks_push : (rank : ℕ) (parts : List (List Placed)) (part : List Placed) → AreOfRanks rank parts → AllByRecursion (λ p. p.rank ≡ rank + length parts) part → AreOfRanks rank (parts ++ part ∷ [])

@@ -9,12 +9,13 @@ use Rattle.plaintext.proofs.Ascii.{all_append}
 use Rattle.calltext.specs.declared.call.CallLine.{CallLine}
 use Rattle.calltext.specs.Grammar.{CallFits}
 use Rattle.calltext.specs.Limits.{long}
-use Rattle.calltext.specs.Printed.{heads, rank_text, ranks_text}
+use Rattle.calltext.specs.parts.Printed.{heads, rank_text, ranks_text}
 use Rattle.calltext.proofs.PrintLaws.{ranks_text-push, text_is}
 use Rattle.spmd_text.specs.declared.reading.Policy.{Policy as Buffering}
 use Rattle.unroll.specs.declared.call.Placed.{Placed}
 use Rattle.spmd_program.specs.Lines.{lines_of}
-use Rattle.spmd_program.specs.Programs.{AreRanksWritten, IsProgramText, IsRankWritten, calls_of, policy_of, program_of}
+use Rattle.spmd_program.specs.parts.Programs.{AreRanksWritten, IsRankWritten}
+use Rattle.spmd_program.specs.Programs.{IsProgramText, calls_of, policy_of, program_of}
 use Rattle.spmd_program.proofs.Parts.{of_each, of_ranks_push}
 
 -- the first ranks are written, with all calls but these

@@ -10,7 +10,8 @@ use Rattle.plaintext.proofs.Ascii.{all_append}
 use Rattle.calltext.specs.declared.call.CallLine.{CallLine}
 use Rattle.calltext.specs.Grammar.{CallFits, HasNames, IsInRange, call_words}
 use Rattle.calltext.specs.Limits.{long}
-use Rattle.calltext.specs.Verbs.{verb_of, verb_word, name_words, number_words}
+use Rattle.calltext.specs.parts.Verbs.{name_words, number_words}
+use Rattle.calltext.specs.Verbs.{verb_of, verb_word}
 use Rattle.calltext.proofs.PrintLaws.{call_line}
 use Rattle.unroll.specs.declared.call.Placed.{Placed}
 use Rattle.spmd_program.specs.Lines.{lines_at, lines_of}

@@ -8,3 +8,4 @@ pub mod Settings
 pub mod Ranges
 pub mod Requests
 pub mod Unrolling
+pub mod parts

@@ -3,9 +3,10 @@
 ghost use Rattle.std.specs.Prelude.{◌≡◌, ◌++◌, ◌≤◌, ◌<◌, [], IfOk, OnErr, OnOk};
 ghost use Rattle.std.specs.List.{AllByRecursion};
 ghost use Rattle.calltext.specs.Grammar.{policy_word};
-ghost use Rattle.calltext.specs.Printed.{heads, rank_text};
+ghost use Rattle.calltext.specs.parts.Printed.{heads, rank_text};
 ghost use Rattle.spmd_program.specs.Lines.{lines_of};
-ghost use Rattle.spmd_program.specs.Programs.{IsProgramText, IsRankWritten, policy_of};
+ghost use Rattle.spmd_program.specs.parts.Programs.{IsRankWritten};
+ghost use Rattle.spmd_program.specs.Programs.{IsProgramText, policy_of};
 
 use crate::lines::put_lines;
 use plaintext::put_number;

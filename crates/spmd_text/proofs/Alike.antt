@@ -7,9 +7,9 @@ use Rattle.spmd_text.specs.declared.joints.Joint.{Joint}
 use Rattle.spmd_text.specs.declared.joints.Joint.TheVariants as joint
 use Rattle.spmd_text.specs.declared.joints.Prefix.{Prefix}
 use Rattle.spmd_text.specs.declared.joints.Prefix.TheVariants as prefix
-use Rattle.spmd_text.specs.Joints.{Place, joined}
-use Rattle.spmd_text.specs.Growing.{enclosed}
-use Rattle.spmd_text.specs.Reading.{Form, binary, choice, compare, negation, both, either, grouped, negative, form_of, Alike}
+use Rattle.spmd_text.specs.parts.Joints.{Place, joined}
+use Rattle.spmd_text.specs.parts.Growing.{enclosed}
+use Rattle.spmd_text.specs.parts.Reading.{Form, binary, choice, compare, negation, both, either, grouped, negative, form_of, Alike}
 
 form_condition : Form → Bool
 form_condition (compare c a b) = true

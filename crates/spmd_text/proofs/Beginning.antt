@@ -14,8 +14,8 @@ use Rattle.spmd_text.specs.declared.piece.Token.{Token}
 use Rattle.spmd_text.specs.Spelling.{after, after_expression}
 use Rattle.spmd_text.specs.Joints.{closeness}
 use Rattle.spmd_text.specs.Limits.{parts}
-use Rattle.spmd_text.specs.Growing.{is_operand, opening, begun, beginning_of, first_close, leaf_of, IsRow, is_lone_tree}
-use Rattle.spmd_text.specs.Reading.{next, next_of, Ahead}
+use Rattle.spmd_text.specs.parts.Growing.{is_operand, opening, begun, beginning_of, first_close, leaf_of, IsRow, is_lone_tree}
+use Rattle.spmd_text.specs.parts.Reading.{next, next_of, Ahead}
 use Rattle.spmd_text.proofs.Pieces.{taken}
 
 if_le : (A : Type 0) (a b : ℕ) (x y : A) → a ≤ b → (if nat_le a b then x else y) ≡ x

@@ -14,11 +14,12 @@ use Rattle.spmd_text.specs.declared.piece.Word.TheVariants as word
 use Rattle.spmd_text.specs.declared.piece.Piece.{Piece}
 use Rattle.spmd_text.specs.declared.piece.Piece.TheVariants as piece
 use Rattle.spmd_text.specs.declared.piece.Token.{Token}
-use Rattle.spmd_text.specs.Joints.{is_below, joint_of, stops}
-use Rattle.spmd_text.specs.Reading.{Finds, behind, next_of, noted}
+use Rattle.spmd_text.specs.parts.Joints.{is_below, joint_of, stops}
+use Rattle.spmd_text.specs.parts.Reading.{Finds, behind, next_of, noted}
 use Rattle.spmd_text.specs.Spelling.{Rest, after, after_condition, after_end, after_gap, after_start, after_statement, after_value, begins, branch_word, is_branch, is_piece, is_tail, only}
-use Rattle.spmd_text.specs.Parts.{Keeps, Part, Reads, condition_part, piece_part, then_part}
-use Rattle.spmd_text.specs.Statements.{Begins, IsInside, IsOtherwise, IsRepeat, IsWhen, MayStatements, MayTail, Obeys, Scope, begun_part, end_part, ends_behind, ends_statements, first_word, is_first, is_one, is_simple, line_at, one_part, put_back, scope_of, span_part, statements_part, tail_part, variable_part, within_loop}
+use Rattle.spmd_text.specs.parts.Parts.{Keeps, Part, Reads, condition_part, piece_part, then_part}
+use Rattle.spmd_text.specs.parts.Statements.{Begins, IsInside, IsOtherwise, IsRepeat, IsWhen, MayStatements, MayTail, begun_part, end_part, ends_behind, ends_statements, first_word, is_first, is_one, is_simple, one_part, put_back, scope_of, span_part, statements_part, tail_part, variable_part}
+use Rattle.spmd_text.specs.Statements.{Obeys, Scope, line_at, within_loop}
 use Rattle.spmd_text.proofs.Following.{and_left, and_right, before_piece, both_true, stops_tests}
 use Rattle.spmd_text.proofs.Going.{goes_failed, never_failed}
 use Rattle.spmd_text.proofs.LeftOut.{gap_strict}

@@ -10,10 +10,10 @@ use Rattle.spmd_text.specs.declared.piece.Word.TheVariants as word
 use Rattle.spmd_text.specs.declared.piece.Piece.TheVariants as piece
 use Rattle.spmd_text.specs.declared.piece.Token.{Token}
 use Rattle.spmd_text.specs.Words.{code}
-use Rattle.spmd_text.specs.Joints.{Place}
+use Rattle.spmd_text.specs.parts.Joints.{Place}
 use Rattle.spmd_text.specs.Spelling.{Rest, after, after_arguments, after_condition, after_end, after_gap, after_labels, after_statement, after_value, begins, branch_word, call_word, is_branch, is_piece, is_tail, on_line, only}
-use Rattle.spmd_text.specs.Parts.{form_of}
-use Rattle.spmd_text.specs.Statements.{ends_statements, first_word, is_one}
+use Rattle.spmd_text.specs.parts.Parts.{form_of}
+use Rattle.spmd_text.specs.parts.Statements.{ends_statements, first_word, is_one}
 use Rattle.spmd_text.proofs.LeftOut.{gap_strict}
 use Rattle.spmd_text.proofs.NoStar.{left_before, only_left}
 use Rattle.spmd_text.proofs.Parts.{none_some}

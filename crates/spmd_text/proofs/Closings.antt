@@ -11,14 +11,15 @@ use Rattle.spmd_text.specs.declared.piece.Piece.TheVariants as piece
 use Rattle.spmd_text.specs.declared.piece.Token.{Token}
 use Rattle.spmd_text.specs.declared.reading.Policy.{Policy}
 use Rattle.spmd_text.specs.declared.reading.Policy.TheVariants as policy
-use Rattle.spmd_text.specs.Joints.{Place}
+use Rattle.spmd_text.specs.parts.Joints.{Place}
 use Rattle.spmd_text.specs.Limits.{IsWithin}
 use Rattle.spmd_text.specs.Spelling.{Rest, after, after_end, after_head, after_optional, after_parameter, after_policy, after_span, after_statement, after_variable, begins, is_any, is_branch, is_ordered, is_tail, only, policy_word}
 use Rattle.spmd_text.specs.Parts.{IfThere}
-use Rattle.spmd_text.specs.Statements.{MayOne, MayStatements, MayTail, Scope, first_word, is_one_of}
+use Rattle.spmd_text.specs.parts.Statements.{MayOne, MayStatements, MayTail, first_word}
+use Rattle.spmd_text.specs.Statements.{Scope, is_one_of}
 use Rattle.spmd_text.specs.Programs.{ObeyParameters, parameters_of}
 use Rattle.spmd_text.specs.FirstFaults.{IsReadable}
-use Rattle.spmd_text.specs.Lines.{Block, Level, Moves, Runs, Steps, begin, behind_one, in_block, in_loop, is_inner, lists, settled, takes, with_block, with_parameter}
+use Rattle.spmd_text.specs.parts.Lines.{Block, Level, Moves, Runs, Steps, begin, behind_one, in_block, in_loop, is_inner, lists, settled, takes, with_block, with_parameter}
 use Rattle.spmd_text.specs.Lines as lines
 use Rattle.spmd_text.proofs.BlockWords.{one_begins, start_begins, taken_begins}
 use Rattle.spmd_text.proofs.Following.{never_taken}

@@ -18,10 +18,11 @@ use Rattle.spmd_text.specs.declared.piece.Piece.TheVariants as piece
 use Rattle.spmd_text.specs.declared.piece.Word.TheVariants as word
 use Rattle.spmd_text.specs.declared.piece.Token.{Token}
 use Rattle.spmd_text.specs.Spelling.{Rest, after, after_expression, fits, is_condition}
-use Rattle.spmd_text.specs.Joints.{joint_of, joint_piece, joint_ahead, binding_of, closeness, joins_conditions, goes_on, Place, joined, may_join, is_below, stops}
+use Rattle.spmd_text.specs.parts.Joints.{joint_of, joint_piece, joint_ahead, binding_of, joins_conditions, goes_on, Place, joined, may_join, is_below, stops}
+use Rattle.spmd_text.specs.Joints.{closeness}
 use Rattle.spmd_text.specs.Limits.{parts, is_narrow, has_no_rank, IsWithin}
-use Rattle.spmd_text.specs.Growing.{is_operand, opening, begun, enclosed, ends_prefix, inside, IsRow, Joining, whole, Becomes, done, more, Growing, MayBegin}
-use Rattle.spmd_text.specs.Reading.{next, next_of, behind, Ahead, Alike, Finds, Goes, MayStand, Stands}
+use Rattle.spmd_text.specs.parts.Growing.{is_operand, opening, begun, enclosed, ends_prefix, inside, IsRow, Joining, whole, Becomes, done, more, Growing, MayBegin}
+use Rattle.spmd_text.specs.parts.Reading.{next, next_of, behind, Ahead, Alike, Finds, Goes, MayStand, Stands}
 use Rattle.spmd_text.proofs.Alike.{alike_condition}
 use Rattle.spmd_text.proofs.Going.{goes_on as goes_further, same_kind, found_then}
 use Rattle.spmd_text.proofs.Growing.{from_tree, from_piece, some_before, some_before_piece, only_so, fits_so, joint_back, least_close, factor_close, number_close, joins_so, right_of_joint, right_number, row_goes_on, grown_close, grown_stops, closeness_joined, stops_before}

@@ -5,7 +5,8 @@ use Rattle.std.specs.Prelude.{Result}
 use Rattle.spmd_text.specs.declared.fault.ParseFault.{ParseFault}
 use Rattle.spmd_text.specs.declared.lexer.Halt.{Halt}
 use Rattle.spmd_text.specs.declared.lexer.Halt.TheVariants.{Memory, Wrong}
-use Rattle.spmd_text.specs.Tokens.{Cutting, Step, Halts, GivesPieces, fault_of, feed, feed_all, finished, lined}
+use Rattle.spmd_text.specs.parts.Tokens.{Halts, GivesPieces, fault_of}
+use Rattle.spmd_text.specs.Tokens.{Cutting, Step, feed, feed_all, finished, lined}
 
 -- a byte is fed
 pub feed_goes : (bs rest : List ℕ) (b : ℕ) (s t : Cutting) (o : Result Cutting ParseFault)

@@ -10,13 +10,15 @@ use Rattle.spmd_text.specs.declared.piece.Word.TheVariants as word
 use Rattle.spmd_text.specs.declared.piece.Piece.TheVariants as piece
 use Rattle.spmd_text.specs.declared.piece.Token.{Token}
 use Rattle.spmd_text.specs.declared.reading.Policy.{Policy}
-use Rattle.spmd_text.specs.Joints.{Place}
+use Rattle.spmd_text.specs.parts.Joints.{Place}
 use Rattle.spmd_text.specs.Limits.{IsWithin}
 use Rattle.spmd_text.specs.Spelling.{Rest, after, after_policy, after_statement, after_text, begins, is_any, is_branch, is_ordered, only, policy_word}
-use Rattle.spmd_text.specs.Statements.{MayOne, MaySpan, MayStatements, Scope, may_give}
+use Rattle.spmd_text.specs.parts.Statements.{MayOne, MaySpan, MayStatements}
+use Rattle.spmd_text.specs.Statements.{Scope, may_give}
 use Rattle.spmd_text.specs.Programs.{ObeyParameters, ObeysText, behind_parameters, parameters_of}
 use Rattle.spmd_text.specs.FirstFaults.{IsFirstFault}
-use Rattle.spmd_text.specs.Lines.{Block, IsStuckAt, Level, Moves, Runs, Steps, are_lines, begin, behind_one, closes, in_block, in_loop, is_inner, is_line, lists, settled, takes, with_block}
+use Rattle.spmd_text.specs.parts.Lines.{Block, IsStuckAt, Level, Moves, Runs, Steps, begin, behind_one, in_block, in_loop, is_inner, lists, settled, takes, with_block}
+use Rattle.spmd_text.specs.Lines.{are_lines, closes, is_line}
 use Rattle.spmd_text.specs.Lines as lines
 use Rattle.spmd_text.proofs.BlockForms.{not_so}
 use Rattle.spmd_text.proofs.BlockWords.{statement_strict}

@@ -12,10 +12,11 @@ use Rattle.spmd_text.specs.declared.piece.Word.TheVariants as word
 use Rattle.spmd_text.specs.declared.piece.Piece.{Piece}
 use Rattle.spmd_text.specs.declared.piece.Piece.TheVariants as piece
 use Rattle.spmd_text.specs.declared.piece.Token.{Token}
-use Rattle.spmd_text.specs.Reading.{Finds, next, next_of}
+use Rattle.spmd_text.specs.parts.Reading.{Finds, next, next_of}
 use Rattle.spmd_text.specs.Spelling.{Rest, after_statement, begins, call_word, is_branch, only}
-use Rattle.spmd_text.specs.Parts.{Keeps, Reads, form_of, form_of_call}
-use Rattle.spmd_text.specs.Statements.{Begins, Left, Makes, MayAll, MayStatements, Obeys, RowSoFar, Scope, behind_all, ends_behind, ends_statements, first_word, flat, flat_all, is_end, is_first, is_one, one_part, scope_of, statements_part, word_of}
+use Rattle.spmd_text.specs.parts.Parts.{Keeps, Reads, form_of, form_of_call}
+use Rattle.spmd_text.specs.parts.Statements.{Begins, Left, Makes, MayAll, MayStatements, RowSoFar, behind_all, ends_behind, ends_statements, first_word, flat, flat_all, is_end, is_first, is_one, one_part, scope_of, statements_part, word_of}
+use Rattle.spmd_text.specs.Statements.{Obeys, Scope}
 use Rattle.spmd_text.proofs.BlockForms.{next_begins, not_so}
 use Rattle.spmd_text.proofs.BlockWords.{one_begins, same_begin, statement_strict}
 use Rattle.spmd_text.proofs.Following.{and_left, and_right, both_true}

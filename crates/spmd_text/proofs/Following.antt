@@ -7,11 +7,12 @@ use Rattle.spmd_text.specs.declared.piece.Word.TheVariants as word
 use Rattle.spmd_text.specs.declared.piece.Piece.{Piece}
 use Rattle.spmd_text.specs.declared.piece.Piece.TheVariants as piece
 use Rattle.spmd_text.specs.declared.piece.Token.{Token}
-use Rattle.spmd_text.specs.Joints.{is_below, joint_of, stops}
+use Rattle.spmd_text.specs.parts.Joints.{is_below, joint_of, stops}
 use Rattle.spmd_text.specs.Spelling.{Rest, after, after_optional, after_value, begins, is_piece}
 use Rattle.spmd_text.specs.declared.parser.Parser.{Parser}
 use Rattle.spmd_text.specs.Limits.{IsWithin}
-use Rattle.spmd_text.specs.Parts.{MayValue, lacks, optional_part, piece_part, then_part, value_part}
+use Rattle.spmd_text.specs.parts.Parts.{lacks, optional_part, piece_part, then_part, value_part}
+use Rattle.spmd_text.specs.Parts.{MayValue}
 use Rattle.spmd_text.proofs.Pieces.{piece_is, taken}
 use Rattle.spmd_text.proofs.Strict.{value_strict}
 use Rattle.spmd_text.proofs.Parts.{IsAs}

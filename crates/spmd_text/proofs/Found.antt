@@ -22,11 +22,12 @@ use Rattle.spmd_text.specs.declared.piece.Word.TheVariants as word
 use Rattle.spmd_text.specs.declared.piece.Token.{Token}
 use Rattle.spmd_text.specs.Spelling.{is_piece, same_number, Rest, only, after, after_expression, fits, is_condition, binding, same}
 use Rattle.spmd_text.specs.Words.{code}
-use Rattle.spmd_text.specs.Joints.{joint_of, joint_piece, joint_ahead, binding_of, closeness, joins_conditions, goes_on, is_lone, Place, joined, left_least, right_least, may_join, is_below, stops}
+use Rattle.spmd_text.specs.parts.Joints.{joint_of, joint_piece, joint_ahead, binding_of, joins_conditions, goes_on, is_lone, Place, joined, left_least, right_least, may_join, is_below, stops}
+use Rattle.spmd_text.specs.Joints.{closeness}
 use Rattle.spmd_text.specs.Limits.{nesting, parts, is_narrow, has_no_rank, IsWithin}
-use Rattle.spmd_text.specs.Growing.{is_operand, is_lone_tree, begun, beginning_of, first_close, leaf_of, enclosed, ends_prefix, inside, IsRow}
-use Rattle.spmd_text.specs.Reading.{next, next_of, behind, Goes}
-use Rattle.spmd_text.specs.Found.{WasRead, WasBegun, SoFar, IsLonger, PutTogether, PutAround, PutChoice}
+use Rattle.spmd_text.specs.parts.Growing.{is_operand, is_lone_tree, begun, beginning_of, first_close, leaf_of, enclosed, ends_prefix, inside, IsRow}
+use Rattle.spmd_text.specs.parts.Reading.{next, next_of, behind, Goes}
+use Rattle.spmd_text.specs.parts.Found.{WasRead, WasBegun, SoFar, IsLonger, PutTogether, PutAround, PutChoice}
 use Rattle.spmd_text.proofs.Beginning.{first_row}
 use Rattle.spmd_text.proofs.Continuing.{ahead_so}
 use Rattle.spmd_text.proofs.Going.{goes_on as goes_further, same_kind, sound_before}

@@ -21,7 +21,8 @@ use Rattle.spmd_text.specs.declared.piece.Piece.{Piece}
 use Rattle.spmd_text.specs.declared.piece.Piece.TheVariants as piece
 use Rattle.spmd_text.specs.declared.piece.Token.{Token}
 use Rattle.spmd_text.specs.Spelling.{Rest, after, after_arguments, after_communicator, after_condition, after_expression, after_group, after_index, after_label, after_labels, after_optional, after_request, after_root, after_start, after_value, after_wild, comparison_piece, is_piece, only, operator_piece}
-use Rattle.spmd_text.specs.Lines.{closes, has_text_end, is_line, is_text_end}
+use Rattle.spmd_text.specs.parts.Lines.{has_text_end, is_text_end}
+use Rattle.spmd_text.specs.Lines.{closes, is_line}
 use Rattle.spmd_text.proofs.NoStar.{left_before, only_left}
 use Rattle.spmd_text.proofs.Parts.{none_some}
 use Rattle.spmd_text.proofs.Pieces.{piece_is}

@@ -4,7 +4,7 @@ use Rattle.spmd_text.specs.declared.fault.ParseReason.{ParseReason}
 use Rattle.spmd_text.specs.declared.fault.ParseReason.TheVariants.{Memory}
 use Rattle.spmd_text.specs.declared.parser.Parser.{Parser}
 use Rattle.spmd_text.specs.declared.piece.Token.{Token}
-use Rattle.spmd_text.specs.Reading.{noted, Goes, Sticks, Stands, Finds}
+use Rattle.spmd_text.specs.parts.Reading.{noted, Goes, Sticks, Stands, Finds}
 
 pub goes_nowhere : (s : Parser) → Goes s s
 goes_nowhere s = record { frame = refl; shorter = omega arith; sticks = λ why e. e }

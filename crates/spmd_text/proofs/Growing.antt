@@ -11,9 +11,10 @@ use Rattle.spmd_text.specs.declared.joints.Joint.TheVariants as joint
 use Rattle.spmd_text.specs.declared.piece.Piece.{Piece}
 use Rattle.spmd_text.specs.declared.piece.Token.{Token}
 use Rattle.spmd_text.specs.Spelling.{Rest, only, after, after_expression, is_condition, binding, same, fits}
-use Rattle.spmd_text.specs.Joints.{joint_of, joint_piece, binding_of, closeness, joins_conditions, Place, joined, left_least, right_least, may_join, is_below, stops, goes_on}
+use Rattle.spmd_text.specs.parts.Joints.{joint_of, joint_piece, binding_of, joins_conditions, Place, joined, left_least, right_least, may_join, is_below, stops, goes_on}
+use Rattle.spmd_text.specs.Joints.{closeness}
 use Rattle.spmd_text.specs.Limits.{nesting, parts, row_of, is_narrow, has_no_rank, IsWithin}
-use Rattle.spmd_text.specs.Growing.{is_operand, whole, Becomes, done, more}
+use Rattle.spmd_text.specs.parts.Growing.{is_operand, whole, Becomes, done, more}
 use Rattle.spmd_text.proofs.Pieces.{taken}
 
 -- ---- nothing begins with nothing

@@ -12,12 +12,12 @@ use Rattle.spmd_text.specs.declared.piece.Word.TheVariants as word
 use Rattle.spmd_text.specs.declared.piece.Piece.{Piece}
 use Rattle.spmd_text.specs.declared.piece.Piece.TheVariants as piece
 use Rattle.spmd_text.specs.declared.piece.Token.{Token}
-use Rattle.spmd_text.specs.Joints.{is_below, joint_of, stops}
+use Rattle.spmd_text.specs.parts.Joints.{is_below, joint_of, stops}
 use Rattle.spmd_text.specs.Words.{code}
-use Rattle.spmd_text.specs.Reading.{behind, next_of}
+use Rattle.spmd_text.specs.parts.Reading.{behind, next_of}
 use Rattle.spmd_text.specs.Spelling.{Rest, after, after_gap, after_policy, begins, is_any, only, policy_word, same_number}
-use Rattle.spmd_text.specs.Parts.{Part, Reads, piece_part, then_part, value_part}
-use Rattle.spmd_text.specs.Statements.{gap_part, heading_line_part, heading_part, policy_line_part, policy_part, span_part, step_part}
+use Rattle.spmd_text.specs.parts.Parts.{Part, Reads, piece_part, then_part, value_part}
+use Rattle.spmd_text.specs.parts.Statements.{gap_part, heading_line_part, heading_part, policy_line_part, policy_part, span_part, step_part}
 use Rattle.spmd_text.proofs.CallForms.{at_line_end}
 use Rattle.spmd_text.proofs.Following.{before_piece, stops_tests, value_ends}
 use Rattle.spmd_text.proofs.NoStar.{left_before, only_left}

@@ -9,10 +9,11 @@ use Rattle.spmd_text.specs.declared.piece.Word.TheVariants as word
 use Rattle.spmd_text.specs.declared.piece.Piece.{Piece}
 use Rattle.spmd_text.specs.declared.piece.Piece.TheVariants as piece
 use Rattle.spmd_text.specs.declared.piece.Token.{Token}
-use Rattle.spmd_text.specs.Parts.{form_of, form_of_call}
+use Rattle.spmd_text.specs.parts.Parts.{form_of, form_of_call}
 use Rattle.spmd_text.specs.Spelling.{Rest, after, after_condition, after_gap, after_optional, after_span, after_start, begins, call_word, policy_word}
-use Rattle.spmd_text.specs.Statements.{first_word, is_one, is_simple}
-use Rattle.spmd_text.specs.Lines.{IsElifLine, IsElseLine, IsEndLine, IsHeading, IsIfLine, IsLoopLine, IsParameterLine, IsPolicyLine, IsSimpleLine, IsTextEnd, Level, Moves, Runs, Steps, behind_one, branch, closes, done, headed, in_block, in_loop, is_line, last, listed, more, with_block, with_parameter}
+use Rattle.spmd_text.specs.parts.Statements.{first_word, is_one, is_simple}
+use Rattle.spmd_text.specs.parts.Lines.{IsElifLine, IsElseLine, IsEndLine, IsHeading, IsIfLine, IsLoopLine, IsParameterLine, IsPolicyLine, IsSimpleLine, IsTextEnd, Level, Moves, Runs, Steps, behind_one, branch, done, headed, in_block, in_loop, last, listed, more, with_block, with_parameter}
+use Rattle.spmd_text.specs.Lines.{closes, is_line}
 use Rattle.spmd_text.specs.Lines as lines
 use Rattle.spmd_text.proofs.BlockForms.{not_so}
 use Rattle.spmd_text.proofs.BlockWords.{condition_strict, one_begins, start_begins, taken_begins}

@@ -4,9 +4,9 @@ use Rattle.spmd_text.specs.declared.fault.ParseReason.{ParseReason}
 use Rattle.spmd_text.specs.declared.fault.ParseReason.TheVariants.{Memory}
 use Rattle.spmd_text.specs.declared.parser.Parser.{Parser}
 use Rattle.spmd_text.specs.declared.piece.Token.{Token}
-use Rattle.spmd_text.specs.Reading.{Finds, noted}
-use Rattle.spmd_text.specs.Parts.{Keeps, Part, Reads}
-use Rattle.spmd_text.specs.Statements.{Makes}
+use Rattle.spmd_text.specs.parts.Reading.{Finds, noted}
+use Rattle.spmd_text.specs.parts.Parts.{Keeps, Part, Reads}
+use Rattle.spmd_text.specs.parts.Statements.{Makes}
 use Rattle.spmd_text.proofs.Going.{goes_failed, never_failed}
 use Rattle.spmd_text.proofs.Parts.{found_as, keeps_of, keeps_on, keeps_same, sound_before, still_found}
 

@@ -5,12 +5,12 @@ use Rattle.spmd_text.specs.declared.fault.ParseReason.{ParseReason}
 use Rattle.spmd_text.specs.declared.fault.ParseReason.TheVariants.{Memory}
 use Rattle.spmd_text.specs.declared.parser.Parser.{Parser}
 use Rattle.spmd_text.specs.declared.piece.Token.{Token}
-use Rattle.spmd_text.specs.Reading.{Finds, Sticks, noted}
+use Rattle.spmd_text.specs.parts.Reading.{Finds, Sticks, noted}
 use Rattle.spmd_text.specs.Spelling.{Rest}
-use Rattle.spmd_text.specs.Parts.{Keeps, Part, Reads, then_part}
-use Rattle.spmd_text.specs.Programs.{Adds, Grows, Meets}
+use Rattle.spmd_text.specs.parts.Parts.{Keeps, Part, Reads, then_part}
+use Rattle.spmd_text.specs.parts.Programs.{Adds, Grows, Meets}
 use Rattle.spmd_text.proofs.Going.{found_then, noted_never, noted_sticks, sound_or}
-use Rattle.spmd_text.specs.Statements.{Makes}
+use Rattle.spmd_text.specs.parts.Statements.{Makes}
 use Rattle.spmd_text.proofs.Made.{kept_found, made_goes, made_sound}
 use Rattle.spmd_text.proofs.NoStar.{left_before}
 use Rattle.spmd_text.proofs.Parts.{Follows, IsAs, IsStrict, found_as, sound_before}

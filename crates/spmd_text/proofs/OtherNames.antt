@@ -17,11 +17,12 @@ use Rattle.spmd_text.specs.declared.piece.Word.TheVariants as word
 use Rattle.spmd_text.specs.declared.piece.Token.{Token}
 use Rattle.spmd_text.specs.FirstFaults.{AreAlike, IsAlike, letters_of}
 use Rattle.spmd_text.specs.Labels.{has_index, is_label, label_fits, name_fits}
-use Rattle.spmd_text.specs.Lines.{Level, Runs, Steps}
+use Rattle.spmd_text.specs.parts.Lines.{Level, Runs, Steps}
 use Rattle.spmd_text.specs.Lines as lines
 use Rattle.spmd_text.specs.Parts.{IfThere, MayCall, MayLabel, MayLabels}
 use Rattle.spmd_text.specs.Spelling.{Rest, after, after_arguments, after_index, after_label, after_labels, after_request, after_start, after_statement, call_word}
-use Rattle.spmd_text.specs.Statements.{Obeys, Scope, first_word, is_one, is_simple}
+use Rattle.spmd_text.specs.parts.Statements.{first_word, is_one, is_simple}
+use Rattle.spmd_text.specs.Statements.{Obeys, Scope}
 use Rattle.spmd_text.proofs.Framing.{Framed, framed_communicator, framed_label, framed_on, framed_pair, framed_piece, framed_request, framed_start, framed_value, framed_wild}
 use Rattle.spmd_text.proofs.NoStar.{left_before}
 use Rattle.spmd_text.proofs.Parts.{none_some}

@@ -8,13 +8,16 @@ use Rattle.spmd_text.specs.declared.parser.Parser.{Parser}
 use Rattle.spmd_text.specs.declared.piece.Word.TheVariants as word
 use Rattle.spmd_text.specs.declared.piece.Piece.TheVariants as piece
 use Rattle.spmd_text.specs.declared.piece.Token.{Token}
-use Rattle.spmd_text.specs.Joints.{stops}
+use Rattle.spmd_text.specs.parts.Joints.{stops}
 use Rattle.spmd_text.specs.Limits.{IsWithin}
-use Rattle.spmd_text.specs.Reading.{Finds}
+use Rattle.spmd_text.specs.parts.Reading.{Finds}
 use Rattle.spmd_text.specs.Spelling.{Rest, after, after_optional, after_statement, after_value, begins, is_piece}
-use Rattle.spmd_text.specs.Parts.{IfThere, Part, Reads, lacks, name_part, piece_part, then_part, value_part}
-use Rattle.spmd_text.specs.Statements.{Makes, is_one_of, put_back}
-use Rattle.spmd_text.specs.Programs.{Adds, Meets, ObeyParameters, ReadsParameter, is_parameter, otherwise_part, parameter_part, parameters_of}
+use Rattle.spmd_text.specs.parts.Parts.{Part, Reads, lacks, name_part, piece_part, then_part, value_part}
+use Rattle.spmd_text.specs.Parts.{IfThere}
+use Rattle.spmd_text.specs.parts.Statements.{Makes, put_back}
+use Rattle.spmd_text.specs.Statements.{is_one_of}
+use Rattle.spmd_text.specs.parts.Programs.{Adds, Meets, ReadsParameter, is_parameter, otherwise_part, parameter_part}
+use Rattle.spmd_text.specs.Programs.{ObeyParameters, parameters_of}
 use Rattle.spmd_text.proofs.Following.{and_left, and_right, before_piece, both_true, lacks_not, lacks_tests, line_end_stops}
 use Rattle.spmd_text.proofs.Made.{made_goes, made_sound}
 use Rattle.spmd_text.proofs.Meeting.{adds_grows, grown_then_kept, kept_then_grown, meets_added, meets_as, meets_kept, meets_of, meets_then, renamed}

@@ -11,11 +11,12 @@ use Rattle.spmd_text.specs.declared.piece.Word.TheVariants as word
 use Rattle.spmd_text.specs.declared.piece.Piece.TheVariants as piece
 use Rattle.spmd_text.specs.declared.piece.Token.{Token}
 use Rattle.spmd_text.specs.Words.{code}
-use Rattle.spmd_text.specs.Reading.{Finds, next_of}
+use Rattle.spmd_text.specs.parts.Reading.{Finds, next_of}
 use Rattle.spmd_text.specs.Spelling.{Rest, after_statement, begins, is_branch, only}
-use Rattle.spmd_text.specs.Parts.{Keeps, Part, any_end, lacks}
-use Rattle.spmd_text.specs.Statements.{Makes, behind_all, flat, flat_all, put_back}
-use Rattle.spmd_text.specs.Programs.{Grows, MayParameter, Meets, ObeyParameters, ReadsParameter, ReadsParameters, is_parameter, parameters_of}
+use Rattle.spmd_text.specs.parts.Parts.{Keeps, Part, any_end, lacks}
+use Rattle.spmd_text.specs.parts.Statements.{Makes, behind_all, flat, flat_all, put_back}
+use Rattle.spmd_text.specs.parts.Programs.{Grows, MayParameter, Meets, ReadsParameter, ReadsParameters, is_parameter}
+use Rattle.spmd_text.specs.Programs.{ObeyParameters, parameters_of}
 use Rattle.spmd_text.proofs.BlockWords.{start_begins, statement_strict}
 use Rattle.spmd_text.proofs.Flat.{all_strict, behind_append, flat_append}
 use Rattle.spmd_text.proofs.Following.{both_true, lacks_not}

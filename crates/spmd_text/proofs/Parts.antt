@@ -7,8 +7,8 @@ use Rattle.spmd_text.specs.declared.fault.ParseReason.TheVariants.{Memory}
 use Rattle.spmd_text.specs.declared.parser.Parser.{Parser}
 use Rattle.spmd_text.specs.declared.piece.Token.{Token}
 use Rattle.spmd_text.specs.Spelling.{Rest}
-use Rattle.spmd_text.specs.Reading.{Finds, Goes}
-use Rattle.spmd_text.specs.Parts.{Keeps, Part, Reads, then_part}
+use Rattle.spmd_text.specs.parts.Reading.{Finds, Goes}
+use Rattle.spmd_text.specs.parts.Parts.{Keeps, Part, Reads, then_part}
 
 -- nothing stands behind nothing
 abbrev pub IsStrict : {X : Type 0} → Part X → Type 0

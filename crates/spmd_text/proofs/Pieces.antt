@@ -9,7 +9,7 @@ use Rattle.spmd_text.specs.declared.piece.Piece.TheVariants as piece
 use Rattle.spmd_text.specs.declared.piece.Token.{Token}
 use Rattle.spmd_text.specs.Words.{word_code, code}
 use Rattle.spmd_text.specs.declared.fault.ParseReason.{ParseReason}
-use Rattle.spmd_text.specs.Reading.{next_of, behind}
+use Rattle.spmd_text.specs.parts.Reading.{next_of, behind}
 use Rattle.spmd_text.specs.Spelling.{is_name, is_number, same_number, is_piece, only, after}
 
 -- neither a name nor a number: its code tells it

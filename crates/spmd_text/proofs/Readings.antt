@@ -13,14 +13,16 @@ use Rattle.spmd_text.specs.declared.piece.Pieces.{Pieces}
 use Rattle.spmd_text.specs.declared.piece.Token.{Token}
 use Rattle.spmd_text.specs.declared.reading.Policy.{Policy}
 use Rattle.spmd_text.specs.declared.reading.Text.{Text}
-use Rattle.spmd_text.specs.Tokens.{ArePieces, Cutting, pieces_of}
-use Rattle.spmd_text.specs.Reading.{Finds}
+use Rattle.spmd_text.specs.parts.Tokens.{ArePieces}
+use Rattle.spmd_text.specs.Tokens.{Cutting, pieces_of}
+use Rattle.spmd_text.specs.parts.Reading.{Finds}
 use Rattle.spmd_text.specs.Spelling.{Rest, after, after_statement, after_text, is_ordered, is_piece, only}
-use Rattle.spmd_text.specs.Statements.{heading_part}
-use Rattle.spmd_text.specs.Programs.{Meets, ObeysText, Says, is_all_read, parameters_of, text_part}
+use Rattle.spmd_text.specs.parts.Statements.{heading_part}
+use Rattle.spmd_text.specs.parts.Programs.{Meets, is_all_read, text_part}
+use Rattle.spmd_text.specs.Programs.{ObeysText, Says, parameters_of}
 use Rattle.spmd_text.specs.FirstFaults.{IsFirstFault, IsReadable}
-use Rattle.spmd_text.specs.Joints.{Place}
-use Rattle.spmd_text.specs.Lines.{IsEnded, Tells, begin}
+use Rattle.spmd_text.specs.parts.Joints.{Place}
+use Rattle.spmd_text.specs.parts.Lines.{IsEnded, Tells, begin}
 use Rattle.spmd_text.specs.Texts.{HasFault, HasFirstFault, IsText, grammar_fault, is_memory}
 use Rattle.spmd_text.proofs.FirstFaults.{first_fault}
 use Rattle.spmd_text.proofs.Names.{text_fits, text_ordered, text_same}

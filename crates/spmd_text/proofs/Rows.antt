@@ -6,10 +6,11 @@ use Rattle.spmd_tree.specs.declared.tree.Expression.{Expression}
 use Rattle.spmd_text.specs.declared.joints.Joint.{Joint}
 use Rattle.spmd_text.specs.declared.joints.Joint.TheVariants as joint
 use Rattle.spmd_text.specs.declared.joints.Row.{Row}
-use Rattle.spmd_text.specs.Joints.{binding_of, closeness, is_lone, Place, joined}
+use Rattle.spmd_text.specs.parts.Joints.{binding_of, is_lone, Place, joined}
+use Rattle.spmd_text.specs.Joints.{closeness}
 use Rattle.spmd_text.specs.Limits.{parts}
-use Rattle.spmd_text.specs.Growing.{IsRow, is_lone_tree}
-use Rattle.spmd_text.specs.Found.{IsLonger}
+use Rattle.spmd_text.specs.parts.Growing.{IsRow, is_lone_tree}
+use Rattle.spmd_text.specs.parts.Found.{IsLonger}
 use Rattle.spmd_text.proofs.Growing.{closeness_joined, parts_joined}
 
 lone_joined : (j : Joint) (p : Place) (a : Expression) (q : Place) (b : Expression) → is_lone_tree (joined j p a q b) ≡ is_lone j

@@ -5,9 +5,10 @@ use Rattle.spmd_text.specs.declared.fault.ParseReason.{ParseReason}
 use Rattle.spmd_text.specs.declared.fault.ParseReason.TheVariants.{Memory}
 use Rattle.spmd_text.specs.declared.parser.Parser.{Parser}
 use Rattle.spmd_text.specs.declared.piece.Token.{Token}
-use Rattle.spmd_text.specs.Reading.{Finds, noted}
-use Rattle.spmd_text.specs.Parts.{Keeps, Part, Reads}
-use Rattle.spmd_text.specs.Statements.{Scope, scope_of}
+use Rattle.spmd_text.specs.parts.Reading.{Finds, noted}
+use Rattle.spmd_text.specs.parts.Parts.{Keeps, Part, Reads}
+use Rattle.spmd_text.specs.parts.Statements.{scope_of}
+use Rattle.spmd_text.specs.Statements.{Scope}
 use Rattle.spmd_text.proofs.Going.{goes_failed, never_failed}
 use Rattle.spmd_text.proofs.Parts.{keeps_of, keeps_on, sound_before, still_found}
 

@@ -6,8 +6,8 @@ use Rattle.spmd_tree.specs.declared.tree.Statement.{Statement}
 use Rattle.spmd_text.specs.declared.fault.ParseReason.{ParseReason}
 use Rattle.spmd_text.specs.declared.fault.ParseReason.TheVariants.{Memory}
 use Rattle.spmd_text.specs.declared.parser.Parser.{Parser}
-use Rattle.spmd_text.specs.Reading.{noted}
-use Rattle.spmd_text.specs.Statements.{IsInTurn, Makes, flat, flat_all}
+use Rattle.spmd_text.specs.parts.Reading.{noted}
+use Rattle.spmd_text.specs.parts.Statements.{IsInTurn, Makes, flat, flat_all}
 use Rattle.spmd_text.proofs.Flat.{flat_append}
 
 noted_twice : (fault : Option ParseReason) → noted (noted fault Memory) Memory ≡ noted fault Memory

@@ -18,8 +18,8 @@ use Rattle.spmd_text.specs.declared.piece.Piece.TheVariants as piece
 use Rattle.spmd_text.specs.declared.piece.Token.{Token}
 use Rattle.spmd_text.specs.Words.{code}
 use Rattle.spmd_text.specs.Spelling.{Rest, after, after_start, call_word, is_piece, kind_word, only}
-use Rattle.spmd_text.specs.Parts.{form_of, form_of_call}
-use Rattle.spmd_text.specs.Statements.{first_word, is_call, is_one, is_simple, put_back}
+use Rattle.spmd_text.specs.parts.Parts.{form_of, form_of_call}
+use Rattle.spmd_text.specs.parts.Statements.{first_word, is_call, is_one, is_simple, put_back}
 use Rattle.spmd_text.proofs.NoStar.{left_before, only_left}
 use Rattle.spmd_text.proofs.Parts.{none_some}
 use Rattle.spmd_text.proofs.Pieces.{piece_is}

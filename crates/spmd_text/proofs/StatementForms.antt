@@ -12,8 +12,9 @@ use Rattle.spmd_text.specs.declared.piece.Word.TheVariants as word
 use Rattle.spmd_text.specs.declared.piece.Piece.TheVariants as piece
 use Rattle.spmd_text.specs.declared.piece.Token.{Token}
 use Rattle.spmd_text.specs.Spelling.{Rest, after, after_arguments, after_labels, after_start, after_statement, after_value, call_word}
-use Rattle.spmd_text.specs.Parts.{Part, arguments_part, form_of, form_of_call, labels_part, name_part, piece_part, then_part, value_part}
-use Rattle.spmd_text.specs.Statements.{Begins, Obeys, begun_part, ends_behind, first_word, is_call, may_give, put_back, scope_of, variable_part}
+use Rattle.spmd_text.specs.parts.Parts.{Part, arguments_part, form_of, form_of_call, labels_part, name_part, piece_part, then_part, value_part}
+use Rattle.spmd_text.specs.parts.Statements.{Begins, begun_part, ends_behind, first_word, is_call, put_back, scope_of, variable_part}
+use Rattle.spmd_text.specs.Statements.{Obeys, may_give}
 use Rattle.spmd_text.proofs.Parts.{IsAs, none_some}
 use Rattle.spmd_text.proofs.Scopes.{checked}
 use Rattle.spmd_text.proofs.Starts.{form_of_word, is_a_call, is_assign, is_unreached, is_wait_all, start_behind, start_same}

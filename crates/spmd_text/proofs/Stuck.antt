@@ -4,11 +4,13 @@ use Rattle.spmd_text.specs.declared.fault.ParseReason.{ParseReason}
 use Rattle.spmd_text.specs.declared.fault.ParseReason.TheVariants.{Memory}
 use Rattle.spmd_text.specs.declared.parser.Parser.{Parser}
 use Rattle.spmd_text.specs.declared.piece.Token.{Token}
-use Rattle.spmd_text.specs.Reading.{Finds, Sticks, noted}
-use Rattle.spmd_text.specs.Parts.{Part, Reads}
-use Rattle.spmd_text.specs.Statements.{Makes, line_at}
+use Rattle.spmd_text.specs.parts.Reading.{Finds, Sticks, noted}
+use Rattle.spmd_text.specs.parts.Parts.{Part, Reads}
+use Rattle.spmd_text.specs.parts.Statements.{Makes}
+use Rattle.spmd_text.specs.Statements.{line_at}
 use Rattle.spmd_text.specs.Lines as lines
-use Rattle.spmd_text.specs.Lines.{IsStuckAt, Level, Steps, Tells, closes, has_text_end, is_line}
+use Rattle.spmd_text.specs.parts.Lines.{IsStuckAt, Level, Steps, Tells, has_text_end}
+use Rattle.spmd_text.specs.Lines.{closes, is_line}
 use Rattle.spmd_text.proofs.Framing.{longer_line, open_piece}
 use Rattle.spmd_text.proofs.LineEnds.{end_before, runs_end}
 use Rattle.spmd_text.proofs.LineKinds.{ByKind, Kind, by_kind, kind_at}

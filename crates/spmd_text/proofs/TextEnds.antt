@@ -9,7 +9,7 @@ use Rattle.spmd_text.specs.declared.piece.Piece.TheVariants as piece
 use Rattle.spmd_text.specs.declared.piece.Token.{Token}
 use Rattle.spmd_text.specs.Words.{word_of}
 use Rattle.spmd_text.specs.Tokens.{Cutting, Step, closing, commented, equals, equals_after, fed, feed, feed_all, finished, is_digit, is_word_byte, known_or_named, lettered, line_ended, lined, name_ended, named, named_new, next_line, nothing, number_from, on, opened, closed, pieces_of, place_from, placed, pushed, sign_alone, sign_doubled, sign_ended, sign_ended_by, signed, single, with_name, word_ended, word_ended_by, worded, wordless}
-use Rattle.spmd_text.specs.Lines.{IsEnded, has_text_end, is_text_end}
+use Rattle.spmd_text.specs.parts.Lines.{IsEnded, has_text_end, is_text_end}
 
 -- the text doesn't end in these pieces
 abbrev GoesOn : List Token → Type 0

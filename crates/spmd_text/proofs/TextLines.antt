@@ -16,13 +16,16 @@ use Rattle.spmd_text.specs.declared.piece.Token.{Token}
 use Rattle.spmd_text.specs.declared.reading.Policy.{Policy}
 use Rattle.spmd_text.specs.declared.reading.Policy.TheVariants as policy
 use Rattle.spmd_text.specs.Limits.{IsWithin}
-use Rattle.spmd_text.specs.Reading.{Finds, Sticks, next, next_of}
+use Rattle.spmd_text.specs.parts.Reading.{Finds, Sticks, next, next_of}
 use Rattle.spmd_text.specs.Words.{code}
 use Rattle.spmd_text.specs.Spelling.{after, after_optional, after_parameter, after_policy, after_statement, begins, is_any, is_piece, only, policy_word}
-use Rattle.spmd_text.specs.Parts.{Reads}
-use Rattle.spmd_text.specs.Statements.{Makes, MayOne, MaySpan, Scope, behind_all, flat_all, heading_line_part, heading_part, is_end, is_one_of, line_at, may_give, policy_line_part, scope_of, statements_part}
-use Rattle.spmd_text.specs.Programs.{Grows, ReadsParameters, is_all_read, parameters_of}
-use Rattle.spmd_text.specs.Lines.{Block, IsEnded, IsStuckAt, Level, Moves, Runs, Steps, Tells, begin, behind_one, has_text_end, in_block, in_loop, is_inner, is_line, is_settled, is_text_end, level_at, lists, takes}
+use Rattle.spmd_text.specs.parts.Parts.{Reads}
+use Rattle.spmd_text.specs.parts.Statements.{Makes, MayOne, MaySpan, behind_all, flat_all, heading_line_part, heading_part, is_end, policy_line_part, scope_of, statements_part}
+use Rattle.spmd_text.specs.Statements.{Scope, is_one_of, line_at, may_give}
+use Rattle.spmd_text.specs.parts.Programs.{Grows, ReadsParameters, is_all_read}
+use Rattle.spmd_text.specs.Programs.{parameters_of}
+use Rattle.spmd_text.specs.parts.Lines.{Block, IsEnded, IsStuckAt, Level, Moves, Runs, Steps, Tells, begin, behind_one, has_text_end, in_block, in_loop, is_inner, is_settled, is_text_end, level_at, lists, takes}
+use Rattle.spmd_text.specs.Lines.{is_line}
 use Rattle.spmd_text.specs.Lines as lines
 use Rattle.spmd_text.proofs.FirstFaults.{RunsEarly, grown, heading_runs, lists_outermost, only_level, parameters_run, policy_runs, step_early, with_parameters}
 use Rattle.spmd_text.proofs.BlockWords.{start_begins}

@@ -12,11 +12,12 @@ use Rattle.spmd_text.specs.declared.piece.Word.{Word}
 use Rattle.spmd_text.specs.declared.piece.Word.TheVariants as word
 use Rattle.spmd_text.specs.declared.piece.Piece.TheVariants as piece
 use Rattle.spmd_text.specs.declared.piece.Token.{Token}
-use Rattle.spmd_text.specs.Joints.{Place}
+use Rattle.spmd_text.specs.parts.Joints.{Place}
 use Rattle.spmd_text.specs.Spelling.{Rest, after, after_end, after_head, after_span, after_statement, after_variable, call_word, is_branch, is_tail}
-use Rattle.spmd_text.specs.Parts.{form_of, form_of_call}
-use Rattle.spmd_text.specs.Statements.{MayStatements, MayTail, Obeys, Scope, first_word, is_one, is_simple, within_loop}
-use Rattle.spmd_text.specs.Lines.{Block, Level, Runs, Steps, behind_one, branch, chained, done, end, is_inner, is_open, is_settled, last, loop, more, otherwise, plain, repeat, settled, simple, start, takes, when}
+use Rattle.spmd_text.specs.parts.Parts.{form_of, form_of_call}
+use Rattle.spmd_text.specs.parts.Statements.{MayStatements, MayTail, first_word, is_one, is_simple}
+use Rattle.spmd_text.specs.Statements.{Obeys, Scope, within_loop}
+use Rattle.spmd_text.specs.parts.Lines.{Block, Level, Runs, Steps, behind_one, branch, chained, done, end, is_inner, is_open, is_settled, last, loop, more, otherwise, plain, repeat, settled, simple, start, takes, when}
 use Rattle.spmd_text.proofs.BlockForms.{not_so}
 use Rattle.spmd_text.proofs.BlockWords.{end_strict, statement_strict}
 use Rattle.spmd_text.proofs.Following.{and_left, and_right}

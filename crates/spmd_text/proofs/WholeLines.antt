@@ -14,8 +14,9 @@ use Rattle.spmd_text.specs.declared.piece.Piece.TheVariants as piece
 use Rattle.spmd_text.specs.declared.piece.Token.{Token}
 use Rattle.spmd_text.specs.declared.reading.Policy.{Policy}
 use Rattle.spmd_text.specs.Spelling.{Rest, after, after_end, after_gap, after_head, after_parameter, after_span, after_statement, after_variable, branch_word, call_word, is_piece, only, policy_word, same_number}
-use Rattle.spmd_text.specs.Statements.{first_word, is_one, is_simple}
-use Rattle.spmd_text.specs.Lines.{closes, is_line, is_text_end}
+use Rattle.spmd_text.specs.parts.Statements.{first_word, is_one, is_simple}
+use Rattle.spmd_text.specs.parts.Lines.{is_text_end}
+use Rattle.spmd_text.specs.Lines.{closes, is_line}
 use Rattle.spmd_text.proofs.Framing.{Framed, IsFull, framed_arguments, framed_condition, framed_labels, framed_on, framed_optional, framed_piece, framed_start, framed_value, framed_word, one_before}
 use Rattle.spmd_text.proofs.LeftOut.{gap_strict}
 use Rattle.spmd_text.proofs.NoStar.{left_before, only_left}

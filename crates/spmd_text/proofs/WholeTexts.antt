@@ -10,11 +10,13 @@ use Rattle.spmd_text.specs.declared.piece.Piece.{Piece}
 use Rattle.spmd_text.specs.declared.piece.Piece.TheVariants as piece
 use Rattle.spmd_text.specs.declared.piece.Token.{Token}
 use Rattle.spmd_text.specs.declared.reading.Policy.{Policy}
-use Rattle.spmd_text.specs.Reading.{Finds, Goes, Stands}
+use Rattle.spmd_text.specs.parts.Reading.{Finds, Goes, Stands}
 use Rattle.spmd_text.specs.Spelling.{Rest, after_statement, begins, is_branch, only}
-use Rattle.spmd_text.specs.Parts.{Reads, lacks}
-use Rattle.spmd_text.specs.Statements.{IsInTurn, Makes, MayAll, Obeys, Scope, behind_all, ends_statements, first_word, flat, heading_part, is_one, scope_of, statements_part}
-use Rattle.spmd_text.specs.Programs.{Meets, ObeyParameters, ObeysText, ReadsParameters, behind_parameters, is_all_read, parameters_of, text_part}
+use Rattle.spmd_text.specs.parts.Parts.{Reads, lacks}
+use Rattle.spmd_text.specs.parts.Statements.{IsInTurn, Makes, MayAll, behind_all, ends_statements, first_word, flat, heading_part, is_one, scope_of, statements_part}
+use Rattle.spmd_text.specs.Statements.{Obeys, Scope}
+use Rattle.spmd_text.specs.parts.Programs.{Meets, ReadsParameters, is_all_read, text_part}
+use Rattle.spmd_text.specs.Programs.{ObeyParameters, ObeysText, behind_parameters, parameters_of}
 use Rattle.spmd_text.proofs.BlockForms.{not_so}
 use Rattle.spmd_text.proofs.BlockWords.{one_begins, or_right, same_begin, statement_strict}
 use Rattle.spmd_text.proofs.Flat.{all_strict, flat_of}

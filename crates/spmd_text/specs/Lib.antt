@@ -7,11 +7,9 @@ pub mod Texts
 pub mod Headings
 pub mod Joints
 pub mod Limits
-pub mod Reading
-pub mod Growing
-pub mod Found
 pub mod Parts
 pub mod Statements
 pub mod Programs
 pub mod Lines
 pub mod FirstFaults
+pub mod parts

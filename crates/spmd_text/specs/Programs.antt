@@ -1,21 +1,14 @@
 -- Parameters and whole texts, and which of them may be read.
-use Rattle.std.specs.Prelude.{◌≡◌, ◌⊎◌, ℕ, ◌≤◌, Bool, true, false, ◌&&◌, List, [], ◌∷◌, ◌++◌, length, Option, Some, None}
+use Rattle.std.specs.Prelude.{◌≡◌, ℕ, true, false, List, [], ◌∷◌, ◌++◌, Some}
 use Rattle.std.specs.Global.{Vec}
-use Rattle.spmd_tree.specs.declared.tree.Expression.{Expression}
 use Rattle.spmd_tree.specs.declared.tree.Statement.{Statement}
 use Rattle.spmd_tree.specs.declared.tree.Statement.TheVariants as statement
-use Rattle.spmd_text.specs.declared.fault.ParseReason.TheVariants.{Memory}
-use Rattle.spmd_text.specs.declared.parser.Parser.{Parser}
-use Rattle.spmd_text.specs.declared.piece.Word.TheVariants as word
-use Rattle.spmd_text.specs.declared.piece.Piece.TheVariants as piece
 use Rattle.spmd_text.specs.declared.piece.Token.{Token}
 use Rattle.spmd_text.specs.declared.reading.Policy.{Policy}
-use Rattle.spmd_text.specs.Joints.{stops}
 use Rattle.spmd_text.specs.Limits.{IsWithin}
-use Rattle.spmd_text.specs.Reading.{Finds, Sticks, noted}
-use Rattle.spmd_text.specs.Spelling.{after_optional, after_statement, after_text, is_piece}
-use Rattle.spmd_text.specs.Parts.{IfThere, Part, Unknown, any_end, lacks}
-use Rattle.spmd_text.specs.Statements.{Obeys, Scope, heading_part, is_one_of, put_back}
+use Rattle.spmd_text.specs.Spelling.{after_text}
+use Rattle.spmd_text.specs.Parts.{IfThere}
+use Rattle.spmd_text.specs.Statements.{Obeys, Scope, is_one_of}
 
 -- ---- rules
 
@@ -43,95 +36,7 @@ abbrev pub ObeysText : List (Vec ℕ) → Statement → Type 0
 ObeysText names (statement.Sequence' p a q b) = ObeyParameters [] a × Obeys (behind_parameters names a) 32 b
 ObeysText names _ = ⊥
 
--- ---- how they are read
-
--- As `Keeps`, where these names of parameters are added, unless something is wrong.
-pub record Grows (old new : Parser) (names : List ℕ) : Type 0 where
-  pub names_same : new.names.now ≡ old.names.now
-  pub in_parameter : new.in_parameter ≡ old.in_parameter
-  pub parameters : new.fault ≡ None → new.parameters.items ≡ old.parameters.items ++ names
-  pub loops : new.loops.items ≡ old.loops.items
-  pub shorter : length new.rest.now ≤ length old.rest.now
-  pub sticks : Sticks old new
-
--- As `Reads`, but for what is kept.
-pub record Meets {X : Type 0} (part : Part X) (old new : Parser) (found : X) : Type 0 where
-  pub finds : (x : X) (rest : List Token) → old.fault ≡ None → part.behind x (Some old.rest.now) ≡ Some rest → part.May x → part.ends rest ≡ true
-      → Finds new rest (part.Same found x)
-  pub stands : new.fault ≡ None → part.behind found (Some old.rest.now) ≡ Some new.rest.now
-  pub may : new.fault ≡ None → part.May found
-
--- ---- one parameter
-
--- an `=` and the value, which is the same on all ranks; or none
-abbrev pub otherwise_part : Part (Option Expression)
-otherwise_part = record {
-  behind = after_optional piece.Equals;
-  May = IfThere (IsWithin 32 true);
-  Same = Unknown;
-  ends = λ rest. stops 4 rest && lacks piece.Equals rest;
-}
-
--- a name is added to those of parameters, unless memory ran out, which is noted
-abbrev pub Adds : Parser → Parser → ℕ → Type 0
-Adds old new name =
-    ((new ≡ record old { parameters = new.parameters }) × (new.parameters.items ≡ old.parameters.items ++ name ∷ []))
-    ⊎ (new ≡ record old { parameters = new.parameters; fault = noted old.fault Memory })
-
-abbrev pub is_parameter : Statement → Bool
-is_parameter (statement.Parameter line name e) = true
-is_parameter _ = false
-
--- one parameter, behind those of these names
-pub record MayParameter (names : List ℕ) (s : Statement) : Type 0 where
-  pub one : is_parameter s ≡ true
-  pub obeys : ObeyParameters names s
-
--- a parameter behind its word, which stands on this line
-abbrev pub parameter_part : List ℕ → ℕ → Part Statement
-parameter_part names line = record {
-  behind = λ s rest. after_statement s (put_back line word.Param rest);
-  May = MayParameter names;
-  Same = λ a b. parameters_of a ≡ parameters_of b;
-  ends = any_end;
-}
-
--- The parameter is read, and its name is added.
-pub record ReadsParameter (old new : Parser) (line : ℕ) (found : Statement) : Type 0 where
-  pub goes : Grows old new (parameters_of found)
-  pub meets : Meets (parameter_part old.parameters.items line) old new found
-
--- ---- parameters
-
--- parameters behind those of these names, and which names they add
-abbrev pub parameters_part : List ℕ → Part Statement
-parameters_part names = record {
-  behind = after_statement;
-  May = ObeyParameters names;
-  Same = λ a b. parameters_of a ≡ parameters_of b;
-  ends = lacks (piece.Word word.Param);
-}
-
--- The parameters are read, and their names are added.
-pub record ReadsParameters (old new : Parser) (found : Statement) : Type 0 where
-  pub goes : Grows old new (parameters_of found)
-  pub meets : Meets (parameters_part old.parameters.items) old new found
-
 -- ---- whole texts
-
--- the end of the text is all that is left
-abbrev pub is_all_read : List Token → Bool
-is_all_read (t ∷ []) = is_piece piece.TextEnd t.piece
-is_all_read _ = false
-
--- the whole text, up to its end
-abbrev pub text_part : List (Vec ℕ) → Part (Policy × Statement)
-text_part names = record {
-  behind = λ both rest. after_statement both.1 (heading_part.behind both.0 rest);
-  May = λ both. ObeysText names both.1;
-  Same = λ a b. Unit {0};
-  ends = is_all_read;
-}
 
 -- these pieces, of these names, are written as this policy and these statements, which keep the
 -- rules and limits

@@ -6,12 +6,13 @@
 
 ghost use Rattle.std.specs.Prelude.{[], ◌∷◌, ◌≡◌, ◌++◌, ◌<◌, ℕ, IsTrue, List, None, Some, false, length, true};
 ghost use Rattle.spmd_tree.specs.declared.tree.Statement.{Statement};
-ghost use Rattle.spmd_text.specs.Parts.{Reads};
-ghost use Rattle.spmd_text.specs.Programs.{Meets, ReadsParameters, is_all_read, text_part};
-ghost use Rattle.spmd_text.specs.Reading.{Goes, next};
+ghost use Rattle.spmd_text.specs.parts.Parts.{Reads};
+ghost use Rattle.spmd_text.specs.parts.Programs.{Meets, ReadsParameters, is_all_read, text_part};
+ghost use Rattle.spmd_text.specs.parts.Reading.{Goes, next};
 ghost use Rattle.spmd_text.specs.Spelling.{begins, branch_word};
-ghost use Rattle.spmd_text.specs.Lines.{Block, EndsBlock, EndsBranch, IsEnded, Level, Tells, begin, from_word, is_inner, is_settled, level_at, lists, may_hold};
-ghost use Rattle.spmd_text.specs.Statements.{IsInTurn, IsInside, IsOtherwise, IsRepeat, IsWhen, Kept, Makes, begun_part, end_part, flat, flat_all, heading_part, held, held_all, is_end, is_first, line_at, one_part, scope_of, statements_part, tail_part, within_loop, word_of};
+ghost use Rattle.spmd_text.specs.parts.Lines.{Block, EndsBlock, EndsBranch, IsEnded, Level, Tells, begin, from_word, is_inner, is_settled, level_at, lists, may_hold};
+ghost use Rattle.spmd_text.specs.parts.Statements.{IsInTurn, IsInside, IsOtherwise, IsRepeat, IsWhen, Kept, Makes, begun_part, end_part, flat, flat_all, heading_part, held, held_all, is_end, is_first, one_part, scope_of, statements_part, tail_part, word_of};
+ghost use Rattle.spmd_text.specs.Statements.{line_at, within_loop};
 
 use crate::codes::code;
 use crate::expressions::condition_at;

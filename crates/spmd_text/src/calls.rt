@@ -5,10 +5,10 @@
 
 ghost use Rattle.std.specs.Prelude.{ℕ, ◌≡◌, ◌+◌, IfSome, None, Some, false, slice_get, true};
 ghost use Rattle.spmd_text.specs.Labels.{name_fits};
-ghost use Rattle.spmd_text.specs.Parts.{IsRight, Keeps, Reads, arguments_part, form_of, group_part, index_part, label_part, labels_part, optional_part, request_part, root_part, value_part, wild_part};
-ghost use Rattle.spmd_text.specs.Reading.{Goes};
+ghost use Rattle.spmd_text.specs.parts.Parts.{IsRight, Keeps, Reads, arguments_part, form_of, group_part, index_part, label_part, labels_part, optional_part, request_part, root_part, value_part, wild_part};
+ghost use Rattle.spmd_text.specs.parts.Reading.{Goes};
 ghost use Rattle.spmd_text.specs.Spelling.{begins, is_rooted};
-ghost use Rattle.spmd_text.specs.Statements.{IsMore, Makes, begun_part, held, is_call, scope_of};
+ghost use Rattle.spmd_text.specs.parts.Statements.{IsMore, Makes, begun_part, held, is_call, scope_of};
 
 use crate::expressions::expression_at;
 use crate::fault::ParseReason;

@@ -1,7 +1,8 @@
 //! A text is cut into its pieces, byte by byte.
 
 ghost use Rattle.std.specs.Prelude.{◌≡◌};
-ghost use Rattle.spmd_text.specs.Tokens.{Steps, GivesPieces, seen, sign_ended, line_ended, equals, single, feed, fed, is_word_byte, finished, pieces_of, pushed, opened, closed, fault_of};
+ghost use Rattle.spmd_text.specs.parts.Tokens.{Steps, GivesPieces, seen, fault_of};
+ghost use Rattle.spmd_text.specs.Tokens.{sign_ended, line_ended, equals, single, feed, fed, is_word_byte, finished, pieces_of, pushed, opened, closed};
 
 use crate::fault::{ParseFault, ParseReason, TextFault};
 use crate::lexer::{Halt, Lexer, is_word_byte};

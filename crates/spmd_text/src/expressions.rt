@@ -2,17 +2,17 @@
 //!
 //! What is wrong is noted, and then no piece is read any more: so the parts end one after another.
 
-ghost use Rattle.spmd_text.specs.Parts.{Reads, condition_part, value_part};
+ghost use Rattle.spmd_text.specs.parts.Parts.{Reads, condition_part, value_part};
 ghost use Rattle.std.specs.Prelude.{◌≡◌, ◌≤◌, ℕ, true, false, List, Some, None, Ok, IfOk};
 ghost use Rattle.spmd_tree.specs.declared.tree.Expression.{Expression};
 ghost use Rattle.spmd_tree.specs.declared.tree.Expression.TheVariants as form;
 ghost use Rattle.spmd_text.specs.declared.expressions.Beginning.TheVariants as beginning;
 ghost use Rattle.spmd_text.specs.declared.piece.Token.{Token};
-ghost use Rattle.spmd_text.specs.Found.{PutAround, PutChoice, PutTogether, SoFar, WasBegun, WasRead};
-ghost use Rattle.spmd_text.specs.Growing.{beginning_of, begun, first_close, inside, enclosed, ends_prefix, is_operand, Growing, MayBegin};
-ghost use Rattle.spmd_text.specs.Joints.{joined, may_join, stops, Place};
+ghost use Rattle.spmd_text.specs.parts.Found.{PutAround, PutChoice, PutTogether, SoFar, WasBegun, WasRead};
+ghost use Rattle.spmd_text.specs.parts.Growing.{beginning_of, begun, first_close, inside, enclosed, ends_prefix, is_operand, Growing, MayBegin};
+ghost use Rattle.spmd_text.specs.parts.Joints.{joined, may_join, stops, Place};
 ghost use Rattle.spmd_text.specs.Limits.{IsWithin};
-ghost use Rattle.spmd_text.specs.Reading.{next, noted, Ahead, Alike, Finds, Goes, MayStand, Stands};
+ghost use Rattle.spmd_text.specs.parts.Reading.{next, noted, Ahead, Alike, Finds, Goes, MayStand, Stands};
 ghost use Rattle.spmd_text.specs.Spelling.{after_condition, after_value, is_condition};
 
 use crate::fault::ParseReason;

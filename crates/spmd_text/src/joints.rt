@@ -4,9 +4,9 @@ ghost use Rattle.std.specs.Prelude.{◌≡◌, ◌≤◌, true, Ok, IfOk};
 ghost use Rattle.spmd_tree.specs.declared.tree.Expression.{Expression};
 ghost use Rattle.spmd_tree.specs.declared.tree.Expression.TheVariants as form;
 ghost use Rattle.spmd_text.specs.declared.joints.Row.{Row};
-ghost use Rattle.spmd_text.specs.Found.{IsLonger};
-ghost use Rattle.spmd_text.specs.Growing.{enclosed, leaf_of, IsRow};
-ghost use Rattle.spmd_text.specs.Joints.{binding_of, goes_on, is_lone, joined, joint_ahead, joint_of, joins_conditions, may_join, Place};
+ghost use Rattle.spmd_text.specs.parts.Found.{IsLonger};
+ghost use Rattle.spmd_text.specs.parts.Growing.{enclosed, leaf_of, IsRow};
+ghost use Rattle.spmd_text.specs.parts.Joints.{binding_of, goes_on, is_lone, joined, joint_ahead, joint_of, joins_conditions, may_join, Place};
 ghost use Rattle.spmd_text.specs.Limits.{parts};
 
 use crate::fault::ParseReason;

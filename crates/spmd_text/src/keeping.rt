@@ -1,8 +1,8 @@
 //! Statements in memory of their own, where memory lasts.
 
 ghost use Rattle.std.specs.Prelude.{◌≡◌, IfOk};
-ghost use Rattle.spmd_text.specs.Reading.{noted};
-ghost use Rattle.spmd_text.specs.Statements.{Makes, held};
+ghost use Rattle.spmd_text.specs.parts.Reading.{noted};
+ghost use Rattle.spmd_text.specs.parts.Statements.{Makes, held};
 
 use crate::fault::ParseReason;
 use crate::parser::Parser;

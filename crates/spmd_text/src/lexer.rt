@@ -1,7 +1,8 @@
 //! How far a text is cut into pieces, and how its words end.
 
 ghost use Rattle.std.specs.Prelude.{◌≡◌, ◌<◌, map};
-ghost use Rattle.spmd_text.specs.Tokens.{Steps, GivesNumber, GivesPlace, seen, wants_more, number_from, place_from, placed, name_ended, word_ended, named_new, is_word_byte, pushed, worded};
+ghost use Rattle.spmd_text.specs.parts.Tokens.{Steps, GivesNumber, GivesPlace, seen};
+ghost use Rattle.spmd_text.specs.Tokens.{wants_more, number_from, place_from, placed, name_ended, word_ended, named_new, is_word_byte, pushed, worded};
 
 use crate::fault::ParseReason;
 use crate::piece::{Piece, Token};

@@ -1,10 +1,11 @@
 //! Lines that are statements of their own, and the heading of a text.
 
 ghost use Rattle.std.specs.Prelude.{◌≡◌, ◌≤◌, IfSome, length, ℕ, pos, None, Some, true, false};
-ghost use Rattle.spmd_text.specs.Parts.{Keeps, Reads, value_part};
-ghost use Rattle.spmd_text.specs.Programs.{Adds, ReadsParameter, otherwise_part};
-ghost use Rattle.spmd_text.specs.Reading.{Goes};
-ghost use Rattle.spmd_text.specs.Statements.{IsStep, begun_part, gap_part, held, heading_line_part, is_one_of, is_simple, may_give, policy_line_part, policy_of, policy_part, scope_of, span_part, step_part, variable_part};
+ghost use Rattle.spmd_text.specs.parts.Parts.{Keeps, Reads, value_part};
+ghost use Rattle.spmd_text.specs.parts.Programs.{Adds, ReadsParameter, otherwise_part};
+ghost use Rattle.spmd_text.specs.parts.Reading.{Goes};
+ghost use Rattle.spmd_text.specs.parts.Statements.{begun_part, gap_part, held, heading_line_part, is_simple, policy_line_part, policy_of, policy_part, scope_of, span_part, step_part, variable_part};
+ghost use Rattle.spmd_text.specs.Statements.{IsStep, is_one_of, may_give};
 
 use crate::calls::{call, wait_all};
 use crate::expressions::expression_at;

@@ -3,9 +3,9 @@
 ghost use Rattle.std.specs.Prelude.{IsTrue, ◌≡◌, ℕ, nat_eq, List, Some, None, true, false};
 ghost use Rattle.spmd_text.specs.declared.piece.Token.{Token};
 ghost use Rattle.spmd_text.specs.declared.piece.Piece.TheVariants as piece;
-ghost use Rattle.spmd_text.specs.Reading.{next, next_of, behind, noted, Goes, Stands};
+ghost use Rattle.spmd_text.specs.parts.Reading.{next, next_of, behind, noted, Goes, Stands};
 ghost use Rattle.spmd_text.specs.Spelling.{after, begins};
-ghost use Rattle.spmd_text.specs.Parts.{Reads, is_plain, name_part, piece_part};
+ghost use Rattle.spmd_text.specs.parts.Parts.{Reads, is_plain, name_part, piece_part};
 ghost use Rattle.spmd_text.specs.Statements.{line_at};
 ghost use Rattle.spmd_text.specs.Words.{code};
 

@@ -2,9 +2,9 @@
 
 ghost use Rattle.std.specs.Prelude.{◌≡◌, ◌++◌, IfErr, IfOk, IfSome, None, OnOk, Some, false};
 ghost use Rattle.spmd_text.specs.FirstFaults.{IsFirstFault, IsReadable};
-ghost use Rattle.spmd_text.specs.Lines.{IsEnded};
+ghost use Rattle.spmd_text.specs.parts.Lines.{IsEnded};
 ghost use Rattle.spmd_text.specs.Programs.{Says, parameters_of};
-ghost use Rattle.spmd_text.specs.Statements.{held};
+ghost use Rattle.spmd_text.specs.parts.Statements.{held};
 ghost use Rattle.spmd_text.specs.Texts.{HasFault, IsText, grammar_fault, is_memory};
 
 use crate::blocks::program;

@@ -3,7 +3,7 @@ use Rattle.std.proofs.Common.{◌≡◌, ℕ, ◌+◌, List, [], ◌∷◌, ◌+
 use Rattle.crossbeam_deque.specs.Handles.{view}
 use Rattle.steal.specs.declared.rule.Hand.{Hand}
 use Rattle.steal.specs.declared.seats.ThiefSeat.{ThiefSeat}
-use Rattle.steal.specs.Hands.{hand}
+use Rattle.steal.specs.parts.Hands.{hand}
 use Rattle.steal.specs.Seats.{stolen, stolen_by}
 use Rattle.steal.proofs.Places.{flat_map-snoc}
 

@@ -6,7 +6,8 @@ use lib.ListN.{get_elem?}
 use Rattle.crossbeam_deque.specs.Tasks.{Pushes, Takes, Forks, Merges, Finds}
 use Rattle.crossbeam_deque.proofs.Lists.{at_set, at_snoc}
 use Rattle.steal.specs.declared.rule.Hand.{Hand}
-use Rattle.steal.specs.Hands.{hand, all_parts, total, IdleIsEmpty, Balanced}
+use Rattle.steal.specs.parts.Hands.{hand, total, IdleIsEmpty, Balanced}
+use Rattle.steal.specs.Hands.{all_parts}
 
 pub count_by-append : (p : ℕ → Bool) (xs ys : List ℕ) → count_by p (xs ++ ys) ≡ count_by p xs + count_by p ys
 count_by-append p xs ys = sum_by-append (λ x. cond (p x) 1 0) xs ys

@@ -6,7 +6,7 @@ use Rattle.std.specs.Global.{Vec}
 use Rattle.std.specs.List.{AllByRecursion, AllZip, flat_map}
 use Rattle.steal.specs.declared.seats.OwnerSeat.{OwnerSeat}
 use Rattle.steal.specs.declared.seats.ThiefSeat.{ThiefSeat}
-use Rattle.steal.specs.Rows.{rows_of, AreFreshThieves, AreLast, no_row, one_row}
+use Rattle.steal.specs.parts.Rows.{rows_of, AreFreshThieves, AreLast, no_row, one_row}
 use Rattle.steal.specs.Seats.{stolen, stolen_by, IsThiefOf}
 use Rattle.steal.proofs.Moves.{count_by-append}
 use Rattle.steal.proofs.Places.{AllByRecursion-front, AllZip-front, AllZip-snoc, flat_map-snoc}

@@ -6,7 +6,7 @@ use Rattle.std.specs.Global.{Vec}
 use Rattle.std.specs.List.{AllByRecursion, flat_map}
 use Rattle.steal.specs.declared.seats.OwnerSeat.{OwnerSeat}
 use Rattle.steal.specs.declared.seats.ThiefSeat.{ThiefSeat}
-use Rattle.steal.specs.Rows.{rows_of, AreLast}
+use Rattle.steal.specs.parts.Rows.{rows_of, AreLast}
 use Rattle.steal.specs.Seats.{pushed, popped, stolen_by, thief_count, IsThiefOf}
 use Rattle.steal.specs.Supplies.{AreThieves}
 use Rattle.steal.proofs.Moves.{count_by-append}

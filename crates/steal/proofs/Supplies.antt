@@ -6,7 +6,7 @@ use Rattle.std.specs.List.{AllZip, flat_map}
 use Rattle.steal.specs.declared.seats.OwnerSeat.{OwnerSeat}
 use Rattle.steal.specs.declared.seats.ThiefSeat.{ThiefSeat}
 use Rattle.steal.specs.declared.supply.Supply.{Supply}
-use Rattle.steal.specs.Rows.{IsFreshOwner}
+use Rattle.steal.specs.parts.Rows.{IsFreshOwner}
 use Rattle.steal.specs.Seats.{pushed, popped, stolen_by, IsThiefOf, IsSameOwner, IsSameThief}
 use Rattle.steal.specs.Supplies.{given, given_by, taken, taken_by, owners_of, AreSupplies, IsSameSupply, SuppliesStay}
 use Rattle.steal.proofs.Moves.{count_by-append}

@@ -18,7 +18,8 @@ pub struct Balance;
 
 impl Protocol<u32, Hand> for Balance {
     ghost use Rattle.std.specs.Prelude.{[]};
-    ghost use Rattle.steal.specs.Hands.{hand, Balanced, all_parts};
+    ghost use Rattle.steal.specs.parts.Hands.{hand, Balanced};
+    ghost use Rattle.steal.specs.Hands.{all_parts};
 
     ghost holds = { λ items views. Balanced items views };
 
@@ -32,7 +33,7 @@ pub struct Pushed;
 
 impl Outcome<u32, Hand> for Pushed {
     ghost use Rattle.std.specs.Prelude.{◌≡◌, ◌++◌};
-    ghost use Rattle.steal.specs.Hands.{hand};
+    ghost use Rattle.steal.specs.parts.Hands.{hand};
 
     ghost then = { λ v cubes w. w ≡ hand v.parts (v.pushed ++ cubes) v.taken };
 }
@@ -42,7 +43,7 @@ pub struct Taken;
 
 impl Outcome<u32, Hand> for Taken {
     ghost use Rattle.std.specs.Prelude.{◌≡◌, ◌++◌};
-    ghost use Rattle.steal.specs.Hands.{hand};
+    ghost use Rattle.steal.specs.parts.Hands.{hand};
 
     ghost then = { λ v cubes w. w ≡ hand v.parts v.pushed (v.taken ++ cubes) };
 }
@@ -53,7 +54,7 @@ pub struct Drained;
 
 impl Outcome<u32, Hand> for Drained {
     ghost use Rattle.std.specs.Prelude.{◌≡◌, ◌≤◌, ◌++◌, ℕ, Bool, count_by, length};
-    ghost use Rattle.steal.specs.Hands.{hand};
+    ghost use Rattle.steal.specs.parts.Hands.{hand};
 
     ghost then = { λ v cubes w. (w ≡ hand v.parts v.pushed (v.taken ++ cubes)) × (length (v.taken ++ cubes) ≤ length v.pushed) };
 
@@ -65,7 +66,7 @@ pub struct Parts;
 
 impl Split<Hand> for Parts {
     ghost use Rattle.std.specs.Prelude.{◌-◌, []};
-    ghost use Rattle.steal.specs.Hands.{hand};
+    ghost use Rattle.steal.specs.parts.Hands.{hand};
 
     ghost left = { λ v. hand (v.parts - 1) v.pushed v.taken };
 
@@ -74,7 +75,7 @@ impl Split<Hand> for Parts {
 
 impl Join<Hand> for Parts {
     ghost use Rattle.std.specs.Prelude.{◌+◌, ◌++◌, []};
-    ghost use Rattle.steal.specs.Hands.{hand};
+    ghost use Rattle.steal.specs.parts.Hands.{hand};
 
     ghost both = { λ v w. hand (v.parts + w.parts) (v.pushed ++ w.pushed) (v.taken ++ w.taken) };
 

@@ -3,7 +3,7 @@
 ghost use Rattle.std.specs.Prelude.{◌≡◌, ◌<◌, ◌≤◌, ◌++◌, ◌∷◌, [], ℕ, All, IfOk, length, map, vec_len, MatchOption, MatchResult};
 ghost use Rattle.std.specs.List.{AllZip, flat_map};
 ghost use Rattle.steal.specs.Hands.{occurrences};
-ghost use Rattle.steal.specs.Rows.{rows_of, AreFreshThieves, AreLast, IsFreshOwner};
+ghost use Rattle.steal.specs.parts.Rows.{rows_of, AreFreshThieves, AreLast, IsFreshOwner};
 ghost use Rattle.steal.specs.Seats.{popped, pushed, stolen, stolen_by, thief_count, IsSameThief, IsThiefOf};
 ghost use Rattle.steal.specs.Supplies.{given, given_by, taken, taken_by, owners_of, AreSupplies, AreThieves, HasOneMore, IsSameSupply, SuppliesStay};
 

@@ -2,7 +2,8 @@
 
 ghost use Rattle.std.specs.Prelude.{◌≡◌, ◌+◌, ◌<◌, ◌≤◌, ◌≢◌, ◌++◌, ◌↔◌, ℕ, [], All, Bool, count_by, IfOk, IfErr, OnOk, length, vec_len, vec_capacity};
 ghost use Rattle.crossbeam_deque.specs.Handles.{stealer_deque, worker_deque, worker_flavor, worker_view};
-ghost use Rattle.steal.specs.Hands.{hand, all_parts, occurrences};
+ghost use Rattle.steal.specs.parts.Hands.{hand};
+ghost use Rattle.steal.specs.Hands.{all_parts, occurrences};
 ghost use Rattle.steal.specs.declared.tally.SettleFault.TheVariants.{Missing};
 ghost use Rattle.steal.specs.Seats.{pushed, popped, stolen_by, thief_count, IsThiefOf};
 

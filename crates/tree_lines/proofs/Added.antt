@@ -12,8 +12,8 @@ use Rattle.refutations.specs.Refutations.{AreDerived}
 use Rattle.refutations.proofs.Covers.{derivations-follow}
 use Rattle.refutations.proofs.Numbered.{clause_numbered-line}
 use Rattle.tree_lines.specs.declared.joining.Entry.{Entry}
-use Rattle.tree_lines.specs.LiteralSets.{are_sorted, IsTautology}
-use Rattle.tree_lines.specs.Entries.{IsNumbered, IsEntry, GoesOn, IsAddedEntry}
+use Rattle.tree_lines.specs.parts.LiteralSets.{are_sorted, IsTautology}
+use Rattle.tree_lines.specs.parts.Entries.{IsNumbered, IsEntry, GoesOn, IsAddedEntry}
 use Rattle.tree_lines.proofs.LiteralLaws.{sorted_from_rises, tautology_from_order}
 use Rattle.tree_lines.specs.Joining.{HasEmptyLine, Joins, JoinedRefute}
 

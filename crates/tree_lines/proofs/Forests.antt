@@ -14,7 +14,7 @@ use Rattle.refutations.specs.Derivations.{clauses_before, clause_numbered}
 use Rattle.refutations.specs.Refutations.{AreDerived, Accepts}
 use Rattle.refutations.specs.Trees.{branch, is_refuted, Refutes}
 use Rattle.tree_lines.specs.declared.joining.Entry.{Entry}
-use Rattle.tree_lines.specs.Entries.{IsNumbered, IsEntry, GoesOn, IsSplitEntry}
+use Rattle.tree_lines.specs.parts.Entries.{IsNumbered, IsEntry, GoesOn, IsSplitEntry}
 use Rattle.tree_lines.proofs.Paths.{empty_at_root, no_empty_tautology}
 use Rattle.tree_lines.proofs.Added.{entry_more, entry_goes_on}
 

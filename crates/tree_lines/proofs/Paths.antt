@@ -4,7 +4,7 @@ use Rattle.std.proofs.lemmas.Bool.{and_parts, and_from, or_cases, or_parts, or_l
 use Rattle.clauses.specs.Clauses.{Literal, negation, signed, is_within}
 use Rattle.clauses.specs.Packing.{packed}
 use Rattle.refutations.specs.Trees.{are_opposite, is_negated, is_refuted}
-use Rattle.tree_lines.specs.LiteralSets.{is_among, are_sorted, IsTautology, is_resolved, is_enough}
+use Rattle.tree_lines.specs.parts.LiteralSets.{is_among, are_sorted, IsTautology, is_resolved, is_enough}
 use Rattle.std.specs.List.{filter}
 use Rattle.tree_lines.proofs.LiteralLaws.{is_other, sorted_without, among_without, all_at, all_by, cases_literal, other_literal, double_negation, no_own_negation}
 

@@ -6,7 +6,7 @@ use Rattle.clauses.specs.Packing.{packed}
 use Rattle.refutations.specs.Proofs.{ProofLine}
 use Rattle.refutations.specs.Propagation.{PartialValues, no_values, assign, make_false, is_unknown, is_false, not_false, is_open}
 use Rattle.refutations.specs.Derivations.{clauses_before, clause_numbered, assumed, IsUnit, IsConflict, Derives}
-use Rattle.tree_lines.specs.LiteralSets.{is_among, are_sorted, are_sorted_from}
+use Rattle.tree_lines.specs.parts.LiteralSets.{is_among, are_sorted, are_sorted_from}
 use Rattle.tree_lines.proofs.LiteralLaws.{all_at, among_head, among_tail, among_cases, cases_literal, of_one_variable, sorted_above}
 use Rattle.tree_lines.proofs.Paths.{AreResolved, AreNeeded, resolved_cases, resolved_one, resolved_other}
 

@@ -6,8 +6,8 @@ use Rattle.refutations.specs.Derivations.{clauses_before, clause_numbered, Deriv
 use Rattle.refutations.specs.Refutations.{AreDerived}
 use Rattle.refutations.specs.Trees.{is_refuted}
 use Rattle.tree_lines.specs.declared.joining.Entry.{Entry}
-use Rattle.tree_lines.specs.LiteralSets.{is_among, are_sorted, IsTautology, is_resolved, is_enough}
-use Rattle.tree_lines.specs.Entries.{IsNumbered, IsEntry, IsAddedEntry, IsSplitEntry}
+use Rattle.tree_lines.specs.parts.LiteralSets.{is_among, are_sorted, IsTautology, is_resolved, is_enough}
+use Rattle.tree_lines.specs.parts.Entries.{IsNumbered, IsEntry, IsAddedEntry, IsSplitEntry}
 use Rattle.tree_lines.proofs.Paths.{refuted_one, refuted_other, AreResolved, refuted_resolvent, within_resolvent, AreNeeded, needed_both, tautology_one, tautology_other}
 use Rattle.tree_lines.proofs.Added.{goes_on_none}
 use Rattle.tree_lines.proofs.Resolvents.{resolvent_derives}

@@ -1,3 +1,2 @@
-pub mod Entries
 pub mod Joining
-pub mod LiteralSets
+pub mod parts

@@ -6,9 +6,9 @@ ghost use Rattle.clauses.specs.Clauses.{rises, is_within};
 ghost use Rattle.refutations.specs.Proofs.{is_number, are_numbers};
 ghost use Rattle.refutations.specs.Derivations.{clauses_before, clause_numbered, Derives};
 ghost use Rattle.refutations.specs.Refutations.{AreDerived, Accepts};
-ghost use Rattle.tree_lines.specs.Entries.{IsEntry, IsAddedEntry, IsSplitEntry};
+ghost use Rattle.tree_lines.specs.parts.Entries.{IsEntry, IsAddedEntry, IsSplitEntry};
 ghost use Rattle.tree_lines.specs.Joining.{Joins};
-ghost use Rattle.tree_lines.specs.LiteralSets.{are_sorted, is_enough};
+ghost use Rattle.tree_lines.specs.parts.LiteralSets.{are_sorted, is_enough};
 
 use crate::literals::{has, resolvent};
 use clauses::{Formula, Lit};

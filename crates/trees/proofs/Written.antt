@@ -13,7 +13,7 @@ use Rattle.trees.specs.declared.tree.NodeKind.{NodeKind}
 use Rattle.trees.specs.declared.tree.NodeKind.TheVariants.{Leaf, Split}
 use Rattle.trees.specs.Trees.{TreeNode, kind_at, Grows, IsBelow, AreLeavesNumbered}
 use Rattle.trees.specs.Laws.{IsSplitSound}
-use Rattle.trees.specs.Preorders.{proof_node, nodes_below, tree_by, tree_to_depth, tree_below}
+use Rattle.trees.specs.parts.Preorders.{proof_node, nodes_below, tree_by, tree_to_depth, tree_below}
 use Rattle.trees.proofs.Splits.{kind_within, kind_of_node, splits_sound, root_within}
 
 -- what a node is, with its equation

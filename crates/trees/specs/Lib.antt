@@ -1,3 +1,3 @@
 pub mod Laws
-pub mod Preorders
 pub mod Trees
+pub mod parts

@@ -3,7 +3,7 @@
 ghost use Rattle.std.specs.Prelude.{◌≡◌, ◌++◌, IfOk, OnOk, length};
 ghost use Rattle.refutations.specs.BinaryTrees.{Tree as BinaryTree, preorder};
 ghost use Rattle.trees.specs.Trees.{IsBelow, AreLeavesNumbered};
-ghost use Rattle.trees.specs.Preorders.{proof_node, nodes_below, tree_below};
+ghost use Rattle.trees.specs.parts.Preorders.{proof_node, nodes_below, tree_below};
 
 use crate::tree::{NodeKind, Tree};
 use refutations::{Node, ProofTree};

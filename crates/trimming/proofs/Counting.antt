@@ -4,7 +4,7 @@ use Rattle.std.proofs.lemmas.Bool.{cases_lt}
 use Rattle.std.proofs.lemmas.Option.{slice_get_read}
 use Rattle.std.proofs.lemmas.Bool.Decides.{nat_tests}
 use Rattle.trimming.specs.Needed.{count_first, renumber}
-use Rattle.trimming.specs.Marks.{running}
+use Rattle.trimming.specs.parts.Marks.{running}
 
 pub count_first_most : (k : ℕ) (flags : List Bool) → count_first k flags ≤ k
 count_first_most zero flags = omega arith

@@ -8,7 +8,7 @@ use Rattle.refutations.specs.declared.tree.Node.{Node}
 use Rattle.refutations.specs.declared.tree.Node.TheVariants.{Split, Leaf}
 use Rattle.refutations.specs.Proofs.{ProofLine}
 use Rattle.trimming.specs.Needed.{names_leaf, is_hinted, needed, Needed, IsFirstUnneeded}
-use Rattle.trimming.specs.Marks.{mark, mark_all, mark_leaves, AreMarked}
+use Rattle.trimming.specs.parts.Marks.{mark, mark_all, mark_leaves, AreMarked}
 
 -- ---- one mark
 

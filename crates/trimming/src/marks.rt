@@ -2,7 +2,7 @@
 
 ghost use Rattle.std.specs.Prelude.{◌≡◌, ◌+◌, ◌≤◌, IfOk, length};
 ghost use Rattle.trimming.specs.Needed.{needed};
-ghost use Rattle.trimming.specs.Marks.{mark, mark_all, mark_leaves};
+ghost use Rattle.trimming.specs.parts.Marks.{mark, mark_all, mark_leaves};
 
 use refutations::{Line, Node};
 use std::alloc::{AllocError, Global};

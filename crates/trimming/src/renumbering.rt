@@ -2,7 +2,7 @@
 
 ghost use Rattle.std.specs.Prelude.{◌≡◌, ◌<◌, ◌≤◌, ◌+◌, ◌++◌, ◌∷◌, [], true, false, Some, IfOk, OnOk, OnErr, map, length, slice_get, slice_index, vec_capacity, vec_len};
 ghost use Rattle.trimming.specs.Needed.{renumber, renumbered_line, renumbered_node, kept};
-ghost use Rattle.trimming.specs.Marks.{running};
+ghost use Rattle.trimming.specs.parts.Marks.{running};
 
 use refutations::{Line, Node};
 use std::alloc::{AllocError, Global};
@@ -20,7 +20,7 @@ pub struct Renumbering {
 
 impl Model for Renumbering {
     ghost use Rattle.std.specs.Prelude.{◌≡◌};
-    ghost use Rattle.trimming.specs.Marks.{Staying, running};
+    ghost use Rattle.trimming.specs.parts.Marks.{Staying, running};
 
     ghost Value = { Staying };
 

@@ -9,7 +9,8 @@ use Rattle.unroll.specs.declared.call.Turn.{Turn}
 use Rattle.unroll.specs.declared.machine.Stop.{Stop}
 use Rattle.unroll.specs.declared.machine.Stop.TheVariants.{Memory, Faulty}
 use Rattle.unroll.specs.Whole.{IsRefused, refused}
-use Rattle.unroll.specs.Runs.{Run, Outcome, Done, Failed, Stops, then_do}
+use Rattle.unroll.specs.parts.Runs.{Stops}
+use Rattle.unroll.specs.Runs.{Run, Outcome, Done, Failed, then_do}
 use Rattle.unroll.specs.Statements.{ranks_from, rank_run}
 
 abbrev pub scope_of : ℕ → ℕ → Bool → ℕ → ℕ → Scope

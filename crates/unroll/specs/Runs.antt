@@ -1,5 +1,5 @@
 -- What is kept while a text is unrolled, and what one call does to it.
-use Rattle.std.specs.Prelude.{◌≡◌, ℕ, ◌+◌, ℤ, Bool, true, false, nat_lt, nat_le, List, [], ◌∷◌, ◌++◌, length, Option, Some, None, Result, Ok, Err, slice_set, if◌then◌else◌}
+use Rattle.std.specs.Prelude.{ℕ, ◌+◌, ℤ, Bool, true, false, nat_lt, nat_le, List, [], ◌∷◌, ◌++◌, length, Option, Some, None, Result, Ok, Err, slice_set, if◌then◌else◌}
 use Rattle.spmd_tree.specs.declared.tree.Mode.{Mode}
 use Rattle.spmd_tree.specs.declared.tree.Mode.TheVariants.{Standard}
 use Rattle.spmd_tree.specs.declared.tree.Kind.{Kind}
@@ -19,9 +19,6 @@ use Rattle.unroll.specs.declared.call.Fault.{Fault}
 use Rattle.unroll.specs.declared.arguments.Prepared.{Prepared}
 use Rattle.unroll.specs.declared.arguments.Prepared.TheVariants as given
 use Rattle.unroll.specs.declared.machine.Scope.{Scope}
-use Rattle.unroll.specs.declared.machine.Machine.{Machine}
-use Rattle.unroll.specs.declared.machine.Stop.{Stop}
-use Rattle.unroll.specs.declared.machine.Stop.TheVariants.{Memory, Faulty}
 use Rattle.unroll.specs.Labels.{is_left_out, without}
 use Rattle.unroll.specs.Groups.{is_member, earlier, root_in}
 use Rattle.unroll.specs.Collectives.{calls_of, kind_for, way_of}
@@ -57,24 +54,6 @@ failed scope line why run = Failed (fault_at scope line why run) run
 abbrev pub attempt : {A : Type 0} → Scope → ℕ → Run → Result A Reason → (A → Outcome) → Outcome
 attempt scope line run (Err why) go = failed scope line why run
 attempt scope line run (Ok x) go = go x
-
--- ---- the code's view
-
-abbrev pub seen : Machine → Run
-seen m = record { values = m.values.items; left_out = m.left_out.items; met = m.met.items; calls = m.calls.items; turns = m.turns.items; turn = m.turn }
-
-abbrev pub faulty : Scope → ℕ → Reason → Run → Stop
-faulty scope line why run = Faulty (fault_at scope line why run)
-
--- stopping so, with this run left, is this outcome; out of memory nothing is said
-abbrev pub Stops : Stop → Outcome → Run → Type 0
-Stops Memory outcome run = Unit {0}
-Stops (Faulty fault) outcome run = outcome ≡ Failed fault run
-
--- what was answered, and the run that is left, are this outcome
-abbrev pub Agrees : {A : Type 0} → Result A Stop → Outcome → Run → Type 0
-Agrees (Ok x) outcome run = outcome ≡ Done run
-Agrees (Err stop) outcome run = Stops stop outcome run
 
 -- ---- calls
 

@@ -2,7 +2,8 @@
 
 ghost use Rattle.std.specs.Prelude.{◌≡◌};
 ghost use Rattle.unroll.specs.Collectives.{kind_for};
-ghost use Rattle.unroll.specs.Runs.{Agrees, seen, faulty, put, put_each, collective_run};
+ghost use Rattle.unroll.specs.parts.Runs.{Agrees, seen, faulty};
+ghost use Rattle.unroll.specs.Runs.{put, put_each, collective_run};
 
 use crate::call::{Call, Group, Meeting};
 use crate::collective::{calls_of, way_of};

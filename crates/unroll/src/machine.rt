@@ -2,7 +2,8 @@
 
 ghost use Rattle.std.specs.Prelude.{◌≡◌};
 ghost use Rattle.unroll.specs.Labels.{is_left_out, without};
-ghost use Rattle.unroll.specs.Runs.{Agrees, seen, faulty, put, guarded, guarded_request, left, left_request, assigned, begun, finished, set_value};
+ghost use Rattle.unroll.specs.parts.Runs.{Agrees, seen, faulty};
+ghost use Rattle.unroll.specs.Runs.{put, guarded, guarded_request, left, left_request, assigned, begun, finished, set_value};
 
 use crate::call::{Call, Fault, Label, LeftOut, Meeting, Placed, Turn, is_for};
 use crate::value::{Reason, Value};

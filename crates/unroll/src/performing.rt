@@ -1,7 +1,8 @@
 //! What one call does: it is made, or left out.
 
 ghost use Rattle.std.specs.Prelude.{◌≡◌};
-ghost use Rattle.unroll.specs.Runs.{Agrees, seen, put, matched, sent, received, matched_probed, probed, joined, put_optional, perform};
+ghost use Rattle.unroll.specs.parts.Runs.{Agrees, seen};
+ghost use Rattle.unroll.specs.Runs.{put, matched, sent, received, matched_probed, probed, joined, put_optional, perform};
 
 use crate::arguments::Prepared;
 use crate::call::{Call, Label};

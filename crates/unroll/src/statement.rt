@@ -2,7 +2,8 @@
 
 ghost use Rattle.std.specs.Prelude.{◌≡◌, IfOk, slice_get};
 ghost use Rattle.unroll.specs.Expressions.{truth_of};
-ghost use Rattle.unroll.specs.Runs.{Agrees, seen, begun};
+ghost use Rattle.unroll.specs.parts.Runs.{Agrees, seen};
+ghost use Rattle.unroll.specs.Runs.{begun};
 ghost use Rattle.unroll.specs.Statements.{is_over, advanced, span_of, has_value, parameter, assignment, called, waiting, next_first, wait_each, meaning};
 
 use crate::arguments::prepare;

@@ -1,7 +1,8 @@
 //! Waits, and receives on handles: the ends of what was started.
 
 ghost use Rattle.std.specs.Prelude.{◌≡◌, IfOk};
-ghost use Rattle.unroll.specs.Runs.{Agrees, seen, put, matched, waited, wait_part, still_first};
+ghost use Rattle.unroll.specs.parts.Runs.{Agrees, seen};
+ghost use Rattle.unroll.specs.Runs.{put, matched, waited, wait_part, still_first};
 
 use crate::call::{Call, Label};
 use crate::machine::{Machine, Scope, Stop, forget, is_left_out, leave_request, put};

@@ -1,7 +1,7 @@
 //! The whole text, for all ranks, one after another.
 
 ghost use Rattle.std.specs.Prelude.{◌≡◌, IfOk, IfErr};
-ghost use Rattle.unroll.specs.Runs.{Agrees, seen};
+ghost use Rattle.unroll.specs.parts.Runs.{Agrees, seen};
 ghost use Rattle.unroll.specs.Statements.{rank_run, text_run};
 ghost use Rattle.unroll.specs.Whole.{IsUnrolled, IsRefused, refused};
 

@@ -12,7 +12,7 @@ use Rattle.std.specs.Prelude.{slice_get, slice_set, Contains}
 use Rattle.waits.specs.declared.cycles.Mark.{Mark}
 use Rattle.waits.specs.declared.cycles.Mark.TheVariants.{New, OnPath, Off}
 use Rattle.waits.specs.Cycles.{awaited_by, HasEdge, IsCycle}
-use Rattle.waits.specs.Searches.{mark_at, weight, weight_of, AreOff, AreMet, LeadsOn, LastLeadsTo, IsSearch}
+use Rattle.waits.specs.parts.Searches.{mark_at, weight, weight_of, AreOff, AreMet, LeadsOn, LastLeadsTo, IsSearch}
 use Rattle.waits.proofs.CycleLaws.{next_on, edge_within, path_leads, cycle_from, once-drop}
 
 -- ---- marks

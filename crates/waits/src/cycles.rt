@@ -4,7 +4,7 @@ ghost use Rattle.std.specs.Prelude.{◌≡◌, ◌≢◌, ℕ, ◌-◌, ◌<◌,
 ghost use Rattle.std.specs.List.{AllPairs};
 ghost use Rattle.waits.specs.declared.cycles.Mark.TheVariants.{New, OnPath, Off};
 ghost use Rattle.waits.specs.Cycles.{IsCycle};
-ghost use Rattle.waits.specs.Searches.{mark_at, weight, AreOff, AreMet, LeadsOn, LastLeadsTo, IsSearch};
+ghost use Rattle.waits.specs.parts.Searches.{mark_at, weight, AreOff, AreMet, LeadsOn, LastLeadsTo, IsSearch};
 
 use std::alloc::{AllocError, Global};
 

@@ -1,3 +1,3 @@
-pub mod Branching
 pub mod Numbers
 pub mod Reasons
+pub mod parts

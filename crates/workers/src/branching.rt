@@ -2,7 +2,7 @@
 
 ghost use Rattle.std.specs.Prelude.{◌≡◌, ◌++◌, ◌<◌, IfSome};
 ghost use Rattle.std.specs.List.{find, range_with_len};
-ghost use Rattle.workers.specs.Branching.{IsOneOf, is_decided, is_free};
+ghost use Rattle.workers.specs.parts.Branching.{IsOneOf, is_decided, is_free};
 
 use cdcl::Solver;
 use clauses::Lit;

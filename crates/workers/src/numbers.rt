@@ -1,7 +1,7 @@
 //! Numbers of clauses, whatever a share says.
 
 ghost use Rattle.std.specs.Prelude.{◌≡◌};
-ghost use Rattle.pool.specs.Batches.{capped_hint};
+ghost use Rattle.pool.specs.parts.Batches.{capped_hint};
 ghost use Rattle.workers.specs.Numbers.{capped_place, place_of};
 
 use refutations::Hint;

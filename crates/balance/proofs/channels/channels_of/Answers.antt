@@ -3,7 +3,7 @@ use Rattle.callorder.specs.declared.calls.Call.{Call}
 use Rattle.callorder.specs.Programs.{MpiProgram}
 use Rattle.balance.specs.declared.channels.Address.{Address}
 use Rattle.balance.specs.Balance.{channel_at}
-use Rattle.balance.specs.Wildcards.{address_of, AreLoose, AreNumbers}
+use Rattle.balance.specs.parts.Wildcards.{address_of, AreLoose, AreNumbers}
 use Rattle.balance.proofs.Leaving.{none_at, some_at, one_listed}
 use Rattle.balance.proofs.channels.channels_of.Goals as goal
 use Rattle.balance.proofs.channels.channels_of.Goals.{in-None, in-Some}

@@ -1,7 +1,7 @@
 use Rattle.std.proofs.Common.{◌+◌, map, sym, subst, take}
 use Rattle.std.specs.Global.{Vec}
 use Rattle.balance.specs.declared.channels.Loose.{Loose}
-use Rattle.balance.specs.Wildcards.{address_of, AreLoose}
+use Rattle.balance.specs.parts.Wildcards.{address_of, AreLoose}
 use Rattle.balance.proofs.Leaving.{loose_none_at, loose_some_at}
 use Rattle.balance.proofs.channels.loose_of.Goals as goal
 use Rattle.balance.proofs.channels.loose_of.Goals.{in-Some, in_default}

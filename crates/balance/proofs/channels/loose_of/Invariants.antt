@@ -1,5 +1,5 @@
 use Rattle.std.proofs.Common.{map, take}
-use Rattle.balance.specs.Wildcards.{address_of, AreLoose}
+use Rattle.balance.specs.parts.Wildcards.{address_of, AreLoose}
 use Rattle.balance.proofs.channels.loose_of.Given as goal
 
 abbrev pub invariant-loop-place : goal.invariant-loop-place

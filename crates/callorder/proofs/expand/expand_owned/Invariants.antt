@@ -1,7 +1,7 @@
 use Rattle.std.proofs.Common.{◌≡◌, length}
 use Rattle.calltext.specs.Body.{views}
 use Rattle.callorder.specs.Expansion.{parts_of_ranks}
-use Rattle.callorder.specs.Tables.{Expands}
+use Rattle.callorder.specs.parts.Tables.{Expands}
 use Rattle.callorder.proofs.expand.expand_owned.Given as goal
 
 abbrev pub invariant-loop-lines : goal.invariant-loop-lines

@@ -4,9 +4,10 @@ use Rattle.std.proofs.lemmas.List.{map_push, length-map}
 use Rattle.plaintext.specs.Plain.{line_of}
 use Rattle.calltext.specs.Grammar.{rank_words}
 use Rattle.calltext.specs.declared.line.Item.TheVariants as items
-use Rattle.calltext.specs.Item.{IsItem}
+use Rattle.calltext.specs.parts.Item.{IsItem}
 use Rattle.calltext.proofs.BodyLaws.{SoFar-call, SoFar-rank, SoFar-unended}
-use Rattle.calltext.specs.Body.{IsStopped, views}
+use Rattle.calltext.specs.parts.Body.{IsStopped}
+use Rattle.calltext.specs.Body.{views}
 use Rattle.calltext.specs.declared.body.Stopped.{Stopped}
 use Rattle.calltext.proofs.body.ranks_from.Goals as goal
 use Rattle.calltext.proofs.body.ranks_from.Goals.{in-Call+in_ok-push-in-Call, in-Rank+in_ok-push-in-Rank}

@@ -1,7 +1,7 @@
 use Rattle.std.proofs.Common.{◌∷◌, List, ℕ, ap, refl, sym, ◌∙◌}
 use Rattle.plaintext.proofs.FirstFaults.{heads}
 use Rattle.calltext.specs.declared.call.CallLine.TheVariants.{MatchedProbe}
-use Rattle.calltext.specs.Verbs.{pattern_words}
+use Rattle.calltext.specs.parts.Verbs.{pattern_words}
 use Rattle.calltext.proofs.calls.matched_probe_of.Goals as goal
 
 pub returns-in_default : goal.returns-in_default

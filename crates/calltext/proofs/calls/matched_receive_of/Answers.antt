@@ -3,7 +3,7 @@ use Rattle.std.proofs.lemmas.Grind.{common_steps}
 use Rattle.std.proofs.lemmas.List.{append-nil}
 use Rattle.calltext.specs.declared.call.CallLine.TheVariants.{MatchedReceive}
 use Rattle.calltext.specs.declared.verb.Verb.TheVariants as verb
-use Rattle.calltext.specs.Verbs.{request_words}
+use Rattle.calltext.specs.parts.Verbs.{request_words}
 use Rattle.calltext.proofs.calls.matched_receive_of.Goals as goal
 
 pub returns : goal.returns

@@ -1,7 +1,7 @@
 use Rattle.std.proofs.Common.{◌++◌, List, ℕ, Bool, ap, refl, ◌∙◌}
 use Rattle.calltext.specs.declared.call.CallLine.TheVariants.{Receive}
 use Rattle.calltext.specs.declared.verb.Verb.TheVariants as verb
-use Rattle.calltext.specs.Verbs.{request_words, pattern_words}
+use Rattle.calltext.specs.parts.Verbs.{request_words, pattern_words}
 use Rattle.calltext.proofs.CallReads.{others_are}
 use Rattle.calltext.proofs.calls.receive_of.Goals as goal
 

@@ -1,7 +1,7 @@
 use Rattle.std.proofs.Common.{◌++◌, List, ℕ, Bool, ap, refl, ◌∙◌, rules}
 use Rattle.calltext.specs.declared.call.CallLine.TheVariants.{Send}
 use Rattle.calltext.specs.declared.verb.Verb.TheVariants as verb
-use Rattle.calltext.specs.Verbs.{request_words}
+use Rattle.calltext.specs.parts.Verbs.{request_words}
 use Rattle.calltext.proofs.calls.send_of.Goals as goal
 
 pub returns : goal.returns

@@ -2,7 +2,7 @@ use Rattle.std.proofs.Common.{◌≡◌, ◌∷◌, map, refl, arith}
 use Rattle.std.proofs.lemmas.Grind.{common_steps}
 use Rattle.plaintext.specs.Plain.{numeral}
 use Rattle.calltext.specs.declared.call.CallLine.TheVariants.{SendReceive}
-use Rattle.calltext.specs.Verbs.{pattern_words}
+use Rattle.calltext.specs.parts.Verbs.{pattern_words}
 use Rattle.calltext.proofs.calls.send_receive_of.Goals as goal
 
 pub returns-in_default-pattern_of : goal.returns-in_default-pattern_of

@@ -4,7 +4,7 @@ use Rattle.std.specs.Str.{IsAscii}
 use Rattle.plaintext.specs.Plain.{text_lines}
 use Rattle.plaintext.proofs.Cuts.{parts, line_is}
 use Rattle.calltext.specs.Grammar.{rank_words}
-use Rattle.calltext.specs.Item.{IsFirstRankLine}
+use Rattle.calltext.specs.parts.Item.{IsFirstRankLine}
 use Rattle.calltext.proofs.Lines.{unended_wrong, rank_line_words}
 use Rattle.plaintext.proofs.Ascii.{ascii_line}
 use Rattle.calltext.proofs.heading.first_rank_line.Goals as goal

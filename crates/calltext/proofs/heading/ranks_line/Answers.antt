@@ -4,7 +4,7 @@ use Rattle.std.specs.Str.{IsAscii}
 use Rattle.plaintext.specs.Plain.{line_of, text_lines}
 use Rattle.plaintext.proofs.Cuts.{parts, line_is}
 use Rattle.calltext.specs.Grammar.{ranks_words}
-use Rattle.calltext.specs.Item.{IsRanksLine, AreRanksWithin}
+use Rattle.calltext.specs.parts.Item.{IsRanksLine, AreRanksWithin}
 use Rattle.calltext.proofs.Lines.{unended_wrong, ranks_line_words, ranks_injective}
 use Rattle.plaintext.proofs.Ascii.{ascii_line}
 use Rattle.calltext.proofs.heading.ranks_line.Goals as goal

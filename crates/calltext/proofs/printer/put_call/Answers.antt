@@ -1,6 +1,7 @@
 use Rattle.std.proofs.Common.{◌≡◌, ◌++◌, ◌∷◌, [], List, ℕ, ap, ◌∙◌}
 use Rattle.plaintext.specs.Plain.{spaced}
-use Rattle.calltext.specs.Verbs.{verb_of, verb_word, name_words, number_words}
+use Rattle.calltext.specs.parts.Verbs.{name_words, number_words}
+use Rattle.calltext.specs.Verbs.{verb_of, verb_word}
 use Rattle.calltext.proofs.PrintLaws.{call_line}
 use Rattle.calltext.proofs.printer.put_call.Goals as goal
 

@@ -1,5 +1,5 @@
 use Rattle.std.proofs.Common.{refl}
-use Rattle.calltext.specs.Verbs.{verbs}
+use Rattle.calltext.specs.parts.Verbs.{verbs}
 use Rattle.calltext.proofs.verb.all.Goals as goal
 
 pub returns : goal.returns

@@ -1,6 +1,6 @@
 use Rattle.std.proofs.Common.{◌≡◌, map, take}
 use Rattle.charts.specs.declared.placing.Placed.{Placed}
-use Rattle.charts.specs.Placing.{ArePlacedIn}
+use Rattle.charts.specs.parts.Placing.{ArePlacedIn}
 use Rattle.charts.proofs.placing.columns_of.Given as goal
 
 abbrev pub invariant-loop-act : goal.invariant-loop-act

@@ -1,5 +1,5 @@
 use Rattle.choices.proofs.Replayed.{HasTaken}
-use Rattle.choices.specs.Weights.{AreChoicesOf}
+use Rattle.choices.specs.parts.Weights.{AreChoicesOf}
 use Rattle.choices.proofs.finding.put_choices.Given as goal
 
 abbrev pub invariant-loop-place : goal.invariant-loop-place

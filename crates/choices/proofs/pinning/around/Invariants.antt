@@ -1,4 +1,4 @@
-use Rattle.choices.specs.Pins.{IsPast}
+use Rattle.choices.specs.parts.Pins.{IsPast}
 use Rattle.choices.proofs.pinning.around.Given as goal
 
 abbrev pub invariant-loop-turn : goal.invariant-loop-turn

@@ -1,4 +1,4 @@
-use Rattle.choices.specs.Weights.{AreChoicesOf}
+use Rattle.choices.specs.parts.Weights.{AreChoicesOf}
 use Rattle.choices.proofs.weighing.at_places.Given as goal
 
 abbrev pub invariant-loop-choice : goal.invariant-loop-choice

@@ -1,5 +1,5 @@
 use Rattle.std.proofs.Common.{ℕ, ◌≤◌, length, ap, sym, subst, arith}
-use Rattle.clocks.specs.Clocks.{block_of}
+use Rattle.clocks.specs.parts.Clocks.{block_of}
 use Rattle.clocks.proofs.Shown.{taken_from, fits_within}
 use Rattle.clocks.proofs.classes.end_open.Goals as goal
 

@@ -1,5 +1,5 @@
 use Rattle.std.proofs.Common.{arith}
-use Rattle.clocks.specs.Clocks.{block_of}
+use Rattle.clocks.specs.parts.Clocks.{block_of}
 use Rattle.clocks.proofs.Listed.{not_listed, also_listed}
 use Rattle.clocks.proofs.finders.list.Goals as goal
 

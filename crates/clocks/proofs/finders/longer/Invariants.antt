@@ -1,4 +1,4 @@
-use Rattle.clocks.specs.Finders.{IsReach}
+use Rattle.clocks.specs.parts.Finders.{IsReach}
 use Rattle.clocks.proofs.finders.longer.Given as goal
 
 abbrev pub invariant-loop-place : goal.invariant-loop-place

@@ -1,5 +1,5 @@
 use Rattle.std.proofs.Common.{sym}
-use Rattle.clocks.specs.Clocks.{block_of}
+use Rattle.clocks.specs.parts.Clocks.{block_of}
 use Rattle.clocks.proofs.Listed.{named_cannot_race, single_if}
 use Rattle.clocks.proofs.finders.may_race.Goals as goal
 

@@ -1,6 +1,6 @@
 use Rattle.std.proofs.Common.{ap, length, ◌+◌, ◌∙◌, arith}
 use Rattle.std.proofs.lemmas.List.{length_push}
-use Rattle.clocks.specs.Finders.{IsReach}
+use Rattle.clocks.specs.parts.Finders.{IsReach}
 use Rattle.clocks.proofs.Listed.{later_reach, reaches_push}
 use Rattle.clocks.proofs.finders.reaches_of.Goals as goal
 

@@ -1,5 +1,5 @@
 use Rattle.std.proofs.Common.{◌≡◌, ℕ, ◌≤◌, length}
-use Rattle.clocks.specs.Finders.{IsReach, AreReaches}
+use Rattle.clocks.specs.parts.Finders.{IsReach, AreReaches}
 use Rattle.clocks.proofs.finders.reaches_of.Given as goal
 
 abbrev pub invariant-loop-number : goal.invariant-loop-number

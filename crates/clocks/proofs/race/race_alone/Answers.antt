@@ -1,5 +1,5 @@
 use Rattle.std.proofs.Common.{ℕ, List, sym, subst}
-use Rattle.clocks.specs.Clocks.{IsSingle, block_of}
+use Rattle.clocks.specs.parts.Clocks.{IsSingle, block_of}
 use Rattle.clocks.proofs.Extending.{unordered_alone}
 use Rattle.clocks.proofs.Shown.{rivals_if_single}
 use Rattle.clocks.proofs.race.race_alone.Goals as goal

@@ -1,6 +1,6 @@
 use Rattle.std.proofs.Common.{sym, ◌∙◌}
-use Rattle.clocks.specs.Clocks.{block_of, with_partners}
-use Rattle.clocks.specs.Finders.{IsLookedAt}
+use Rattle.clocks.specs.parts.Clocks.{block_of, with_partners}
+use Rattle.clocks.specs.parts.Finders.{IsLookedAt}
 use Rattle.clocks.proofs.Extending.{nothing_there, ordered_there, shown_there, shows_always}
 use Rattle.clocks.proofs.race.race_at.Goals as goal
 

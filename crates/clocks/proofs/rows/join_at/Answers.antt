@@ -1,6 +1,6 @@
 use Rattle.std.proofs.Common.{ℕ, Option, sym, subst}
 use Rattle.races.specs.Tells.{knows_at}
-use Rattle.clocks.specs.Clocks.{Adds}
+use Rattle.clocks.specs.parts.Clocks.{Adds}
 use Rattle.clocks.proofs.rows.join_at.Goals as goal
 
 pub returns-in-Some : goal.returns-in-Some

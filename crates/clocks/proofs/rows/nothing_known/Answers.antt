@@ -1,4 +1,4 @@
-use Rattle.clocks.specs.Clocks.{level, with_partners}
+use Rattle.clocks.specs.parts.Clocks.{level, with_partners}
 use Rattle.clocks.proofs.rows.nothing_known.Goals as goal
 
 pub returns : goal.returns

@@ -1,4 +1,5 @@
-use Rattle.knowledge.specs.Knowledge.{CoversJustified, with_partners}
+use Rattle.knowledge.specs.parts.Knowledge.{CoversJustified}
+use Rattle.knowledge.specs.Knowledge.{with_partners}
 use Rattle.knowledge.proofs.column.column_of.Given as goal
 
 abbrev pub invariant-loop-call : goal.invariant-loop-call

@@ -1,4 +1,5 @@
-use Rattle.knowledge.specs.Knowledge.{CoversJustified, count_known, with_partners}
+use Rattle.knowledge.specs.parts.Knowledge.{CoversJustified, count_known}
+use Rattle.knowledge.specs.Knowledge.{with_partners}
 use Rattle.knowledge.proofs.column.settle.Given as goal
 
 abbrev pub invariant-passes : goal.invariant-passes

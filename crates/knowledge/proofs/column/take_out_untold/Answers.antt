@@ -1,6 +1,7 @@
 use Rattle.std.proofs.Common.{◌≡◌, ◌<◌, List, Bool, true, false, sym, ◌∙◌, subst}
 use Rattle.races.specs.Tells.{tells_issue}
-use Rattle.knowledge.specs.Knowledge.{CoversJustified, column_table, count_known, with_partners}
+use Rattle.knowledge.specs.parts.Knowledge.{CoversJustified, count_known}
+use Rattle.knowledge.specs.Knowledge.{column_table, with_partners}
 use Rattle.knowledge.proofs.Entries.{entry_of, fewer, still_covers}
 use Rattle.knowledge.proofs.column.take_out_untold.Goals as goal
 

@@ -1,5 +1,5 @@
 use Rattle.std.proofs.Common.{◌≡◌, ◌<◌, ℕ, Some, slice_get}
-use Rattle.leastrun.specs.Along.{FitsNone}
+use Rattle.leastrun.specs.parts.Along.{FitsNone}
 use Rattle.leastrun.proofs.along.are_apart.Given as goal
 
 abbrev pub invariant-loop-place : goal.invariant-loop-place

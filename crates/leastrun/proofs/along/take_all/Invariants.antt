@@ -1,4 +1,4 @@
-use Rattle.leastrun.specs.Along.{IsReached}
+use Rattle.leastrun.specs.parts.Along.{IsReached}
 use Rattle.leastrun.proofs.along.take_all.Given as goal
 
 -- the steps so far are a run

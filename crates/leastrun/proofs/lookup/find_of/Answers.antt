@@ -1,5 +1,5 @@
 use Rattle.std.proofs.Common.{sym, subst, ◌∙◌}
-use Rattle.leastrun.specs.Waiting.{IsFind}
+use Rattle.leastrun.specs.parts.Waiting.{IsFind}
 use Rattle.leastrun.proofs.Openings.{find_between}
 use Rattle.leastrun.proofs.lookup.find_of.Goals as goal
 

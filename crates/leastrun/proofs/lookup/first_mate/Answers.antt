@@ -1,5 +1,5 @@
 use Rattle.std.proofs.Common.{sym, ap, ◌∙◌, arith}
-use Rattle.leastrun.specs.Waiting.{is_mate}
+use Rattle.leastrun.specs.parts.Waiting.{is_mate}
 use Rattle.leastrun.proofs.Entries.{one_more, at_end}
 use Rattle.leastrun.proofs.lookup.first_mate.Goals as goal
 

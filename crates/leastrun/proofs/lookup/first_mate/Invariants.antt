@@ -1,5 +1,5 @@
 use Rattle.std.proofs.Common.{◌≡◌, ◌<◌, ℕ, Some, false, slice_get}
-use Rattle.leastrun.specs.Waiting.{is_mate}
+use Rattle.leastrun.specs.parts.Waiting.{is_mate}
 use Rattle.leastrun.proofs.lookup.first_mate.Given as goal
 
 abbrev pub invariant-loop-place : goal.invariant-loop-place

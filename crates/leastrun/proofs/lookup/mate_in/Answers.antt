@@ -1,6 +1,6 @@
 use Rattle.std.proofs.Common.{◌≡◌, List, ℕ, subst}
-use Rattle.leastrun.specs.Queues.{row}
-use Rattle.leastrun.specs.Waiting.{IsFirstMate, NoMateAmong}
+use Rattle.leastrun.specs.parts.Queues.{row}
+use Rattle.leastrun.specs.parts.Waiting.{IsFirstMate, NoMateAmong}
 use Rattle.leastrun.proofs.Entries.{on_some, on_none}
 use Rattle.leastrun.proofs.Seeking.{least_in, none_in}
 use Rattle.leastrun.proofs.lookup.mate_in.Goals as goal

@@ -1,4 +1,4 @@
-use Rattle.leastrun.specs.Queues.{IsSkipped}
+use Rattle.leastrun.specs.parts.Queues.{IsSkipped}
 use Rattle.leastrun.proofs.rows.skip.Given as goal
 
 abbrev pub invariant-loop : goal.invariant-loop

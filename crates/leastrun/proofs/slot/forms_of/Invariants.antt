@@ -3,7 +3,7 @@ use Rattle.callorder.specs.declared.calls.Call.{Call}
 use Rattle.callorder.specs.declared.calls.Pattern.{Pattern}
 use Rattle.callorder.specs.Calls.{pattern_of}
 use Rattle.callorder.specs.Programs.{call_at}
-use Rattle.leastrun.specs.Slots.{Lists, form_of}
+use Rattle.leastrun.specs.parts.Slots.{Lists, form_of}
 use Rattle.leastrun.proofs.slot.forms_of.Given as goal
 
 abbrev pub invariant-loop-place : goal.invariant-loop-place

@@ -3,8 +3,8 @@ use Rattle.std.proofs.lemmas.Bool.{cases_eq}
 use Rattle.std.proofs.lemmas.Option.{slice_get_within, slice_get-get_or}
 use Rattle.races.proofs.Steps.{same_some}
 use Rattle.leastrun.specs.declared.slot.Form.{Form}
-use Rattle.leastrun.specs.Slots.{send_slot}
-use Rattle.leastrun.specs.Queues.{StandsIn}
+use Rattle.leastrun.specs.parts.Slots.{send_slot}
+use Rattle.leastrun.specs.parts.Queues.{StandsIn}
 use Rattle.leastrun.proofs.Queued.{grown_more, added_here, added_there}
 use Rattle.leastrun.proofs.Slotting.{no_send_slot, same_form}
 use Rattle.leastrun.proofs.tables.add_send.Goals as goal

@@ -1,7 +1,7 @@
 use Rattle.std.proofs.Common.{◌≡◌, ◌<◌, ℕ, Some, slice_get}
 use Rattle.leastrun.specs.declared.slot.Form.{Form}
-use Rattle.leastrun.specs.Slots.{send_slot}
-use Rattle.leastrun.specs.Queues.{IsGrown, StandsIn}
+use Rattle.leastrun.specs.parts.Slots.{send_slot}
+use Rattle.leastrun.specs.parts.Queues.{IsGrown, StandsIn}
 use Rattle.leastrun.proofs.tables.add_send.Given as goal
 
 abbrev pub invariant-loop-place : goal.invariant-loop-place

@@ -1,4 +1,4 @@
-use Rattle.leastrun.specs.Queues.{IsPassed}
+use Rattle.leastrun.specs.parts.Queues.{IsPassed}
 use Rattle.leastrun.proofs.tables.pass_send.Given as goal
 
 abbrev pub invariant-loop-place : goal.invariant-loop-place

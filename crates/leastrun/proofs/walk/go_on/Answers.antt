@@ -1,5 +1,5 @@
 use Rattle.std.proofs.Common.{length, refl, subst, sym, ap, arith, None}
-use Rattle.leastrun.specs.Waiting.{IsKept, IsFresh, fresh_after, IsNext, IsSettled}
+use Rattle.leastrun.specs.parts.Waiting.{IsKept, IsFresh, fresh_after, IsNext, IsSettled}
 use Rattle.leastrun.specs.LeastBuffered.{NothingEnabled}
 use Rattle.leastrun.proofs.Entries.{at_none, at_some}
 use Rattle.leastrun.proofs.Taking.{kept_after, still_fresh}

@@ -1,7 +1,7 @@
 use Rattle.std.proofs.Common.{◌≡◌, ◌+◌, length}
 use Rattle.semantics.specs.Machine.{IsConfigurationOf, IsRun, opening, after_all}
 use Rattle.leastrun.specs.LeastBuffered.{BuffersSo}
-use Rattle.leastrun.specs.Waiting.{IsKept, IsFresh}
+use Rattle.leastrun.specs.parts.Waiting.{IsKept, IsFresh}
 use Rattle.leastrun.proofs.walk.go_on.Given as goal
 
 abbrev pub invariant-loop-turn : goal.invariant-loop-turn

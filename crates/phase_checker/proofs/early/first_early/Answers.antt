@@ -1,7 +1,7 @@
 use Rattle.std.proofs.Common.{ℕ, List, subst}
 use Rattle.std.specs.Global.{Vec}
 use Rattle.sealing.specs.declared.loose.Loose.{Loose}
-use Rattle.phase_checker.specs.Early.{AreEmpty, AreReaches, IsFirstWithin}
+use Rattle.phase_checker.specs.parts.Early.{AreEmpty, AreReaches, IsFirstWithin}
 use Rattle.phase_checker.proofs.FirstEarly.{first_is_early, none_is_early}
 use Rattle.phase_checker.proofs.early.first_early.Goals as goal
 

@@ -1,6 +1,6 @@
 use Rattle.std.proofs.Common.{ℕ, ◌+◌, List, sym, subst, arith}
 use Rattle.sealing.specs.declared.loose.Loose.{Loose}
-use Rattle.phase_checker.specs.Early.{IsReach}
+use Rattle.phase_checker.specs.parts.Early.{IsReach}
 use Rattle.phase_checker.proofs.Reaches.{AreReachesTo, reaches_done, reaches_more}
 use Rattle.phase_checker.proofs.early.reaches_of.Goals as goal
 

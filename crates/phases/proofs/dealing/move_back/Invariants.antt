@@ -1,5 +1,5 @@
 use Rattle.std.proofs.Common.{take}
-use Rattle.phases.specs.Moves.{IsMovedOn}
+use Rattle.phases.specs.parts.Moves.{IsMovedOn}
 use Rattle.phases.proofs.dealing.move_back.Given as goal
 
 abbrev pub invariant-loop-call : goal.invariant-loop-call

@@ -1,7 +1,7 @@
 use Rattle.std.proofs.Common.{ℕ, List, Option, ◌∙◌, map, ap, subst}
 use Rattle.std.specs.List.{list_all}
 use Rattle.phases.specs.declared.leaving.Traffic.{Traffic}
-use Rattle.phases.specs.Traffic.{address_of, is_even_at, AreTraffic}
+use Rattle.phases.specs.parts.Traffic.{address_of, is_even_at, AreTraffic}
 use Rattle.phases.proofs.Traffic.{leaves_nothing_told}
 use Rattle.phases.proofs.leaving.leaves_nothing.Goals as goal
 

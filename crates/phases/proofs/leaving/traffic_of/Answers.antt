@@ -1,7 +1,7 @@
 use Rattle.std.proofs.Common.{◌+◌, map, sym, subst, take, arith}
 use Rattle.std.specs.Global.{Vec}
 use Rattle.phases.specs.declared.leaving.Traffic.{Traffic}
-use Rattle.phases.specs.Traffic.{address_of, AreTraffic}
+use Rattle.phases.specs.parts.Traffic.{address_of, AreTraffic}
 use Rattle.phases.proofs.Traffic.{unnumbered_at, numbered_at, number_below, few_so_far, all_numbered}
 use Rattle.phases.proofs.leaving.traffic_of.Goals as goal
 use Rattle.phases.proofs.leaving.traffic_of.Goals.{in-Some, in_default}

@@ -1,5 +1,5 @@
 use Rattle.std.proofs.Common.{map, take}
-use Rattle.phases.specs.Traffic.{address_of, AreTraffic}
+use Rattle.phases.specs.parts.Traffic.{address_of, AreTraffic}
 use Rattle.phases.proofs.leaving.traffic_of.Given as goal
 
 abbrev pub invariant-loop-place : goal.invariant-loop-place

@@ -1,5 +1,5 @@
 use Rattle.std.proofs.Common.{◌∙◌, arith}
-use Rattle.pool.specs.Batches.{capped_move}
+use Rattle.pool.specs.parts.Batches.{capped_move}
 use Rattle.pool.proofs.Renumbered.{one_more_put}
 use Rattle.pool.proofs.derived.move_hints.Goals as goal
 

@@ -1,5 +1,5 @@
 use Rattle.std.proofs.Common.{◌≡◌, ◌++◌, drop, map, take}
-use Rattle.pool.specs.Batches.{capped_move}
+use Rattle.pool.specs.parts.Batches.{capped_move}
 use Rattle.pool.proofs.derived.move_hints.Given as goal
 
 abbrev pub invariant-loop-number : goal.invariant-loop-number

@@ -2,7 +2,7 @@ use Rattle.std.proofs.Common.{◌≡◌, ◌∙◌, IsTrue, List, ℕ, ap, sym, 
 use Rattle.std.proofs.lemmas.Bool.{false≢true}
 use Rattle.std.proofs.lemmas.List.{length-map}
 use Rattle.refutations.specs.Proofs.{are_numbers}
-use Rattle.pool.specs.Batches.{capped_move}
+use Rattle.pool.specs.parts.Batches.{capped_move}
 use Rattle.pool.specs.Moves.{moved_hint}
 use Rattle.pool.proofs.Renumbered.{moved_are_capped, written_back}
 use Rattle.pool.proofs.derived.moved_line.Goals as goal

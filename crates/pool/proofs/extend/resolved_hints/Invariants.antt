@@ -1,5 +1,5 @@
 use Rattle.std.proofs.Common.{◌≡◌, map, take}
-use Rattle.pool.specs.Batches.{capped_hint}
+use Rattle.pool.specs.parts.Batches.{capped_hint}
 use Rattle.pool.proofs.extend.resolved_hints.Given as goal
 
 abbrev pub invariant-loop-hint : goal.invariant-loop-hint

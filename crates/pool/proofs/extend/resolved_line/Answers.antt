@@ -1,5 +1,5 @@
 use Rattle.std.proofs.Common.{map, ap, ◌∙◌}
-use Rattle.pool.specs.Batches.{capped_hint}
+use Rattle.pool.specs.parts.Batches.{capped_hint}
 use Rattle.pool.proofs.Hints.{made_from, none_from}
 use Rattle.pool.proofs.extend.resolved_line.Goals as goal
 

@@ -1,4 +1,4 @@
-use Rattle.prooflog.specs.Reading.{HaveReached}
+use Rattle.prooflog.specs.parts.Reading.{HaveReached}
 use Rattle.prooflog.proofs.ahead.joined.Given as goal
 
 abbrev pub invariant-loop-part : goal.invariant-loop-part

@@ -2,7 +2,7 @@ use Rattle.std.proofs.Common.{◌≡◌, ◌≤◌, ◌++◌, length, sym, subst
 use Rattle.std.specs.Option.{IfSome}
 use Rattle.std.proofs.lemmas.Grind.{common_steps}
 use Rattle.std.proofs.lemmas.List.{length-append}
-use Rattle.prooflog.specs.Reading.{HaveReached, IsPart}
+use Rattle.prooflog.specs.parts.Reading.{HaveReached, IsPart}
 use Rattle.prooflog.proofs.Parts.{one_more_part}
 use Rattle.prooflog.proofs.ahead.with_part.Goals as goal
 

@@ -6,7 +6,7 @@ use Rattle.plaintext.proofs.FirstFaults.{heads}
 use Rattle.refutations.specs.declared.tree.Node.{Node}
 use Rattle.refutations.specs.declared.tree.Node.TheVariants.{Split, Leaf}
 use Rattle.prooflog.specs.Refutations.{node_words}
-use Rattle.prooflog.specs.Reading.{words_of, words_after}
+use Rattle.prooflog.specs.parts.Reading.{words_of, words_after}
 use Rattle.prooflog.proofs.WordLaws.{only_word, numeral_only}
 use Rattle.prooflog.proofs.node.node_of.Goals as goal
 

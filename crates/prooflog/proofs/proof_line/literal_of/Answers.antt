@@ -3,7 +3,7 @@ use Rattle.std.specs.Option.{IfSome, IsSome}
 use Rattle.std.proofs.lemmas.Grind.{common_steps}
 use Rattle.plaintext.specs.Plain.{numeral}
 use Rattle.clauses.specs.Clauses.{Literal}
-use Rattle.prooflog.specs.Reading.{IsReadLiteral}
+use Rattle.prooflog.specs.parts.Reading.{IsReadLiteral}
 use Rattle.prooflog.proofs.ProofWords.{signed_word, digit_first}
 use Rattle.prooflog.proofs.proof_line.literal_of.Goals as goal
 

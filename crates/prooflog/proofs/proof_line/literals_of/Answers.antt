@@ -1,7 +1,7 @@
 use Rattle.std.proofs.Common.{◌≡◌, ◌∷◌, List, subst, sym, ap, ◌∙◌}
 use Rattle.std.specs.Option.{option_copied}
 use Rattle.clauses.specs.Clauses.{Literal}
-use Rattle.prooflog.specs.Reading.{words_after, IsReadLiteral}
+use Rattle.prooflog.specs.parts.Reading.{words_after, IsReadLiteral}
 use Rattle.prooflog.proofs.WordsRead.{LiteralsSoFar, one_literal, one_out_of_range, no_literal, no_more_words}
 use Rattle.prooflog.proofs.proof_line.literals_of.Goals as goal
 

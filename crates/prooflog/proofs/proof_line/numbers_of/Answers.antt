@@ -1,6 +1,6 @@
 use Rattle.std.proofs.Common.{◌≡◌, ◌∷◌, ℕ, List, subst, sym, ap, ◌∙◌}
 use Rattle.std.specs.Option.{option_copied}
-use Rattle.prooflog.specs.Reading.{words_after}
+use Rattle.prooflog.specs.parts.Reading.{words_after}
 use Rattle.prooflog.proofs.WordsRead.{NumbersSoFar, one_number, no_number}
 use Rattle.prooflog.proofs.proof_line.numbers_of.Goals as goal
 

@@ -3,7 +3,7 @@ use Rattle.std.specs.Prelude.{codes}
 use Rattle.std.specs.Option.{option_copied}
 use Rattle.refutations.specs.Proofs.{ProofLine}
 use Rattle.prooflog.specs.Refutations.{proof_words}
-use Rattle.prooflog.specs.Reading.{words_of, words_after}
+use Rattle.prooflog.specs.parts.Reading.{words_of, words_after}
 use Rattle.prooflog.proofs.LinesRead.{told, untold, proof_line, spelled, no_hints, no_variables, no_line, made_line}
 use Rattle.prooflog.proofs.proof_line.proof_line_of.Goals as goal
 

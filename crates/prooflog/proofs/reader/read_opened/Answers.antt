@@ -1,7 +1,7 @@
 use Rattle.std.proofs.Common.{subst}
 use Rattle.prooflog.specs.Steps.{schedule_line}
 use Rattle.prooflog.specs.Grammar.{refutation_line}
-use Rattle.prooflog.specs.Reading.{IsOpened}
+use Rattle.prooflog.specs.parts.Reading.{IsOpened}
 use Rattle.prooflog.specs.declared.reader.EvidenceKind.TheVariants.{Schedule, Refutation}
 use Rattle.prooflog.specs.declared.refutation.Version.TheVariants.{One}
 use Rattle.prooflog.proofs.Headings.{after_headings, is_schedule_text, is_refutation_text}

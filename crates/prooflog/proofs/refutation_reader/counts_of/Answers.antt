@@ -3,7 +3,7 @@ use Rattle.std.specs.Prelude.{codes}
 use Rattle.std.specs.Option.{option_copied}
 use Rattle.plaintext.specs.Plain.{numeral}
 use Rattle.plaintext.proofs.FirstFaults.{heads}
-use Rattle.prooflog.specs.Reading.{words_of, words_after}
+use Rattle.prooflog.specs.parts.Reading.{words_of, words_after}
 use Rattle.prooflog.proofs.WordLaws.{only_word, numeral_only}
 use Rattle.prooflog.proofs.refutation_reader.counts_of.Goals as goal
 

@@ -1,5 +1,5 @@
 use Rattle.std.proofs.Common.{length}
-use Rattle.prooflog.specs.Reading.{LinesSoFar}
+use Rattle.prooflog.specs.parts.Reading.{LinesSoFar}
 use Rattle.prooflog.proofs.refutation_reader.read_lines.Given as goal
 
 abbrev pub invariant-loop-line : goal.invariant-loop-line

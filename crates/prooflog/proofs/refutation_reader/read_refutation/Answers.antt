@@ -1,7 +1,7 @@
 use Rattle.std.proofs.Common.{◌++◌, [], ◌∷◌, map, arith}
 use Rattle.std.proofs.lemmas.Grind.{common_steps}
 use Rattle.prooflog.specs.Refutations.{item_line, a_proof, the_tree}
-use Rattle.prooflog.specs.Reading.{opening, FitsAbove}
+use Rattle.prooflog.specs.parts.Reading.{opening, FitsAbove}
 use Rattle.prooflog.proofs.Fronts.{after_more}
 use Rattle.prooflog.proofs.refutation_reader.read_refutation.Goals as goal
 

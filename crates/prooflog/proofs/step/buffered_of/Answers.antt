@@ -2,7 +2,7 @@ use Rattle.std.proofs.Common.{◌≡◌, Bool, true, false, List, ℕ, sym, ap, 
 use Rattle.std.specs.Prelude.{codes}
 use Rattle.std.specs.Option.{option_copied}
 use Rattle.prooflog.specs.Steps.{buffered_words}
-use Rattle.prooflog.specs.Reading.{words_of, words_after}
+use Rattle.prooflog.specs.parts.Reading.{words_of, words_after}
 use Rattle.prooflog.proofs.WordLaws.{only_word, no_words}
 use Rattle.prooflog.proofs.step.buffered_of.Goals as goal
 

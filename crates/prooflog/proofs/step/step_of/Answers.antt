@@ -4,7 +4,8 @@ use Rattle.std.specs.Option.{option_copied}
 use Rattle.plaintext.specs.Plain.{numeral}
 use Rattle.plaintext.proofs.FirstFaults.{heads}
 use Rattle.prooflog.specs.Steps.{step_words, buffered_words}
-use Rattle.prooflog.specs.Reading.{words_of, words_after, find_word, find_step}
+use Rattle.prooflog.specs.parts.Reading.{words_of, words_after}
+use Rattle.prooflog.specs.Reading.{find_word, find_step}
 use Rattle.prooflog.specs.declared.step.WrittenStep.{WrittenStep}
 use Rattle.prooflog.specs.declared.step.WrittenStep.TheVariants.{Issue, Match, See}
 use Rattle.prooflog.proofs.StepLines.{find_words, capped_find}

@@ -4,7 +4,7 @@ use Rattle.std.proofs.lemmas.Grind.{common_steps}
 use Rattle.std.proofs.lemmas.List.{take_more}
 use Rattle.std.proofs.lemmas.List.Elements.{All-push}
 use Rattle.std.proofs.lemmas.List.Splits.{slice_split_none, slice_split_at}
-use Rattle.prooflog.specs.Reading.{words_of}
+use Rattle.prooflog.specs.parts.Reading.{words_of}
 use Rattle.prooflog.proofs.words.cut_word.Goals as goal
 
 pub loop-i-preserved : goal.loop-i-preserved

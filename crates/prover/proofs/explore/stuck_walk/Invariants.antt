@@ -1,5 +1,5 @@
 use Rattle.std.proofs.Common.{◌<◌}
-use Rattle.prover.specs.Searches.{HasFinishedRun}
+use Rattle.prover.specs.parts.Searches.{HasFinishedRun}
 use Rattle.prover.proofs.explore.stuck_walk.Given as goal
 
 abbrev pub invariant-loop-turn : goal.invariant-loop-turn

@@ -1,5 +1,5 @@
 use Rattle.std.proofs.Common.{subst}
-use Rattle.prover.specs.Searches.{IsEvidenceOn}
+use Rattle.prover.specs.parts.Searches.{IsEvidenceOn}
 use Rattle.prover.proofs.proving.tell.Goals as goal
 
 pub returns-in-Refutation : goal.returns-in-Refutation

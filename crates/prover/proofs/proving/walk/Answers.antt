@@ -2,7 +2,7 @@ use Rattle.std.proofs.Common.{subst, sym}
 use Rattle.std.specs.Option.{IfNone, IfSome}
 use Rattle.callorder.specs.Programs.{MpiProgram}
 use Rattle.semantics.specs.Machine.{IsStuckRun}
-use Rattle.prover.specs.Searches.{HasFinishedRun}
+use Rattle.prover.specs.parts.Searches.{HasFinishedRun}
 use Rattle.prover.proofs.proving.walk.Goals as goal
 
 pub returns-in-Ok-Some-clause-some : goal.returns-in-Ok-Some-clause-some

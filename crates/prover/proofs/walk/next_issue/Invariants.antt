@@ -1,5 +1,5 @@
 use Rattle.std.proofs.Common.{ℕ, ◌<◌, get_or}
-use Rattle.prover.specs.Walks.{NoIssueOf}
+use Rattle.prover.specs.parts.Walks.{NoIssueOf}
 use Rattle.prover.proofs.walk.next_issue.Given as goal
 
 abbrev pub invariant-loop-rank : goal.invariant-loop-rank

@@ -1,5 +1,5 @@
 use Rattle.std.proofs.Common.{◌≡◌, ℕ, Option, Some, None, subst, sym, ◌∙◌}
-use Rattle.prover.specs.Walks.{NoIssueOf}
+use Rattle.prover.specs.parts.Walks.{NoIssueOf}
 use Rattle.prover.proofs.Walks.{nothing_but_sees, if_none, on_none}
 use Rattle.prover.proofs.walk.next_issue_or_match.Goals as goal
 

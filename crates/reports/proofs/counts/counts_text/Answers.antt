@@ -1,6 +1,6 @@
 use Rattle.std.proofs.Common.{◌≡◌, ◌++◌, ◌∙◌, ℕ, List, IfOk, subst}
 use Rattle.reports.specs.Explanations.{Marks, counts_text, numbers_text}
-use Rattle.reports.specs.Numbers.{marked_text, texts_of}
+use Rattle.reports.specs.parts.Numbers.{marked_text, texts_of}
 use Rattle.reports.proofs.counts.counts_text.Goals as goal
 
 pub returns : goal.returns

@@ -1,5 +1,5 @@
 use Rattle.std.proofs.Common.{◌≡◌, ◌++◌, take}
-use Rattle.reports.specs.Numbers.{lines_of, texts_of}
+use Rattle.reports.specs.parts.Numbers.{lines_of, texts_of}
 use Rattle.reports.proofs.counts.put_counts.Given as goal
 
 abbrev pub invariant-loop-count : goal.invariant-loop-count

@@ -2,7 +2,7 @@ use Rattle.std.proofs.Common.{◌+◌, BuildHasherDefault, FoldHasher, HashSet, 
 use Rattle.std.specs.HashSet.{contains}
 use Rattle.std.proofs.lemmas.Option.{slice_get-get_or}
 use Rattle.sealing.specs.declared.sides.Wanted.{Wanted}
-use Rattle.sealing.specs.Sides.{same_wanted, AreAsked}
+use Rattle.sealing.specs.parts.Sides.{same_wanted, AreAsked}
 use Rattle.sealing.proofs.Numbered.{not_asked, one_asked}
 use Rattle.sealing.proofs.asked.asked_by.Goals as goal
 use Rattle.sealing.proofs.asked.asked_by.Goals.{in-Some+in_ok-insert, in_default}

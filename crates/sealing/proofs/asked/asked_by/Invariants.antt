@@ -1,5 +1,5 @@
 use Rattle.std.specs.HashSet.{contains}
-use Rattle.sealing.specs.Sides.{same_wanted, AreAsked}
+use Rattle.sealing.specs.parts.Sides.{same_wanted, AreAsked}
 use Rattle.sealing.proofs.asked.asked_by.Given as goal
 
 abbrev pub invariant-loop-call : goal.invariant-loop-call

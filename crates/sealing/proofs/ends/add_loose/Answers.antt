@@ -1,6 +1,6 @@
 use Rattle.std.proofs.Common.{ℕ, Bool, List, Option, sym, subst}
 use Rattle.knowledge.specs.Knowledge.{with_partners}
-use Rattle.sealing.specs.Ends.{Adds, IsUntoldBelow}
+use Rattle.sealing.specs.parts.Ends.{Adds, IsUntoldBelow}
 use Rattle.sealing.proofs.Untold.{IsAllTold, no_finder_more, finder_more}
 use Rattle.sealing.proofs.ends.add_loose.Goals as goal
 

@@ -1,7 +1,7 @@
 use Rattle.std.proofs.Common.{◌≡◌, ℕ, ◌+◌, List, sym, ap, subst, ◌∙◌, arith}
 use Rattle.std.specs.Global.{Vec}
 use Rattle.sealing.specs.declared.loose.Loose.{Loose}
-use Rattle.sealing.specs.Ends.{Adds, IsUntoldBelow}
+use Rattle.sealing.specs.parts.Ends.{Adds, IsUntoldBelow}
 use Rattle.sealing.proofs.Untold.{told_passed, untold_added}
 use Rattle.sealing.proofs.ends.add_untold.Goals as goal
 use Rattle.sealing.proofs.ends.add_untold.Goals.{then-not-tells_finish+in_ok-push, else-not-tells_finish}

@@ -1,4 +1,4 @@
-use Rattle.sealing.specs.Ends.{Adds, IsUntoldBelow}
+use Rattle.sealing.specs.parts.Ends.{Adds, IsUntoldBelow}
 use Rattle.sealing.proofs.ends.add_untold.Given as goal
 
 abbrev pub invariant-loop-source : goal.invariant-loop-source

@@ -1,4 +1,4 @@
-use Rattle.sealing.specs.Ends.{AreLooseBelow}
+use Rattle.sealing.specs.parts.Ends.{AreLooseBelow}
 use Rattle.sealing.proofs.ends.loose_ends.Given as goal
 
 abbrev pub invariant-loop-place : goal.invariant-loop-place

@@ -1,6 +1,6 @@
 use Rattle.std.proofs.Common.{sym}
 use Rattle.std.specs.HashMap.{get}
-use Rattle.sealing.specs.Sides.{same_side}
+use Rattle.sealing.specs.parts.Sides.{same_side}
 use Rattle.sealing.proofs.Numbered.{side_counted}
 use Rattle.sealing.proofs.occurrences.occurrence_of.Goals as goal
 

@@ -1,7 +1,7 @@
 use Rattle.std.proofs.Common.{◌+◌, List, Option, take, sym, subst}
 use Rattle.std.specs.HashMap.{get}
 use Rattle.sealing.specs.declared.occurrences.Occurrence.{Occurrence}
-use Rattle.sealing.specs.Sides.{same_side, AreOccurrences}
+use Rattle.sealing.specs.parts.Sides.{same_side, AreOccurrences}
 use Rattle.sealing.proofs.Numbered.{counts_more, occurrences_more}
 use Rattle.sealing.proofs.occurrences.occurrences_of.Goals as goal
 

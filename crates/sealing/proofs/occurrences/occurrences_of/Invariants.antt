@@ -1,6 +1,6 @@
 use Rattle.std.proofs.Common.{take}
 use Rattle.std.specs.HashMap.{get}
-use Rattle.sealing.specs.Sides.{same_side, AreCounts, AreOccurrences}
+use Rattle.sealing.specs.parts.Sides.{same_side, AreCounts, AreOccurrences}
 use Rattle.sealing.proofs.occurrences.occurrences_of.Given as goal
 
 abbrev pub invariant-loop-call : goal.invariant-loop-call

@@ -2,7 +2,7 @@ use Rattle.std.proofs.Common.{◌≡◌, ℕ, ◌+◌, None, Some, BuildHasherDe
 use Rattle.std.specs.HashMap.{get}
 use Rattle.std.proofs.lemmas.Option.{slice_get-get_or}
 use Rattle.sealing.specs.declared.occurrences.Occurrence.{Occurrence}
-use Rattle.sealing.specs.Sides.{same_occurrence, ArePlaces}
+use Rattle.sealing.specs.parts.Sides.{same_occurrence, ArePlaces}
 use Rattle.sealing.proofs.Numbered.{unplaced, placed}
 use Rattle.sealing.proofs.occurrences.places_of.Goals as goal
 use Rattle.sealing.proofs.occurrences.places_of.Goals.{in-Some+in_ok-insert, in_default}

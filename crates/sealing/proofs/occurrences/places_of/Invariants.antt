@@ -1,5 +1,5 @@
 use Rattle.std.specs.HashMap.{get}
-use Rattle.sealing.specs.Sides.{same_occurrence, ArePlaces}
+use Rattle.sealing.specs.parts.Sides.{same_occurrence, ArePlaces}
 use Rattle.sealing.proofs.occurrences.places_of.Given as goal
 
 abbrev pub invariant-loop-place : goal.invariant-loop-place

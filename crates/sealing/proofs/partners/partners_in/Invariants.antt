@@ -1,7 +1,7 @@
 use Rattle.std.proofs.Common.{◌≡◌, map, take}
 use Rattle.std.specs.HashMap.{get}
 use Rattle.std.specs.HashSet.{contains}
-use Rattle.sealing.specs.Sides.{partner_in, same_occurrence, same_wanted}
+use Rattle.sealing.specs.parts.Sides.{partner_in, same_occurrence, same_wanted}
 use Rattle.sealing.proofs.partners.partners_in.Given as goal
 
 abbrev pub invariant-loop-occurrence : goal.invariant-loop-occurrence

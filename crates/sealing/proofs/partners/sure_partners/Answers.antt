@@ -4,7 +4,7 @@ use Rattle.std.specs.HashSet.{contains}
 use Rattle.std.proofs.lemmas.Result.{IfOk-weaker}
 use Rattle.callorder.specs.declared.calls.Call.{Call}
 use Rattle.sealing.specs.declared.occurrences.Occurrence.{Occurrence}
-use Rattle.sealing.specs.Sides.{partner_in, same_occurrence, same_wanted, AreAsked, AreOccurrences, ArePlaces}
+use Rattle.sealing.specs.parts.Sides.{partner_in, same_occurrence, same_wanted, AreAsked, AreOccurrences, ArePlaces}
 use Rattle.sealing.proofs.Pairs.{sure_so, all_sure}
 use Rattle.sealing.proofs.partners.sure_partners.Goals as goal
 

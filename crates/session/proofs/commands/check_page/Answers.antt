@@ -1,7 +1,7 @@
 -- The verdict is that on the whole texts.
 use Rattle.std.proofs.Common.{subst, sym}
 use Rattle.session.specs.Lines.{IsLine}
-use Rattle.session.specs.Texts.{AreAlikeEvidences, AreAlikePrograms, StandsFor}
+use Rattle.session.specs.parts.Texts.{AreAlikeEvidences, AreAlikePrograms, StandsFor}
 use Rattle.session.specs.declared.told.Outcome.{Outcome}
 use Rattle.session.proofs.WholeTexts.{whole_verdict}
 use Rattle.session.proofs.commands.check_page.Goals as goal

@@ -1,6 +1,6 @@
 -- The formula is the whole program's.
 use Rattle.std.proofs.Common.{inl, inr, subst, sym}
-use Rattle.session.specs.Texts.{AreAlikePrograms, StandsFor}
+use Rattle.session.specs.parts.Texts.{AreAlikePrograms, StandsFor}
 use Rattle.session.proofs.WholeAnswers.{whole_formula, whole_no_formula}
 use Rattle.session.proofs.commands.encode_page.Goals as goal
 

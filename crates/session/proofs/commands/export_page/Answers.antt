@@ -8,8 +8,9 @@ use Rattle.checker.specs.declared.reason.Verdict.TheVariants as verdicts
 use Rattle.checker.proofs.Reasons.{refuted_refute}
 use Rattle.reports.specs.Exports.{Exports}
 use Rattle.session.specs.Lines.{IsLine}
-use Rattle.session.specs.Pages.{IsExportFile, IsExported, IsExportedTo, IsWritten, StopsBy}
-use Rattle.session.specs.Texts.{AreAlikeEvidences, AreAlikePrograms, StandsFor}
+use Rattle.session.specs.parts.Pages.{StopsBy}
+use Rattle.session.specs.Pages.{IsExportFile, IsExported, IsExportedTo, IsWritten}
+use Rattle.session.specs.parts.Texts.{AreAlikeEvidences, AreAlikePrograms, StandsFor}
 use Rattle.session.specs.declared.commands.Stop.{Stop}
 use Rattle.session.specs.declared.commands.Stop.TheVariants as stop
 use Rattle.session.specs.declared.page.Page.{Page}

@@ -6,8 +6,9 @@ use Rattle.prover.specs.declared.answer.Answer.{Answer}
 use Rattle.progress.proofs.Tellings.{none_told}
 use Rattle.session.specs.Endings.{IsFollowed}
 use Rattle.session.specs.Lines.{IsLine, told_of_answer}
-use Rattle.session.specs.Pages.{IsEvidenceFile, IsHandedOut, IsProveFile, IsProved, StopsBy}
-use Rattle.session.specs.Texts.{AreAlikePrograms, StandsFor}
+use Rattle.session.specs.parts.Pages.{IsEvidenceFile, StopsBy}
+use Rattle.session.specs.Pages.{IsHandedOut, IsProveFile, IsProved}
+use Rattle.session.specs.parts.Texts.{AreAlikePrograms, StandsFor}
 use Rattle.session.specs.declared.commands.Stop.{Stop}
 use Rattle.session.specs.declared.commands.Stop.TheVariants as stop
 use Rattle.session.specs.declared.page.Page.{Page}

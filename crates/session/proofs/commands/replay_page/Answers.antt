@@ -1,7 +1,7 @@
 -- The replay is that of the whole texts.
 use Rattle.std.proofs.Common.{refl, sym, subst}
 use Rattle.reports.specs.declared.steps.Replayed.TheVariants as replays
-use Rattle.session.specs.Texts.{AreAlikeEvidences, AreAlikePrograms, StandsFor}
+use Rattle.session.specs.parts.Texts.{AreAlikeEvidences, AreAlikePrograms, StandsFor}
 use Rattle.session.proofs.WholeAnswers.{whole_replay}
 use Rattle.session.proofs.commands.replay_page.Goals as goal
 

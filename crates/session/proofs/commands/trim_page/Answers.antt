@@ -5,8 +5,9 @@ use Rattle.files.specs.Contents.{AreAll}
 use Rattle.reports.specs.Trimming.{Shortens}
 use Rattle.reports.specs.declared.trimmed.Shortened.{Shortened}
 use Rattle.session.specs.Lines.{IsLine, line_text, lines_words}
-use Rattle.session.specs.Pages.{IsTrimFile, IsTrimmed, IsWritten, StopsBy}
-use Rattle.session.specs.Texts.{AreAlikeEvidences, StandsFor}
+use Rattle.session.specs.parts.Pages.{StopsBy}
+use Rattle.session.specs.Pages.{IsTrimFile, IsTrimmed, IsWritten}
+use Rattle.session.specs.parts.Texts.{AreAlikeEvidences, StandsFor}
 use Rattle.session.specs.declared.commands.Stop.{Stop}
 use Rattle.session.specs.declared.commands.Stop.TheVariants as stop
 use Rattle.session.specs.declared.page.Page.{Page}

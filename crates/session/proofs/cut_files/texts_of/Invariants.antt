@@ -1,5 +1,6 @@
 use Rattle.std.proofs.Common.{List}
-use Rattle.session.specs.Phasing.{AreTexts, HaveTexts, Part}
+use Rattle.session.specs.parts.Phasing.{AreTexts}
+use Rattle.session.specs.Phasing.{HaveTexts, Part}
 use Rattle.session.proofs.cut_files.texts_of.Given as goal
 
 -- the texts so far

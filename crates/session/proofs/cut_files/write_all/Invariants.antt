@@ -1,5 +1,6 @@
 use Rattle.std.specs.Prelude.{IsTrue}
-use Rattle.session.specs.Phasing.{ChangesThese, files_of}
+use Rattle.session.specs.parts.Phasing.{files_of}
+use Rattle.session.specs.Phasing.{ChangesThese}
 use Rattle.session.proofs.CutFiles.{HoldBelow}
 use Rattle.session.proofs.cut_files.write_all.Given as goal
 

@@ -1,6 +1,7 @@
 -- The files are those of the cut.
 use Rattle.std.proofs.Common.{List, subst, sym, ℕ}
-use Rattle.session.specs.Phasing.{AreApart, ChangesThese, Hold, IsPageOf, files_of}
+use Rattle.session.specs.parts.Phasing.{AreApart, IsPageOf, files_of}
+use Rattle.session.specs.Phasing.{ChangesThese, Hold}
 use Rattle.session.specs.declared.cut_files.Output.{Output}
 use Rattle.session.proofs.CutPages.{files_apart, files_within, is_written}
 use Rattle.session.proofs.cut_files.written_page.Goals as goal

@@ -7,7 +7,8 @@ use Rattle.deciding.specs.declared.decision.Decision.{Decision}
 use Rattle.deciding.specs.declared.decision.Decision.TheVariants as decisions
 use Rattle.deciding.specs.declared.texts.Undecided.{Undecided}
 use Rattle.session.specs.Endings.{IsFollowedRun}
-use Rattle.session.specs.Pages.{IsDecideFile, IsDecidedPage, IsDecisionPage, IsScheduleFile, IsScheduled, StopsBy}
+use Rattle.session.specs.parts.Pages.{IsScheduleFile, StopsBy}
+use Rattle.session.specs.Pages.{IsDecideFile, IsDecidedPage, IsDecisionPage, IsScheduled}
 use Rattle.session.specs.declared.commands.Stop.{Stop}
 use Rattle.session.specs.declared.commands.Stop.TheVariants as stop
 use Rattle.session.specs.declared.page.Page.{Page}

@@ -1,6 +1,6 @@
 -- The explanation is that of the whole texts, and the page is the explanation's.
 use Rattle.std.proofs.Common.{subst, sym}
-use Rattle.session.specs.Texts.{AreAlikeEvidences, AreAlikePrograms, StandsFor}
+use Rattle.session.specs.parts.Texts.{AreAlikeEvidences, AreAlikePrograms, StandsFor}
 use Rattle.session.proofs.WholeAnswers.{whole_explanation}
 use Rattle.session.proofs.explained.given_page.Goals as goal
 

@@ -7,7 +7,8 @@ use Rattle.clap.specs.declared.error.kind.ErrorKind.TheVariants.{OutOfMemory}
 use Rattle.command_line.specs.CommandLine.{command_line}
 use Rattle.command_line.specs.Requests.{task_of}
 use Rattle.session.specs.Endings.{EndsByError, Explains, FailsEarly}
-use Rattle.session.specs.Runs.{SessionRun, on_outputs}
+use Rattle.session.specs.parts.Runs.{on_outputs}
+use Rattle.session.specs.Runs.{SessionRun}
 use Rattle.session.proofs.run.session.Goals as goal
 
 unasked : (words : List Text) (run : SessionRun) (kind : ErrorKind) → (kind ≡ OutOfMemory) ⊎ IsAmong kind (fault_of command_line words)

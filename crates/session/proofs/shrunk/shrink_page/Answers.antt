@@ -7,8 +7,9 @@ use Rattle.shrinking.specs.declared.halving.NotShrunkLong.TheVariants as unshrun
 use Rattle.shrinking.specs.Left.{AreLeft}
 use Rattle.shrinking.specs.Mapping.{map_text}
 use Rattle.command_line.specs.Requests.{path_of}
-use Rattle.session.specs.Pages.{StopsBy}
-use Rattle.session.specs.Shrinking.{AreWritten, Hangs, IsMadeSmaller, IsNotSmaller, IsShrinkFile, IsShrunkTo, IsSmaller, IsSmallerPage, IsUnshrunkPage}
+use Rattle.session.specs.parts.Pages.{StopsBy}
+use Rattle.session.specs.parts.Shrinking.{IsNotSmaller, IsUnshrunkPage}
+use Rattle.session.specs.Shrinking.{AreWritten, Hangs, IsMadeSmaller, IsShrinkFile, IsShrunkTo, IsSmaller, IsSmallerPage}
 use Rattle.session.specs.Unrolling.{IsNamed}
 use Rattle.session.specs.declared.commands.Stop.{Stop}
 use Rattle.session.specs.declared.commands.Stop.TheVariants as stop

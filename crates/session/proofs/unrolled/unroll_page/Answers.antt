@@ -5,7 +5,7 @@ use Rattle.std.specs.Borrow.{Bor}
 use Rattle.files.specs.Contents.{AreAll}
 use Rattle.command_line.specs.Requests.{path_of}
 use Rattle.spmd_program.specs.Unrolling.{IsRefusal, IsUnrolling, Tells}
-use Rattle.session.specs.Pages.{StopsBy}
+use Rattle.session.specs.parts.Pages.{StopsBy}
 use Rattle.session.specs.Unrolling.{AreWritten, IsNamed, IsProgramPage, IsUnrollFile, IsUnrolledPage}
 use Rattle.session.specs.declared.commands.Stop.{Stop}
 use Rattle.session.specs.declared.commands.Stop.TheVariants as stop

@@ -1,5 +1,5 @@
 use Rattle.std.proofs.Common.{◌≡◌, take, false}
-use Rattle.sharedpool.specs.Leaves.{has_entry}
+use Rattle.sharedpool.specs.parts.Leaves.{has_entry}
 use Rattle.sharedpool.proofs.locked.left_before.Given as goal
 
 abbrev pub invariant-loop-entry : goal.invariant-loop-entry

@@ -1,7 +1,7 @@
 use Rattle.std.proofs.Common.{sym, ap, ◌∙◌}
 use Rattle.crossbeam_utils.specs.Seq.{cell_view}
 use Rattle.sharedpool.specs.declared.room.View.{View}
-use Rattle.sharedpool.specs.Seats.{Token}
+use Rattle.sharedpool.specs.parts.Seats.{Token}
 use Rattle.sharedpool.proofs.note.match_lists.Goals as goal
 
 pub join-requires-clause-seat_of : goal.join-requires-clause-seat_of

@@ -2,7 +2,7 @@ use Rattle.std.proofs.Common.{◌≡◌, All, [], ◌∷◌, ◌++◌, List, len
 use Rattle.std.proofs.lemmas.List.{length-append}
 use Rattle.std.proofs.lemmas.List.Elements.{All-push}
 use Rattle.sharedpool.specs.declared.room.View.{View}
-use Rattle.sharedpool.specs.Views.{one_more}
+use Rattle.sharedpool.specs.parts.Views.{one_more}
 use Rattle.sharedpool.specs.Seats.{AreNumbered, Chair}
 use Rattle.sharedpool.proofs.Different.{numbered_push}
 use Rattle.sharedpool.proofs.shared.make_seats.Goals as goal

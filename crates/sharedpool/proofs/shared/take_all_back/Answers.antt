@@ -2,7 +2,8 @@ use Rattle.std.proofs.Common.{◌≡◌, ◌<◌, ◌∷◌, ap, sym, ◌∙◌,
 use Rattle.std.proofs.lemmas.List.Elements.{All-push}
 use Rattle.crossbeam_utils.specs.Seq.{cell_view}
 use Rattle.sharedpool.specs.declared.room.View.{View}
-use Rattle.sharedpool.specs.Views.{taker, items_of, AllBelow, IsNoneOf}
+use Rattle.sharedpool.specs.parts.Views.{taker}
+use Rattle.sharedpool.specs.Views.{items_of, AllBelow, IsNoneOf}
 use Rattle.sharedpool.specs.Seats.{Chair}
 use Rattle.sharedpool.proofs.Different.{seats_push, seats_none}
 use Rattle.sharedpool.proofs.shared.take_all_back.Goals as goal

@@ -1,6 +1,7 @@
 use Rattle.std.proofs.Common.{◌≡◌, ◌<◌, ℕ, All, length}
 use Rattle.crossbeam_utils.specs.Seq.{cell_view}
-use Rattle.sharedpool.specs.Views.{taker, items_of, AllBelow, IsNoneOf, AreDifferent}
+use Rattle.sharedpool.specs.parts.Views.{taker}
+use Rattle.sharedpool.specs.Views.{items_of, AllBelow, IsNoneOf, AreDifferent}
 use Rattle.sharedpool.specs.Seats.{workers_of}
 use Rattle.sharedpool.proofs.shared.take_all_back.Given as goal
 

@@ -1,7 +1,8 @@
 use Rattle.std.proofs.Common.{◌≡◌, ◌++◌, List, ℕ, ap, ◌∙◌}
 use Rattle.plaintext.specs.Plain.{spaced}
 use Rattle.calltext.specs.declared.call.CallLine.{CallLine}
-use Rattle.calltext.specs.Verbs.{verb_of, verb_word, name_words, number_words}
+use Rattle.calltext.specs.parts.Verbs.{name_words, number_words}
+use Rattle.calltext.specs.Verbs.{verb_of, verb_word}
 use Rattle.spmd_program.specs.Lines.{line_of_call}
 use Rattle.spmd_program.proofs.Written.{line_written}
 use Rattle.spmd_program.proofs.lines.put_line.Goals as goal

@@ -1,6 +1,6 @@
 use Rattle.std.proofs.Common.{◌≡◌, ℕ, ◌-◌, ◌/◌, arith, length, take, drop, List, [], ◌∷◌, ◌++◌, refl, ap, sym, ◌∙◌, inl}
 use Rattle.std.proofs.lemmas.List.{append-nil, append_assoc, length-drop, length-take-le, map-append, same_from_push, take-append-drop}
-use Rattle.spmd_text.specs.Statements.{IsInTurn, Kept, Makes, flat, flat_all, held, held_all}
+use Rattle.spmd_text.specs.parts.Statements.{IsInTurn, Kept, Makes, flat, flat_all, held, held_all}
 use Rattle.spmd_text.proofs.Made.{made_as}
 use Rattle.spmd_text.proofs.Sequences.{empty_of, in_turn_flat, made_then, one_of}
 use Rattle.spmd_text.proofs.blocks.+sequence.Goals as goal

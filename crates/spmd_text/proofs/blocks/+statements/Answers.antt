@@ -3,17 +3,18 @@ use Rattle.spmd_text.specs.declared.parser.Parser.{Parser}
 use Rattle.spmd_text.specs.declared.piece.Token.{Token}
 use Rattle.spmd_text.specs.declared.piece.Word.{Word}
 use Rattle.spmd_text.specs.declared.piece.Word.TheVariants as word
-use Rattle.spmd_text.specs.Parts.{Reads}
+use Rattle.spmd_text.specs.parts.Parts.{Reads}
 use Rattle.spmd_text.specs.declared.piece.Piece.TheVariants as piece
 use Rattle.spmd_text.specs.Lines as lines
-use Rattle.spmd_text.specs.Lines.{Level, Tells, from_word, level_at}
-use Rattle.spmd_text.specs.Statements.{Kept, MayStatements, RowSoFar, begun_part, held, held_all, is_end, line_at, put_back, scope_of, span_part, statements_part, tail_part, within_loop, word_of}
+use Rattle.spmd_text.specs.parts.Lines.{Level, Tells, from_word, level_at}
+use Rattle.spmd_text.specs.parts.Statements.{Kept, MayStatements, RowSoFar, begun_part, held, held_all, is_end, put_back, scope_of, span_part, statements_part, tail_part, word_of}
+use Rattle.spmd_text.specs.Statements.{line_at, within_loop}
 use Rattle.spmd_text.proofs.BlockForms.{body_read, elif_as, else_as, end_behind, first_simple, line_end_condition, loop_head_parts, name_read, next_begins, next_shorter, no_memory, otherwise_back, otherwise_so, put_back_is, reads_begun, reads_then_on, repeat_back, repeat_none, repeat_so, span_strict, tail_none, when_back, when_none, when_so}
 use Rattle.spmd_text.proofs.BlockLines.{branch_tells, else_shut, else_then_tells, head_deep_tells, kept_ends, lines_begun, lines_ended, lines_more, loop_deep_tells, loop_tells, made_ends, none_ends, simple_tells, tells_begun, when_ends}
 use Rattle.spmd_text.proofs.BlockWords.{end_ends, end_strict, statement_strict, tail_ends}
 use Rattle.spmd_text.proofs.Flat.{row_begun, row_ended, row_more, word_of_is}
 use Rattle.spmd_text.proofs.LeftOut.{not_next}
-use Rattle.spmd_text.specs.Reading.{next}
+use Rattle.spmd_text.specs.parts.Reading.{next}
 use Rattle.spmd_text.proofs.Following.{line_end_begins}
 use Rattle.spmd_text.proofs.Going.{never_failed}
 use Rattle.spmd_text.proofs.Made.{made_goes, made_sound, reads_kept, reads_made}

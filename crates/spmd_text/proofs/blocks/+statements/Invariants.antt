@@ -1,5 +1,5 @@
 use Rattle.std.proofs.Common.{◌+◌, ◌*◌, length}
-use Rattle.spmd_text.specs.Statements.{held_all}
+use Rattle.spmd_text.specs.parts.Statements.{held_all}
 use Rattle.spmd_text.proofs.BlockLines.{SoFar}
 use Rattle.spmd_text.proofs.blocks.+statements.Given as goal
 

@@ -1,6 +1,6 @@
 use Rattle.std.proofs.Common.{Bool, sym, subst}
-use Rattle.spmd_text.specs.Parts.{Reads}
-use Rattle.spmd_text.specs.Statements.{end_part}
+use Rattle.spmd_text.specs.parts.Parts.{Reads}
+use Rattle.spmd_text.specs.parts.Statements.{end_part}
 use Rattle.spmd_text.proofs.blocks.end_branch.Goals as goal
 
 pub returns-then-not-chained-clause-reads : goal.returns-then-not-chained-clause-reads

@@ -4,7 +4,8 @@ use Rattle.spmd_text.specs.declared.piece.Token.{Token}
 use Rattle.spmd_text.specs.declared.piece.Word.TheVariants as word
 use Rattle.spmd_text.specs.declared.piece.Piece.TheVariants as piece
 use Rattle.spmd_text.specs.Spelling.{begins}
-use Rattle.spmd_text.specs.Statements.{Kept, held, held_all, line_at, put_back}
+use Rattle.spmd_text.specs.parts.Statements.{Kept, held, held_all, put_back}
+use Rattle.spmd_text.specs.Statements.{line_at}
 use Rattle.spmd_text.proofs.BlockForms.{put_back_is}
 use Rattle.spmd_text.proofs.LeftOut.{next_word_shorter, not_next}
 use Rattle.spmd_text.proofs.Made.{made_goes, made_sound}

@@ -1,5 +1,5 @@
 use Rattle.std.proofs.Common.{◌≡◌, false, length}
-use Rattle.spmd_text.specs.Statements.{held_all}
+use Rattle.spmd_text.specs.parts.Statements.{held_all}
 use Rattle.spmd_text.proofs.ParameterRows.{ParametersSoFar}
 use Rattle.spmd_text.proofs.TextLines.{ParameterLines}
 use Rattle.spmd_text.proofs.blocks.parameters.Given as goal

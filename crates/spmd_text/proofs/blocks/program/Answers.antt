@@ -1,6 +1,6 @@
 use Rattle.std.proofs.Common.{ap, ◌∙◌}
 use Rattle.spmd_text.specs.declared.parser.Parser.{Parser}
-use Rattle.spmd_text.specs.Programs.{is_all_read}
+use Rattle.spmd_text.specs.parts.Programs.{is_all_read}
 use Rattle.spmd_text.proofs.Made.{made_goes, made_sound}
 use Rattle.spmd_text.proofs.Meeting.{sound_by}
 use Rattle.spmd_text.proofs.TextLines.{text_tells}

@@ -1,6 +1,6 @@
 use Rattle.std.proofs.Common.{◌≡◌, ℕ, ◌+◌, ◌-◌, arith, refl, ap, subst}
 use Rattle.spmd_text.specs.declared.parser.Parser.{Parser}
-use Rattle.spmd_text.specs.Parts.{Reads, labels_part}
+use Rattle.spmd_text.specs.parts.Parts.{Reads, labels_part}
 use Rattle.spmd_text.proofs.Following.{comma_unindexed, never_taken}
 use Rattle.spmd_text.proofs.Going.{goes_failed}
 use Rattle.spmd_text.proofs.LabelForms.{labels_last, labels_more, labels_too_long}

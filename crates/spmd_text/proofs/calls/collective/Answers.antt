@@ -1,7 +1,7 @@
 use Rattle.spmd_text.specs.declared.piece.Piece.TheVariants as piece
 use Rattle.spmd_text.specs.declared.piece.Word.TheVariants as word
-use Rattle.spmd_text.specs.Parts.{group_part}
-use Rattle.spmd_text.specs.Joints.{stops}
+use Rattle.spmd_text.specs.parts.Parts.{group_part}
+use Rattle.spmd_text.specs.parts.Joints.{stops}
 use Rattle.spmd_text.proofs.CallForms.{at_line_end, collective_as, comm_part}
 use Rattle.spmd_text.proofs.Following.{and_left, communicator_ends, group_ends}
 use Rattle.spmd_text.proofs.Optional.{before_group}

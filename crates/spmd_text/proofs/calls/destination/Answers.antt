@@ -1,4 +1,4 @@
-use Rattle.spmd_text.specs.Parts.{value_part}
+use Rattle.spmd_text.specs.parts.Parts.{value_part}
 use Rattle.spmd_text.proofs.NoStar.{value_not_star}
 use Rattle.spmd_text.proofs.Parts.{keeps_of, on_flag, read_behind_refusal}
 use Rattle.spmd_text.proofs.calls.destination.Goals as goal

@@ -1,7 +1,7 @@
 use Rattle.std.proofs.Common.{refl}
 use Rattle.spmd_text.specs.declared.piece.Piece.TheVariants as piece
 use Rattle.spmd_text.specs.declared.piece.Word.TheVariants as word
-use Rattle.spmd_text.specs.Parts.{group_part, value_part}
+use Rattle.spmd_text.specs.parts.Parts.{group_part, value_part}
 use Rattle.spmd_text.proofs.Following.{never_taken, to_stops, word_stops}
 use Rattle.spmd_text.proofs.Optional.{group_as, group_opens, step_part}
 use Rattle.spmd_text.proofs.Parts.{none_read, on_flag, reads_as, reads_then}

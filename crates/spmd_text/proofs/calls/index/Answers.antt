@@ -1,5 +1,5 @@
 use Rattle.std.proofs.Common.{refl}
-use Rattle.spmd_text.specs.Parts.{index_part, value_part}
+use Rattle.spmd_text.specs.parts.Parts.{index_part, value_part}
 use Rattle.spmd_text.proofs.Following.{closing_stops, never_taken}
 use Rattle.spmd_text.proofs.Optional.{index_as, index_opens}
 use Rattle.spmd_text.proofs.Parts.{none_read, on_flag, reads_as, reads_then}

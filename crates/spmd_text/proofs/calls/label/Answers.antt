@@ -1,5 +1,5 @@
 use Rattle.std.proofs.Common.{refl}
-use Rattle.spmd_text.specs.Parts.{index_part}
+use Rattle.spmd_text.specs.parts.Parts.{index_part}
 use Rattle.spmd_text.proofs.LabelForms.{label_read_as}
 use Rattle.spmd_text.proofs.Parts.{keeps_of, on_flag, reads_then}
 use Rattle.spmd_text.proofs.Strict.{index_strict}

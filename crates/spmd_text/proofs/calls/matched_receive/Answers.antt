@@ -1,5 +1,5 @@
 use Rattle.std.proofs.Common.{refl}
-use Rattle.spmd_text.specs.Parts.{label_part}
+use Rattle.spmd_text.specs.parts.Parts.{label_part}
 use Rattle.spmd_text.proofs.CallForms.{matched_receive_as}
 use Rattle.spmd_text.proofs.Parts.{on_names, reads_as, reads_then}
 use Rattle.spmd_text.proofs.Strict.{label_strict}

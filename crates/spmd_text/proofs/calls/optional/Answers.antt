@@ -1,6 +1,6 @@
 use Rattle.std.proofs.Common.{refl}
 use Rattle.spmd_text.specs.declared.piece.Piece.TheVariants as piece
-use Rattle.spmd_text.specs.Parts.{optional_part, piece_part, value_part}
+use Rattle.spmd_text.specs.parts.Parts.{optional_part, piece_part, value_part}
 use Rattle.spmd_text.proofs.Parts.{none_read, on_flag, reads_as, reads_then}
 use Rattle.spmd_text.proofs.Following.{never_taken, optional_as, value_behind}
 use Rattle.spmd_text.proofs.Strict.{value_strict}

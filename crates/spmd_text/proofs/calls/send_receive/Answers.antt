@@ -1,7 +1,7 @@
 use Rattle.std.proofs.Common.{refl}
 use Rattle.spmd_text.specs.declared.piece.Piece.TheVariants as piece
 use Rattle.spmd_text.specs.declared.piece.Word.TheVariants as word
-use Rattle.spmd_text.specs.Parts.{value_part, wild_part}
+use Rattle.spmd_text.specs.parts.Parts.{value_part, wild_part}
 use Rattle.spmd_text.proofs.CallForms.{comm_part, send_receive_as}
 use Rattle.spmd_text.proofs.Following.{comma_stops, word_stops}
 use Rattle.spmd_text.proofs.Parts.{on_flag, reads_as, reads_then}

@@ -4,7 +4,8 @@ use Rattle.std.proofs.lemmas.List.{drop_more, drop_all}
 use Rattle.spmd_text.specs.declared.fault.ParseFault.{ParseFault}
 use Rattle.spmd_text.specs.declared.fault.ParseReason.{ParseReason}
 use Rattle.spmd_text.specs.declared.fault.TextFault.{TextFault}
-use Rattle.spmd_text.specs.Tokens.{Cutting, GivesPieces, seen, pieces_of, finished, lined}
+use Rattle.spmd_text.specs.parts.Tokens.{GivesPieces, seen}
+use Rattle.spmd_text.specs.Tokens.{Cutting, pieces_of, finished, lined}
 use Rattle.spmd_text.proofs.Feeding.{feed_goes, feed_halts, feed_ends, told}
 use Rattle.spmd_text.proofs.cutting.cut.Goals as goal
 

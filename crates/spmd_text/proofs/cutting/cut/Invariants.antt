@@ -1,5 +1,6 @@
 use Rattle.std.proofs.Common.{◌≡◌, drop}
-use Rattle.spmd_text.specs.Tokens.{feed_all, seen, pieces_of}
+use Rattle.spmd_text.specs.parts.Tokens.{seen}
+use Rattle.spmd_text.specs.Tokens.{feed_all, pieces_of}
 use Rattle.spmd_text.proofs.cutting.cut.Given as goal
 
 -- the bytes that are left do what all bytes do

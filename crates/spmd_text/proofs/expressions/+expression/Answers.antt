@@ -6,14 +6,15 @@ use Rattle.spmd_text.specs.declared.piece.Piece.TheVariants as piece
 use Rattle.spmd_text.specs.declared.piece.Word.TheVariants as word
 use Rattle.spmd_text.specs.declared.piece.Token.{Token}
 use Rattle.spmd_text.specs.Spelling.{after}
-use Rattle.spmd_text.specs.Joints.{binding_of, closeness, joint_ahead, joint_of, stops}
-use Rattle.spmd_text.specs.Growing.{beginning_of, begun, done, enclosed, Growing, Becomes, MayBegin}
-use Rattle.spmd_text.specs.Reading.{Ahead, Alike, Finds, Goes, MayStand}
+use Rattle.spmd_text.specs.parts.Joints.{binding_of, joint_ahead, joint_of, stops}
+use Rattle.spmd_text.specs.Joints.{closeness}
+use Rattle.spmd_text.specs.parts.Growing.{beginning_of, begun, done, enclosed, Growing, Becomes, MayBegin}
+use Rattle.spmd_text.specs.parts.Reading.{Ahead, Alike, Finds, Goes, MayStand}
 use Rattle.spmd_text.proofs.Alike.{alike_condition}
 use Rattle.spmd_text.proofs.Beginning.{begun_of, first_row}
 use Rattle.spmd_text.proofs.Continuing.{may_lengthen, row_found, ended, grown, inner, opening_at, begun_prefix, begun_choice, least_ahead, choice_ahead, stepped, ahead_at}
 use Rattle.spmd_text.specs.declared.expressions.Beginning.{Beginning}
-use Rattle.spmd_text.specs.Found.{WasBegun, WasRead}
+use Rattle.spmd_text.specs.parts.Found.{WasBegun, WasRead}
 use Rattle.spmd_text.proofs.Found.{choice_begun, one_more, prefix_begun, read_to_end, so_far_begun}
 use Rattle.spmd_text.proofs.Going.{never_failed, sound_before, same_kind, failed_or, goes_failed, so_far, ended_or, goes_nowhere, goes_on, same_kind, stands_same, found_then}
 use Rattle.spmd_text.proofs.Growing.{first, grown_close, grown_number, operand_stops}

@@ -2,9 +2,9 @@ use Rattle.std.proofs.Common.{◌≡◌, ◌⊎◌, ◌+◌, ◌-◌, ◌*◌, l
 use Rattle.spmd_tree.specs.declared.tree.Expression.{Expression}
 use Rattle.spmd_text.specs.declared.fault.ParseReason.TheVariants.{Memory}
 use Rattle.spmd_text.specs.declared.piece.Token.{Token}
-use Rattle.spmd_text.specs.Found.{SoFar}
-use Rattle.spmd_text.specs.Growing.{Growing}
-use Rattle.spmd_text.specs.Reading.{Goes}
+use Rattle.spmd_text.specs.parts.Found.{SoFar}
+use Rattle.spmd_text.specs.parts.Growing.{Growing}
+use Rattle.spmd_text.specs.parts.Reading.{Goes}
 use Rattle.spmd_text.proofs.expressions.+expression.Given as goal
 
 -- what follows a joint binds closer, and what stands behind a prefix or in a choice is one deeper

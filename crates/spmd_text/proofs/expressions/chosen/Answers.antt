@@ -1,8 +1,8 @@
 use Rattle.std.proofs.Common.{◌≡◌, ◌∙◌}
 use Rattle.spmd_tree.specs.declared.tree.Expression.{Expression}
 use Rattle.spmd_tree.specs.declared.tree.Expression.TheVariants as form
-use Rattle.spmd_text.specs.Joints.{Place}
-use Rattle.spmd_text.specs.Reading.{Alike}
+use Rattle.spmd_text.specs.parts.Joints.{Place}
+use Rattle.spmd_text.specs.parts.Reading.{Alike}
 use Rattle.spmd_text.proofs.Alike.{alike_choice, alike_condition, ok_more, ok_so}
 use Rattle.spmd_text.proofs.Going.{sound_before, stands_same}
 use Rattle.spmd_text.proofs.expressions.chosen.Goals as goal

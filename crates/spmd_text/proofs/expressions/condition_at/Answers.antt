@@ -3,10 +3,10 @@ use Rattle.spmd_text.specs.declared.parser.Parser.{Parser}
 use Rattle.spmd_text.specs.Spelling.{after_condition, after_expression, binding, fits, only}
 use Rattle.spmd_tree.specs.declared.tree.Expression.{Expression}
 use Rattle.spmd_text.specs.declared.piece.Token.{Token}
-use Rattle.spmd_text.specs.Joints.{stops}
+use Rattle.spmd_text.specs.parts.Joints.{stops}
 use Rattle.spmd_text.specs.Limits.{IsWithin}
-use Rattle.spmd_text.specs.Found.{WasRead}
-use Rattle.spmd_text.specs.Reading.{Alike, Finds}
+use Rattle.spmd_text.specs.parts.Found.{WasRead}
+use Rattle.spmd_text.specs.parts.Reading.{Alike, Finds}
 use Rattle.spmd_text.proofs.Alike.{alike_condition}
 use Rattle.spmd_text.proofs.Found.{fits_from}
 use Rattle.spmd_text.proofs.Going.{found_then, sound_before, stands_same}

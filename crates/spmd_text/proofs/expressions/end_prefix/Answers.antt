@@ -1,8 +1,8 @@
 use Rattle.std.proofs.Common.{◌∙◌, subst, List}
 use Rattle.spmd_text.specs.declared.joints.Prefix.{Prefix}
 use Rattle.spmd_text.specs.declared.piece.Token.{Token}
-use Rattle.spmd_text.specs.Growing.{ends_prefix}
-use Rattle.spmd_text.specs.Reading.{Stands}
+use Rattle.spmd_text.specs.parts.Growing.{ends_prefix}
+use Rattle.spmd_text.specs.parts.Reading.{Stands}
 use Rattle.spmd_text.proofs.Alike.{alike_condition}
 use Rattle.spmd_text.proofs.Going.{stands_same}
 use Rattle.spmd_text.proofs.expressions.end_prefix.Goals as goal

@@ -5,8 +5,8 @@ use Rattle.spmd_text.specs.Words.{code}
 use Rattle.spmd_text.specs.declared.parser.Parser.{Parser}
 use Rattle.spmd_text.specs.declared.piece.Piece.TheVariants as piece
 use Rattle.spmd_text.specs.declared.piece.Word.TheVariants as word
-use Rattle.spmd_text.specs.Growing.{leaf_of}
-use Rattle.spmd_text.specs.Reading.{next, behind, form_of}
+use Rattle.spmd_text.specs.parts.Growing.{leaf_of}
+use Rattle.spmd_text.specs.parts.Reading.{next, behind, form_of}
 use Rattle.spmd_text.proofs.Beginning.{leaf_at}
 use Rattle.spmd_text.proofs.Found.{leaf_begun}
 use Rattle.spmd_text.proofs.expressions.leaf.Goals as goal

@@ -1,7 +1,7 @@
 use Rattle.std.proofs.Common.{◌≡◌, ◌∙◌, sym}
 use Rattle.spmd_tree.specs.declared.tree.Expression.{Expression}
-use Rattle.spmd_text.specs.Joints.{joined, Place}
-use Rattle.spmd_text.specs.Reading.{Alike}
+use Rattle.spmd_text.specs.parts.Joints.{joined, Place}
+use Rattle.spmd_text.specs.parts.Reading.{Alike}
 use Rattle.spmd_text.proofs.Alike.{alike_condition, alike_joined, ok_more, ok_so}
 use Rattle.spmd_text.proofs.Going.{sound_before, stands_same}
 use Rattle.spmd_text.proofs.Growing.{joins_so}

@@ -1,11 +1,11 @@
 use Rattle.std.proofs.Common.{◌≡◌, subst, sym}
 use Rattle.spmd_tree.specs.declared.tree.Expression.{Expression}
 use Rattle.spmd_text.specs.declared.parser.Parser.{Parser}
-use Rattle.spmd_text.specs.Growing.{ends_prefix}
+use Rattle.spmd_text.specs.parts.Growing.{ends_prefix}
 use Rattle.spmd_text.proofs.Going.{sound_before}
-use Rattle.spmd_text.specs.Growing.{enclosed}
-use Rattle.spmd_text.specs.Joints.{Place}
-use Rattle.spmd_text.specs.Reading.{Alike}
+use Rattle.spmd_text.specs.parts.Growing.{enclosed}
+use Rattle.spmd_text.specs.parts.Joints.{Place}
+use Rattle.spmd_text.specs.parts.Reading.{Alike}
 use Rattle.spmd_text.proofs.Alike.{alike_enclosed, ok_more, ok_so}
 use Rattle.spmd_text.proofs.expressions.put_prefix.Goals as goal
 

@@ -1,7 +1,7 @@
 use Rattle.std.proofs.Common.{◌∙◌, ap, sym}
 use Rattle.spmd_text.specs.declared.joints.Prefix.{Prefix}
-use Rattle.spmd_text.specs.Joints.{Place}
-use Rattle.spmd_text.specs.Growing.{enclosed}
+use Rattle.spmd_text.specs.parts.Joints.{Place}
+use Rattle.spmd_text.specs.parts.Growing.{enclosed}
 use Rattle.spmd_text.proofs.Alike.{put_enclosed}
 use Rattle.spmd_text.proofs.joints.enclosed.Goals as goal
 use Rattle.spmd_text.proofs.joints.enclosed.Goals.{in-Not, in-Minus, in-Parentheses}

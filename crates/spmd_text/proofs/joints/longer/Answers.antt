@@ -1,6 +1,6 @@
 use Rattle.std.proofs.Common.{◌≡◌, refl, subst, ◌+◌, arith}
 use Rattle.spmd_text.specs.declared.joints.Row.{Row}
-use Rattle.spmd_text.specs.Found.{IsLonger}
+use Rattle.spmd_text.specs.parts.Found.{IsLonger}
 use Rattle.spmd_text.proofs.Alike.{ok_same}
 use Rattle.spmd_text.proofs.Rows.{begins_longer, goes_longer, row_begins, row_full}
 use Rattle.spmd_text.proofs.joints.longer.Goals as goal

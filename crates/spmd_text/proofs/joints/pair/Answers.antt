@@ -1,6 +1,6 @@
 use Rattle.std.proofs.Common.{◌∙◌, ap, sym}
 use Rattle.spmd_text.specs.declared.joints.Joint.{Joint}
-use Rattle.spmd_text.specs.Joints.{Place, joined}
+use Rattle.spmd_text.specs.parts.Joints.{Place, joined}
 use Rattle.spmd_text.proofs.Alike.{put_joined}
 use Rattle.spmd_text.proofs.joints.pair.Goals as goal
 use Rattle.spmd_text.proofs.joints.pair.Goals.{in-Or, in-And, in-Compared, in-Between}

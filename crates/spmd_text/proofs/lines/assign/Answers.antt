@@ -1,5 +1,5 @@
 use Rattle.std.proofs.Common.{refl}
-use Rattle.spmd_text.specs.Parts.{value_part}
+use Rattle.spmd_text.specs.parts.Parts.{value_part}
 use Rattle.spmd_text.proofs.Following.{line_end_stops}
 use Rattle.spmd_text.proofs.Made.{reads_kept}
 use Rattle.spmd_text.proofs.Parts.{on_flag, reads_as, reads_then}

@@ -1,7 +1,7 @@
 use Rattle.std.proofs.Common.{arith, true, refl, ◌∙◌}
 use Rattle.spmd_text.specs.declared.piece.Piece.TheVariants as piece
-use Rattle.spmd_text.specs.Parts.{piece_part, value_part}
-use Rattle.spmd_text.specs.Programs.{otherwise_part}
+use Rattle.spmd_text.specs.parts.Parts.{piece_part, value_part}
+use Rattle.spmd_text.specs.parts.Programs.{otherwise_part}
 use Rattle.spmd_text.proofs.Following.{never_taken, value_behind}
 use Rattle.spmd_text.proofs.ParameterForms.{otherwise_as, reads_flagged}
 use Rattle.spmd_text.proofs.Parts.{none_read, reads_as, reads_then}

@@ -1,8 +1,8 @@
 use Rattle.std.proofs.Common.{refl, sym, subst}
 use Rattle.spmd_text.specs.declared.piece.Word.{Word}
 use Rattle.spmd_text.specs.declared.piece.Word.TheVariants as word
-use Rattle.spmd_text.specs.Parts.{Reads}
-use Rattle.spmd_text.specs.Statements.{begun_part, held, scope_of}
+use Rattle.spmd_text.specs.parts.Parts.{Reads}
+use Rattle.spmd_text.specs.parts.Statements.{begun_part, held, scope_of}
 use Rattle.spmd_text.proofs.Scopes.{refused_read}
 use Rattle.spmd_text.proofs.StatementForms.{no_form}
 use Rattle.spmd_text.proofs.Starts.{simple_call}

@@ -1,5 +1,5 @@
 use Rattle.std.proofs.Common.{refl}
-use Rattle.spmd_text.specs.Parts.{value_part}
+use Rattle.spmd_text.specs.parts.Parts.{value_part}
 use Rattle.spmd_text.proofs.CallForms.{at_line_end}
 use Rattle.spmd_text.proofs.Following.{to_stops}
 use Rattle.spmd_text.proofs.LeftOut.{gap_stops, gap_strict, span_as}

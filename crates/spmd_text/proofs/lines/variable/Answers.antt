@@ -1,5 +1,6 @@
 use Rattle.std.proofs.Common.{◌≡◌, ℕ, true, refl, ap, sym, ◌∙◌}
-use Rattle.spmd_text.specs.Statements.{Scope, may_give, scope_of}
+use Rattle.spmd_text.specs.parts.Statements.{scope_of}
+use Rattle.spmd_text.specs.Statements.{Scope, may_give}
 use Rattle.spmd_text.proofs.Parts.{keeps_of, reads_as, reads_then}
 use Rattle.spmd_text.proofs.Scopes.{reads_checked, scope_same}
 use Rattle.spmd_text.proofs.StatementForms.{variable_as}

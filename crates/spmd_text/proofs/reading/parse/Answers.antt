@@ -2,9 +2,9 @@ use Rattle.std.proofs.Common.{List, Option, arith, â„•, ap, false, sym, subst, â
 use Rattle.std.specs.Option.{IfSome}
 use Rattle.spmd_text.specs.declared.fault.ParseFault.{ParseFault}
 use Rattle.spmd_text.specs.FirstFaults.{IsFirstFault, IsReadable}
-use Rattle.spmd_text.specs.Lines.{IsEnded}
+use Rattle.spmd_text.specs.parts.Lines.{IsEnded}
 use Rattle.spmd_text.specs.Programs.{Says, parameters_of}
-use Rattle.spmd_text.specs.Statements.{held}
+use Rattle.spmd_text.specs.parts.Statements.{held}
 use Rattle.spmd_text.specs.Texts.{HasFault, is_memory}
 use Rattle.spmd_text.proofs.Readings.{fault_told, text_of}
 use Rattle.spmd_text.proofs.reading.parse.Goals as goal

@@ -6,7 +6,7 @@ use Rattle.std.specs.List.{AllZip}
 use Rattle.steal.specs.declared.seats.OwnerSeat.{OwnerSeat}
 use Rattle.steal.specs.declared.seats.ThiefSeat.{ThiefSeat}
 use Rattle.steal.specs.declared.supply.Supply.{Supply}
-use Rattle.steal.specs.Rows.{rows_of, AreFreshThieves}
+use Rattle.steal.specs.parts.Rows.{rows_of, AreFreshThieves}
 use Rattle.steal.specs.Seats.{stolen_by, IsThiefOf}
 use Rattle.steal.proofs.Rows.{fresh_rows, fresh_dealt}
 use Rattle.steal.proofs.Supplies.{are_supplies, are_fresh}

@@ -2,7 +2,7 @@ use Rattle.std.proofs.Common.{◌≡◌, ◌++◌, [], All, length}
 use Rattle.std.specs.List.{AllZip}
 use Rattle.std.specs.Vec.Iter.{into_iter_items}
 use Rattle.steal.specs.declared.supply.Supply.{Supply}
-use Rattle.steal.specs.Rows.{rows_of, AreFreshThieves}
+use Rattle.steal.specs.parts.Rows.{rows_of, AreFreshThieves}
 use Rattle.steal.specs.Seats.{stolen_by, IsThiefOf}
 use Rattle.steal.specs.Supplies.{owners_of}
 use Rattle.steal.proofs.supply.dealt.Given as goal

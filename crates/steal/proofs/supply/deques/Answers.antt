@@ -1,6 +1,6 @@
 use Rattle.std.proofs.Common.{[], ◌∷◌, length-append, arith}
 use Rattle.std.proofs.lemmas.List.Elements.{All-push}
-use Rattle.steal.specs.Rows.{IsFreshOwner}
+use Rattle.steal.specs.parts.Rows.{IsFreshOwner}
 use Rattle.steal.proofs.Rows.{fresh_more}
 use Rattle.steal.proofs.supply.deques.Goals as goal
 

@@ -1,6 +1,6 @@
 use Rattle.std.proofs.Common.{◌≡◌, All, length}
 use Rattle.std.specs.List.{AllZip}
-use Rattle.steal.specs.Rows.{rows_of, AreFreshThieves, IsFreshOwner}
+use Rattle.steal.specs.parts.Rows.{rows_of, AreFreshThieves, IsFreshOwner}
 use Rattle.steal.proofs.supply.deques.Given as goal
 
 abbrev pub invariant-loop : goal.invariant-loop

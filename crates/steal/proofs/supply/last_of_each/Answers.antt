@@ -1,4 +1,4 @@
-use Rattle.steal.specs.Rows.{no_row}
+use Rattle.steal.specs.parts.Rows.{no_row}
 use Rattle.steal.proofs.Rows.{last_of_rows}
 use Rattle.steal.proofs.supply.last_of_each.Goals as goal
 

@@ -1,4 +1,4 @@
-use Rattle.steal.specs.Rows.{rows_of, AreLast}
+use Rattle.steal.specs.parts.Rows.{rows_of, AreLast}
 use Rattle.steal.proofs.supply.last_of_each.Given as goal
 
 abbrev pub invariant-loop-row : goal.invariant-loop-row

@@ -5,7 +5,7 @@ use Rattle.std.specs.Global.{Vec}
 use Rattle.std.specs.List.{flat_map}
 use Rattle.steal.specs.declared.seats.OwnerSeat.{OwnerSeat}
 use Rattle.steal.specs.declared.seats.ThiefSeat.{ThiefSeat}
-use Rattle.steal.specs.Rows.{rows_of}
+use Rattle.steal.specs.parts.Rows.{rows_of}
 use Rattle.steal.specs.Seats.{popped, pushed, stolen_by, IsThiefOf}
 use Rattle.steal.specs.Supplies.{AreThieves}
 use Rattle.steal.proofs.Places.{All-from_map}

@@ -1,7 +1,7 @@
 use Rattle.std.proofs.Common.{◌≡◌, ◌++◌, ℕ, ◌==◌, All, length, vec_len}
 use Rattle.std.specs.List.{flat_map}
 use Rattle.steal.specs.declared.seats.OwnerSeat.{OwnerSeat}
-use Rattle.steal.specs.Rows.{rows_of}
+use Rattle.steal.specs.parts.Rows.{rows_of}
 use Rattle.steal.specs.Seats.{popped, pushed, stolen_by, thief_count}
 use Rattle.steal.specs.Supplies.{AreThieves}
 use Rattle.steal.proofs.Settling.{IsEven}

@@ -1,6 +1,6 @@
 use Rattle.std.proofs.Common.{◌≡◌, map}
 use Rattle.steal.specs.declared.supply.Supply.{Supply}
-use Rattle.steal.specs.Rows.{rows_of}
+use Rattle.steal.specs.parts.Rows.{rows_of}
 use Rattle.steal.specs.Supplies.{owners_of}
 use Rattle.steal.proofs.supply.parted.Given as goal
 

@@ -8,7 +8,7 @@ use Rattle.steal.specs.declared.seats.OwnerSeat.{OwnerSeat}
 use Rattle.steal.specs.declared.seats.ThiefSeat.{ThiefSeat}
 use Rattle.steal.specs.declared.supply.Supply.{Supply}
 use Rattle.steal.specs.Hands.{occurrences}
-use Rattle.steal.specs.Rows.{rows_of}
+use Rattle.steal.specs.parts.Rows.{rows_of}
 use Rattle.steal.specs.Seats.{popped, pushed, stolen_by, thief_count}
 use Rattle.steal.specs.Supplies.{given_by, taken_by, owners_of, AreThieves}
 use Rattle.steal.proofs.Moves.{count_by-append}

@@ -1,6 +1,7 @@
 use Rattle.std.proofs.Common.{◌≡◌, ◌-◌, ◌++◌, length, vec_capacity}
 use Rattle.crossbeam_deque.specs.Handles.{worker_flavor, worker_view}
-use Rattle.steal.specs.Hands.{hand, all_parts}
+use Rattle.steal.specs.parts.Hands.{hand}
+use Rattle.steal.specs.Hands.{all_parts}
 use Rattle.steal.proofs.tally.drained.Given as goal
 
 -- what is left so far was taken behind all that was taken before

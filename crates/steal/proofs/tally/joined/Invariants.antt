@@ -1,6 +1,6 @@
 use Rattle.std.proofs.Common.{◌≡◌, ◌+◌, ◌++◌, length}
 use Rattle.crossbeam_deque.specs.Handles.{worker_deque, worker_flavor, worker_view}
-use Rattle.steal.specs.Hands.{hand}
+use Rattle.steal.specs.parts.Hands.{hand}
 use Rattle.steal.specs.Seats.{stolen_by}
 use Rattle.steal.proofs.tally.joined.Given as goal
 

@@ -1,6 +1,6 @@
 use Rattle.std.proofs.Common.{◌≡◌, ◌-◌, ◌++◌, ◌∷◌, [], subst, arith}
 use Rattle.clauses.specs.Clauses.{Literal}
-use Rattle.tree_lines.specs.Entries.{IsSplitEntry}
+use Rattle.tree_lines.specs.parts.Entries.{IsSplitEntry}
 use Rattle.tree_lines.proofs.Forests.{walked_none, walked_leaf, walked_split, walked_pop, walked_two, leaf_named, walked_all, root_popped, no_empty_stack, root_has_number, root_named, accepts_nodes}
 use Rattle.std.proofs.lemmas.Bool.{false≢true}
 use Rattle.tree_lines.proofs.NodeNumbers.{number_at, number_bounds}

@@ -1,7 +1,7 @@
 use Rattle.std.proofs.Common.{rules, ◌<◌, ◌∷◌, [], length, ℕ, Some, arith}
 use Rattle.std.proofs.lemmas.List.Elements.{All-pop, All-same, All-cons, All-nil}
 use Rattle.refutations.specs.BinaryTrees.{preorder}
-use Rattle.trees.specs.Preorders.{tree_below}
+use Rattle.trees.specs.parts.Preorders.{tree_below}
 use Rattle.trees.proofs.Written.{one_written, less_left, within_more}
 use Rattle.trees.proofs.proof_tree.preorder.Goals as goal
 

@@ -1,7 +1,7 @@
 use Rattle.std.proofs.Common.{◌≡◌, ◌<◌, ◌++◌, length}
 use Rattle.std.specs.List.{All}
 use Rattle.refutations.specs.BinaryTrees.{preorder}
-use Rattle.trees.specs.Preorders.{tree_below}
+use Rattle.trees.specs.parts.Preorders.{tree_below}
 use Rattle.trees.proofs.Written.{left_of}
 use Rattle.trees.proofs.proof_tree.preorder.Given as goal
 

@@ -1,5 +1,5 @@
 use Rattle.std.proofs.Common.{◌≡◌, drop}
-use Rattle.trimming.specs.Marks.{mark_all}
+use Rattle.trimming.specs.parts.Marks.{mark_all}
 use Rattle.trimming.proofs.marks.mark_all.Given as goal
 
 abbrev pub invariant-loop-number : goal.invariant-loop-number

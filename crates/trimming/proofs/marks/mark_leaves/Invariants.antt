@@ -1,5 +1,5 @@
 use Rattle.std.proofs.Common.{◌≡◌, drop}
-use Rattle.trimming.specs.Marks.{mark_leaves}
+use Rattle.trimming.specs.parts.Marks.{mark_leaves}
 use Rattle.trimming.proofs.marks.mark_leaves.Given as goal
 
 abbrev pub invariant-loop-node : goal.invariant-loop-node

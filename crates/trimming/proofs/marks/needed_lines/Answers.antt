@@ -1,6 +1,6 @@
 use Rattle.std.proofs.Common.{◌≡◌, ◌-◌, suc, replicate, length, false, true, Bool, List, ℕ, Some, slice_get, sym, ap, subst, ◌∙◌, refl, rules, arith}
 use Rattle.std.proofs.lemmas.Option.{slice_get_read}
-use Rattle.trimming.specs.Marks.{AreMarked, mark_all, mark_leaves}
+use Rattle.trimming.specs.parts.Marks.{AreMarked, mark_all, mark_leaves}
 use Rattle.trimming.proofs.MarkLaws.{marked_leaves, marked_needed, marked_unneeded_at, marked_all}
 use Rattle.trimming.proofs.marks.needed_lines.Goals as goal
 

@@ -1,4 +1,4 @@
-use Rattle.trimming.specs.Marks.{AreMarked}
+use Rattle.trimming.specs.parts.Marks.{AreMarked}
 use Rattle.trimming.proofs.marks.needed_lines.Given as goal
 
 abbrev pub invariant-loop-place : goal.invariant-loop-place

@@ -1,5 +1,5 @@
 use Rattle.std.proofs.Common.{◌≡◌, ◌≤◌, ◌++◌, drop}
-use Rattle.trimming.specs.Marks.{running}
+use Rattle.trimming.specs.parts.Marks.{running}
 use Rattle.trimming.proofs.renumbering.counts.Given as goal
 
 abbrev pub invariant-loop-flag : goal.invariant-loop-flag

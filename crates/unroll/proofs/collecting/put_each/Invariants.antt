@@ -1,5 +1,6 @@
 use Rattle.std.proofs.Common.{◌≡◌, drop}
-use Rattle.unroll.specs.Runs.{put_each, seen}
+use Rattle.unroll.specs.parts.Runs.{seen}
+use Rattle.unroll.specs.Runs.{put_each}
 use Rattle.unroll.proofs.collecting.put_each.Given as goal
 
 -- the calls that are left do what all of them do

@@ -1,6 +1,7 @@
 use Rattle.std.proofs.Common.{◌≡◌, ℕ, suc, ◌+◌, ◌-◌, Some, None, ap, sym, subst, ◌∙◌, arith}
 use Rattle.spmd_tree.specs.declared.tree.Statement.{Statement}
-use Rattle.unroll.specs.Runs.{Stops, seen, Run, Outcome, Done}
+use Rattle.unroll.specs.parts.Runs.{Stops, seen}
+use Rattle.unroll.specs.Runs.{Run, Outcome, Done}
 use Rattle.unroll.specs.Statements.{meaning}
 use Rattle.unroll.proofs.Turns.{turns_over, turn_refused, turn_fails, turn_done}
 use Rattle.unroll.proofs.statement.+run.Goals as goal

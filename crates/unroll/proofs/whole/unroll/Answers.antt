@@ -1,6 +1,7 @@
 use Rattle.std.proofs.Common.{◌≡◌, ℕ, suc, ◌+◌, ◌-◌, sym, subst, refl, arith}
 use Rattle.unroll.specs.declared.whole.Refusal.{Refusal}
-use Rattle.unroll.specs.Runs.{seen, Outcome}
+use Rattle.unroll.specs.parts.Runs.{seen}
+use Rattle.unroll.specs.Runs.{Outcome}
 use Rattle.unroll.specs.Statements.{text_run}
 use Rattle.unroll.specs.Whole.{IsRefused}
 use Rattle.unroll.proofs.Ranks.{rank_refused, rank_done}

@@ -1,5 +1,5 @@
 use Rattle.std.proofs.Common.{◌≡◌, ◌-◌}
-use Rattle.unroll.specs.Runs.{seen}
+use Rattle.unroll.specs.parts.Runs.{seen}
 use Rattle.unroll.specs.Statements.{ranks_from, text_run}
 use Rattle.unroll.proofs.whole.unroll.Given as goal
 

@@ -1,6 +1,6 @@
 use Rattle.std.proofs.Common.{ℕ, ◌≡◌, ◌≢◌, ◌<◌, []}
 use Rattle.waits.specs.declared.cycles.Mark.TheVariants.{New}
-use Rattle.waits.specs.Searches.{mark_at, IsSearch}
+use Rattle.waits.specs.parts.Searches.{mark_at, IsSearch}
 use Rattle.waits.proofs.cycles.cycle.Given as goal
 
 abbrev pub invariant-loop-root : goal.invariant-loop-root

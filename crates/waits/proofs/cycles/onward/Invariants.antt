@@ -1,4 +1,4 @@
-use Rattle.waits.specs.Searches.{AreOff}
+use Rattle.waits.specs.parts.Searches.{AreOff}
 use Rattle.waits.proofs.cycles.onward.Given as goal
 
 abbrev pub invariant-loop-place : goal.invariant-loop-place

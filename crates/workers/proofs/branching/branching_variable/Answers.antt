@@ -1,6 +1,6 @@
 use Rattle.std.proofs.Common.{sym}
 use Rattle.std.specs.List.{range_with_len}
-use Rattle.workers.specs.Branching.{is_free}
+use Rattle.workers.specs.parts.Branching.{is_free}
 use Rattle.workers.proofs.FirstFree.{found_first, found_second}
 use Rattle.workers.proofs.branching.branching_variable.Goals as goal
 

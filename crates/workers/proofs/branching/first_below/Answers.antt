@@ -1,5 +1,5 @@
 use Rattle.std.proofs.Common.{◌≡◌, ◌+◌, Bool, true, false, not, ap, sym, ◌∙◌, arith}
-use Rattle.workers.specs.Branching.{is_decided, is_free}
+use Rattle.workers.specs.parts.Branching.{is_decided, is_free}
 use Rattle.workers.proofs.FirstFree.{found_later}
 use Rattle.workers.proofs.branching.first_below.Goals as goal
 

@@ -1,6 +1,6 @@
 use Rattle.std.proofs.Common.{◌≡◌, ◌+◌, ◌-◌}
 use Rattle.std.specs.List.{find, range_with_len}
-use Rattle.workers.specs.Branching.{is_free}
+use Rattle.workers.specs.parts.Branching.{is_free}
 use Rattle.workers.proofs.branching.first_below.Given as goal
 
 abbrev pub invariant-loop-place : goal.invariant-loop-place

@@ -1,5 +1,5 @@
 use Rattle.std.proofs.Common.{IfSome}
-use Rattle.workers.specs.Branching.{IsOneOf}
+use Rattle.workers.specs.parts.Branching.{IsOneOf}
 use Rattle.workers.proofs.branching.most_active.Given as goal
 
 abbrev pub invariant-loop-variable : goal.invariant-loop-variable

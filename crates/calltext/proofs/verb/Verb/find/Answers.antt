@@ -1,6 +1,7 @@
 use Rattle.std.proofs.Common.{◌≢◌, arith}
 use Rattle.calltext.specs.declared.verb.Verb.{Verb}
-use Rattle.calltext.specs.Verbs.{verb_word, verbs}
+use Rattle.calltext.specs.parts.Verbs.{verbs}
+use Rattle.calltext.specs.Verbs.{verb_word}
 use Rattle.calltext.proofs.Verbs.{of_each}
 use Rattle.calltext.proofs.verb.Verb.find.Goals as goal
 

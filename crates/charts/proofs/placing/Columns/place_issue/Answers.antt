@@ -3,7 +3,7 @@ use Rattle.std.specs.Global.{Vec}
 use Rattle.scene.specs.declared.acts.Act.TheVariants.{Issue}
 use Rattle.charts.specs.declared.placing.Row.{Row}
 use Rattle.charts.specs.Columns.{wait_line}
-use Rattle.charts.specs.Placing.{column_in, row_at, row_behind}
+use Rattle.charts.specs.parts.Placing.{column_in, row_at, row_behind}
 use Rattle.charts.proofs.Placement.{acts_push, issue_placed, same_placed}
 use Rattle.charts.proofs.placing.Columns.place_issue.Goals as goal
 

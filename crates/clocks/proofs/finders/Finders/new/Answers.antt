@@ -1,6 +1,6 @@
 use Rattle.std.proofs.Common.{ℕ, List, ap, length, subst, arith}
-use Rattle.clocks.specs.Clocks.{block_of}
-use Rattle.clocks.specs.Finders.{AreReaches}
+use Rattle.clocks.specs.parts.Clocks.{block_of}
+use Rattle.clocks.specs.parts.Finders.{AreReaches}
 use Rattle.clocks.proofs.Listed.{all_listed, none_listed}
 use Rattle.clocks.proofs.finders.Finders.new.Goals as goal
 

@@ -1,5 +1,5 @@
-use Rattle.clocks.specs.Clocks.{block_of}
-use Rattle.clocks.specs.Finders.{AreListedUpTo}
+use Rattle.clocks.specs.parts.Clocks.{block_of}
+use Rattle.clocks.specs.parts.Finders.{AreListedUpTo}
 use Rattle.clocks.proofs.finders.Finders.new.Given as goal
 
 abbrev pub invariant-loop-call : goal.invariant-loop-call

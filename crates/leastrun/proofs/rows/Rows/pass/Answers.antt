@@ -2,7 +2,7 @@ use Rattle.std.proofs.Common.{◌≡◌, [], refl, sym, ap, subst, ◌∙◌}
 use Rattle.std.specs.Option.{IsSome}
 use Rattle.std.specs.VecDeque.{deque_len}
 use Rattle.std.proofs.lemmas.Bool.{eqb-true}
-use Rattle.leastrun.specs.Queues.{row_of, IsSkipped}
+use Rattle.leastrun.specs.parts.Queues.{row_of, IsSkipped}
 use Rattle.leastrun.proofs.Entries.{nothing}
 use Rattle.leastrun.proofs.Queued.{passed_at}
 use Rattle.leastrun.proofs.rows.Rows.pass.Goals as goal

@@ -2,7 +2,7 @@ use Rattle.std.proofs.Common.{refl, sym, ◌∙◌, ◌≡◌, subst, List, Some
 use Rattle.callorder.specs.declared.calls.Call.{Call}
 use Rattle.callorder.specs.Programs.{call_at}
 use Rattle.leastrun.specs.declared.slot.Form.{Form}
-use Rattle.leastrun.specs.Waiting.{IsFinderIn, IsSendIn}
+use Rattle.leastrun.specs.parts.Waiting.{IsFinderIn, IsSendIn}
 use Rattle.leastrun.proofs.Slotting.{same_at}
 use Rattle.leastrun.proofs.tables.Tables.add.Goals as goal
 

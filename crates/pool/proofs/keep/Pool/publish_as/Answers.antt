@@ -2,7 +2,7 @@ use Rattle.std.proofs.Common.{ℕ, rules, Result, Err, length, arith, ap, sym, s
 use Rattle.clauses.specs.Clauses.{Conjunction}
 use Rattle.encode.specs.Encodings.{EncodedProgram}
 use Rattle.pool.specs.declared.entry.PublishFault.{PublishFault}
-use Rattle.pool.specs.Batches.{IsExtended}
+use Rattle.pool.specs.parts.Batches.{IsExtended}
 use Rattle.pool.specs.Replies.{resolved_lines, DeriveAfter}
 use Rattle.pool.specs.States.{PoolWithHistory, next_number, IsPublished}
 use Rattle.pool.proofs.Renumbered.{some_so}

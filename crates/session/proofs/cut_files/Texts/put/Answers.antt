@@ -1,7 +1,8 @@
 -- The phase that is added has its text, and is a job or not.
 use Rattle.std.proofs.Common.{◌∙◌, ℕ, ◌+◌, ◌<◌, cond, List, [], ◌∷◌, ◌++◌, codes, arith, subst}
 use Rattle.std.specs.Prelude.{string_bytes}
-use Rattle.session.specs.Phasing.{IsPart, files_of, path_in}
+use Rattle.session.specs.parts.Phasing.{files_of}
+use Rattle.session.specs.Phasing.{IsPart, path_in}
 use Rattle.session.proofs.CutTexts.{as_many, few_jobs, one_text}
 use Rattle.session.proofs.cut_files.Texts.put.Goals as goal
 

@@ -3,7 +3,7 @@ use Rattle.std.specs.List.{count_by}
 use Rattle.pool.specs.declared.entry.Entry.{Entry}
 use Rattle.crossbeam_utils.specs.Seq.{cell_view}
 use Rattle.sharedpool.specs.Views.{items_of}
-use Rattle.sharedpool.specs.Seats.{Shared}
+use Rattle.sharedpool.specs.parts.Seats.{Shared}
 use Rattle.sharedpool.proofs.Legal.{counted}
 use Rattle.sharedpool.proofs.locked.Locked.count_of.Goals as goal
 

@@ -1,7 +1,8 @@
 use Rattle.std.proofs.Common.{◌≡◌, ◌<◌, false, true≢false, refl, sym, ap, ◌∙◌}
 use Rattle.crossbeam_utils.specs.Seq.{cell_view}
 use Rattle.pool.specs.States.{leave_item}
-use Rattle.sharedpool.specs.Leaves.{has_left, has_entry, places_after}
+use Rattle.sharedpool.specs.parts.Leaves.{has_entry, places_after}
+use Rattle.sharedpool.specs.Leaves.{has_left}
 use Rattle.sharedpool.specs.Views.{items_of}
 use Rattle.sharedpool.specs.Seats.{Chair, told_leave}
 use Rattle.sharedpool.proofs.Legal.{ready, locked_with, seat_told, mine_as, below_as}

@@ -1,6 +1,7 @@
 use Rattle.std.proofs.Common.{◌∙◌, ap, sym, refl, subst, rules}
 use Rattle.sharedpool.specs.Views.{items_of}
-use Rattle.sharedpool.specs.Seats.{Chair, Shared, IsRefusedOver}
+use Rattle.sharedpool.specs.parts.Seats.{Shared}
+use Rattle.sharedpool.specs.Seats.{Chair, IsRefusedOver}
 use Rattle.sharedpool.proofs.Growth.{refused_call}
 use Rattle.sharedpool.proofs.Told.{derived_behind}
 use Rattle.pool.proofs.Renumbered.{some_so}

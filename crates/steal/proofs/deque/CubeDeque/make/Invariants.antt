@@ -1,6 +1,7 @@
 use Rattle.std.proofs.Common.{◌≡◌, ◌-◌, [], All, length}
 use Rattle.crossbeam_deque.specs.Handles.{view, stealer_deque, worker_deque, worker_flavor, worker_view}
-use Rattle.steal.specs.Hands.{hand, all_parts}
+use Rattle.steal.specs.parts.Hands.{hand}
+use Rattle.steal.specs.Hands.{all_parts}
 use Rattle.steal.proofs.deque.CubeDeque.make.Given as goal
 
 abbrev pub invariant-loop : goal.invariant-loop

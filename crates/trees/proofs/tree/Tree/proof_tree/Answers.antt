@@ -2,7 +2,7 @@ use Rattle.std.proofs.Common.{◌∙◌, subst, sym, IsTrue, List}
 use Rattle.refutations.specs.declared.tree.Node.{Node}
 use Rattle.refutations.specs.Proofs.{is_tree, are_numbered}
 use Rattle.refutations.proofs.Preorders.{trees_pass}
-use Rattle.trees.specs.Preorders.{tree_below}
+use Rattle.trees.specs.parts.Preorders.{tree_below}
 use Rattle.trees.proofs.Written.{root_hangs, numbered_below}
 use Rattle.trees.proofs.tree.Tree.proof_tree.Goals as goal
 

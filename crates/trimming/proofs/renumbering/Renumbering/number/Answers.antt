@@ -1,6 +1,6 @@
 use Rattle.std.proofs.Common.{◌≡◌, ◌+◌, ◌-◌, ap, ◌∙◌, length, min, refl, arith}
 use Rattle.trimming.specs.Needed.{renumber}
-use Rattle.trimming.specs.Marks.{Staying}
+use Rattle.trimming.specs.parts.Marks.{Staying}
 use Rattle.trimming.proofs.Counting.{count_first_most, count_read, length-running, renumber_later}
 use Rattle.trimming.proofs.renumbering.Renumbering.number.Goals as goal
 

@@ -1,6 +1,6 @@
 use Rattle.std.proofs.Common.{◌≢◌}
 use Rattle.waits.specs.declared.cycles.Mark.TheVariants.{New}
-use Rattle.waits.specs.Searches.{mark_at, weight, AreMet, IsSearch}
+use Rattle.waits.specs.parts.Searches.{mark_at, weight, AreMet, IsSearch}
 use Rattle.waits.proofs.cycles.Search.cycle_from.Given as goal
 
 abbrev pub invariant-loop-rank : goal.invariant-loop-rank

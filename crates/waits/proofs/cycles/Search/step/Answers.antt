@@ -1,6 +1,6 @@
 use Rattle.std.proofs.Common.{rules, ◌≡◌, ◌≢◌, ℕ, List, get_or, slice_set, ◌∙◌, ap, arith}
 use Rattle.waits.specs.declared.cycles.Mark.TheVariants.{OnPath, Off}
-use Rattle.waits.specs.Searches.{mark_at}
+use Rattle.waits.specs.parts.Searches.{mark_at}
 use Rattle.waits.proofs.SearchLaws.{last_within, last_weighs, left_keeps, entered_keeps, closes, closes_once, lighter}
 use Rattle.waits.proofs.cycles.Search.step.Goals as goal
 

@@ -1,0 +1,5 @@
+pub mod Body
+pub mod Capped
+pub mod Item
+pub mod Printed
+pub mod Verbs

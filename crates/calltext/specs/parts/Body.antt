@@ -1,0 +1,35 @@
+-- What inner functions promise one another, beside `specs/Body.antt`.
+use Rattle.std.specs.Prelude.{◌≡◌, ℕ, ◌+◌, ◌<◌, ◌≤◌, List, [], ◌∷◌, ◌++◌, length, ⊤}
+use Rattle.std.specs.List.{AllByRecursion}
+use Rattle.plaintext.specs.Plain.{line_of, text_lines}
+use Rattle.calltext.specs.declared.call.CallLine.{CallLine}
+use Rattle.calltext.specs.declared.line.LineFault.{LineFault}
+use Rattle.calltext.specs.declared.line.LineFault.TheVariants as wrong
+use Rattle.calltext.specs.Grammar.{rank_words, rank_lines, CallFits}
+use Rattle.calltext.specs.parts.Item.{IsWrong}
+use Rattle.calltext.specs.declared.limits.Limits.{Limits}
+
+-- The bytes are the rest of a text of so many ranks, which have these call lines.
+pub record HasRanks (l : Limits) (total : ℕ) (bytes : List ℕ) (ranks : List (List CallLine)) : Type 0 where
+  pub cut : line_of (rank_words 0) ∷ text_lines bytes ≡ rank_lines 0 ranks ++ [] ∷ []
+  pub count : length ranks ≡ total
+  pub fit : AllByRecursion (AllByRecursion (CallFits l)) ranks
+
+-- The lines begin as those of these ranks, and then comes a line, of this number, that is wrong
+-- there.
+pub record StopsAt (l : Limits) (fault : LineFault) (number total : ℕ) (bytes : List ℕ) : Type 0 where
+  pub done : List (List CallLine)
+  pub line : List ℕ
+  pub after : List (List ℕ)
+  pub some : 0 < length done
+  pub within : length done ≤ total
+  pub fit : AllByRecursion (AllByRecursion (CallFits l)) done
+  pub cut : line_of (rank_words 0) ∷ text_lines bytes ≡ rank_lines 0 done ++ line ∷ after
+  pub place : number ≡ 3 + length (rank_lines 0 done)
+  pub why : IsWrong l fault (length done) total line
+  pub early : line ≡ [] → length done < total
+
+-- Reading the ranks stopped for this reason: want of memory, or a line that is wrong.
+abbrev pub IsStopped : Limits → LineFault → ℕ → ℕ → List ℕ → Type 0
+IsStopped l wrong.Memory number total bytes = ⊤
+IsStopped l fault number total bytes = StopsAt l fault number total bytes

@@ -1,0 +1,4 @@
+pub mod Clocks
+pub mod Exact
+pub mod Finders
+pub mod Reads

@@ -1,0 +1,48 @@
+-- What is known of one finder, exactly, and what tables know beyond others.
+use Rattle.std.specs.Prelude.{◌≡◌, ℕ, Bool, false, IsTrue, List, Option, Some}
+use Rattle.callorder.specs.Programs.{MpiProgram}
+use Rattle.semantics.specs.Machine.{Configuration}
+use Rattle.races.specs.Tells.{Table, IsJustified}
+use Rattle.knowledge.specs.Knowledge.{column_table}
+use Rattle.clocks.specs.declared.rows.Count.{Count}
+use Rattle.clocks.specs.parts.Clocks.{Numbering, AreTold, with_partners}
+
+-- the column of the finder that was asked for last, by these partners
+pub record Asked : Type 0 where
+  pub partners : List (Option ℕ)
+  pub finder : Option ℕ
+  pub known : List Bool
+
+-- the column is justified alone, and no justified table knows more of the finder
+pub record IsColumn (p : MpiProgram) (e : Configuration) (finder : ℕ) (known : List Bool) : Type 0 where
+  pub justified : IsJustified p e (column_table finder known)
+  pub greatest : (knows : Table) → IsJustified p e knows → (c : ℕ) → IsTrue (knows c finder) → IsTrue (column_table finder known c finder)
+
+-- where a finder was asked for, this is its column
+abbrev pub IsAsked : MpiProgram → Asked → Type 0
+IsAsked p asked = (finder : ℕ) → asked.finder ≡ Some finder → IsColumn p (with_partners asked.partners) finder asked.known
+
+-- a justified table tells that the finder has found where the call is issued
+pub record IsOrdered (p : MpiProgram) (e : Configuration) (c finder : ℕ) : Type 0 where
+  pub knows : Table
+  pub justified : IsJustified p e knows
+  pub tells : IsTrue (knows c finder)
+
+-- no justified table does
+abbrev pub IsUnorderedBy : MpiProgram → Configuration → ℕ → ℕ → Type 0
+IsUnorderedBy p e c finder = (knows : Table) → IsJustified p e knows → knows c finder ≡ false
+
+-- the second table knows what the first one does
+abbrev pub IsWithin : Table → Table → Type 0
+IsWithin knows more = (c f : ℕ) → IsTrue (knows c f) → IsTrue (more c f)
+
+-- a justified table knows what this one does, and shows what is to be shown
+pub record Extends (p : MpiProgram) (e : Configuration) (knows : Table) (Shows : Table → Type 0) : Type 0 where
+  pub more : Table
+  pub within : IsWithin knows more
+  pub justified : IsJustified p e more
+  pub shows : Shows more
+
+-- so from each justified table that tells all that the counts do
+abbrev pub ShowsFrom : MpiProgram → Configuration → Numbering → List Count → (Table → Type 0) → Type 0
+ShowsFrom p e numbering told Shows = (knows : Table) → IsJustified p e knows → AreTold numbering knows told → Extends p e knows Shows

@@ -1,0 +1,4 @@
+pub mod Along
+pub mod Queues
+pub mod Slots
+pub mod Waiting

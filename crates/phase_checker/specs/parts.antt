@@ -1,0 +1,3 @@
+pub mod Early
+pub mod Parts
+pub mod Senders

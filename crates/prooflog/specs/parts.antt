@@ -1,0 +1,2 @@
+pub mod Portions
+pub mod Reading

@@ -1,0 +1,2 @@
+pub mod LineFaults
+pub mod TreeFaults

@@ -1,0 +1,4 @@
+pub mod Leaves
+pub mod Nothing
+pub mod Seats
+pub mod Views

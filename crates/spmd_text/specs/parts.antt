@@ -1,0 +1,9 @@
+pub mod Found
+pub mod Growing
+pub mod Joints
+pub mod Lines
+pub mod Parts
+pub mod Programs
+pub mod Reading
+pub mod Statements
+pub mod Tokens
