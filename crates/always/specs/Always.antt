@@ -4,7 +4,8 @@ use Rattle.std.specs.Prelude.{◌≡◌, ℕ, ◌<◌, ◌≤◌, ◌⊎◌, tru
 use Rattle.callorder.specs.Programs.{MpiProgram, are_fit, are_of_one_rank}
 use Rattle.semantics.specs.declared.state.Step.{Step}
 use Rattle.semantics.specs.declared.state.Step.TheVariants.{Issue}
-use Rattle.semantics.specs.Machine.{Configuration, opening, after_all, partner_of, is_issued, is_matched, is_buffered, is_rank_finished, IsEnabled, IsRun, IsFinishedRun, IsStuckRun}
+use Rattle.semantics.specs.RunEnds.{IsFinishedRun}
+use Rattle.semantics.specs.Machine.{Configuration, opening, after_all, partner_of, is_issued, is_matched, is_buffered, is_rank_finished, IsEnabled, IsRun, IsStuckRun}
 use Rattle.races.specs.Blocks.{Blocks, HasFellow, IsLike}
 use Rattle.races.specs.Tells.{Table}
 use Rattle.races.specs.Races.{MatchesWithin, IsCut}

@@ -4,7 +4,8 @@ use Rattle.std.specs.Prelude.{◌≡◌, ℕ, ◌⊎◌, false, List, ◌++◌}
 use Rattle.calltext.specs.declared.call.Policy.TheVariants.{Any}
 use Rattle.callorder.specs.Programs.{MpiProgram}
 use Rattle.semantics.specs.declared.state.Step.{Step}
-use Rattle.semantics.specs.Machine.{Configuration, opening, after_all, is_rank_finished, IsRun, IsFinishedRun, IsStuckRun}
+use Rattle.semantics.specs.RunEnds.{IsFinishedRun}
+use Rattle.semantics.specs.Machine.{Configuration, opening, after_all, is_rank_finished, IsRun, IsStuckRun}
 use Rattle.run_laws.specs.Laws.{IsInRankOrder}
 use Rattle.races.specs.Races.{StartsAreWaitedFor, BuffersNoneByChoice, NamesSources, IsTheOneWay}
 use Rattle.races.specs.Blocks.{Blocks, AreBlocks, IsSure, HasNoRaceOfBlocks}

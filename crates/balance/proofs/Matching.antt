@@ -15,7 +15,8 @@ use Rattle.callorder.specs.declared.calls.Pattern.{Pattern}
 use Rattle.callorder.specs.Calls.{message_of, pattern_of, fits_between, both_hold, fits, is_probe_kind}
 use Rattle.callorder.specs.Programs.{MpiProgram, call_at, is_of_rank, are_fit, is_probe, kind_holds}
 use Rattle.semantics.specs.declared.state.Step.{Step}
-use Rattle.semantics.specs.Machine.{Configuration, opening, after_all, first_call, IsFinishedRun, is_issued, is_matched, partner_of, has_next, has_returned_before}
+use Rattle.semantics.specs.RunEnds.{IsFinishedRun}
+use Rattle.semantics.specs.Machine.{Configuration, opening, after_all, first_call, is_issued, is_matched, partner_of, has_next, has_returned_before}
 use Rattle.semantics.proofs.MachineLaws.{next_counts_issues}
 use Rattle.run_laws.specs.Laws.{IsInRankOrder}
 use Rattle.races.proofs.Steps.{same_some, partner_from, within_issued}

@@ -4,7 +4,8 @@ use Rattle.std.specs.Prelude.{⊤}
 use Rattle.std.specs.Str.{IsAscii, IsNotAscii}
 use Rattle.std.specs.List.{AllByRecursion}
 use Rattle.std.proofs.lemmas.List.{append-nil, length-append, map_push}
-use Rattle.plaintext.specs.Plain.{line_of, text_lines}
+use Rattle.plaintext.specs.TextLines.{text_lines}
+use Rattle.plaintext.specs.Plain.{line_of}
 use Rattle.plaintext.specs.Fronts.{to_end, BeginsWith}
 use Rattle.plaintext.proofs.Texts.{line_of_injective, text_joined}
 use Rattle.plaintext.proofs.FirstFaults.{heads, closed_begin}
@@ -13,7 +14,8 @@ use Rattle.calltext.specs.declared.call.Policy.{Policy}
 use Rattle.calltext.specs.declared.call.Policy.TheVariants as policies
 use Rattle.calltext.specs.declared.line.LineFault.{LineFault}
 use Rattle.calltext.specs.declared.line.LineFault.TheVariants as wrong
-use Rattle.calltext.specs.Grammar.{ProgramText, call_words, ranks_words, policy_words, rank_words, rank_lines, program_lines, HasNames, AllHaveNames, IsInRange, CallFits, Fits, IsTextWithin, IsReadableWithin}
+use Rattle.calltext.specs.Readable.{AllHaveNames, IsReadableWithin}
+use Rattle.calltext.specs.Grammar.{ProgramText, call_words, ranks_words, policy_words, rank_words, rank_lines, program_lines, HasNames, IsInRange, CallFits, Fits, IsTextWithin}
 use Rattle.calltext.specs.Fault.{HasShape, CanGoOn, IsOutOfProfile, HasFaultWithin}
 use Rattle.calltext.specs.parts.Item.{IsWrong, IsRanksLine, AreRanksWithin, IsPolicyLine, IsFirstRankLine, IsWrongHeading, BeginsWrong}
 use Rattle.calltext.specs.parts.Body.{HasRanks, StopsAt, IsStopped}

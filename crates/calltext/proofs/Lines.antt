@@ -3,7 +3,8 @@ use Rattle.std.proofs.Common.{◌≡◌, ◌≢◌, ℕ, ◌<◌, ◌≤◌, tru
 use Rattle.std.specs.Prelude.{codes, ◌&&◌, nat_le}
 use Rattle.std.specs.List.{AllByRecursion}
 use Rattle.std.proofs.lemmas.List.{append-nil}
-use Rattle.plaintext.specs.Plain.{numeral, line_of, text_lines, IsPlain}
+use Rattle.plaintext.specs.TextLines.{text_lines, IsPlain}
+use Rattle.plaintext.specs.Plain.{numeral, line_of}
 use Rattle.plaintext.proofs.Numerals.{IsPlain-numeral, numeral_injective}
 use Rattle.plaintext.proofs.Cuts.{no_line_of, parts, words_are, line_is, first_part}
 use Rattle.plaintext.proofs.Ascii.{plain_by_test}
@@ -20,7 +21,7 @@ use Rattle.calltext.specs.RefusedWords.{refused_word, refused_words}
 use Rattle.calltext.specs.parts.Capped.{capped_option, capped_call}
 use Rattle.calltext.specs.declared.line.LineFault.{LineFault}
 use Rattle.calltext.specs.declared.line.LineFault.TheVariants as wrong
-use Rattle.calltext.specs.Limits.{AreLimits}
+use Rattle.calltext.specs.WiderLimits.{AreLimits}
 use Rattle.calltext.specs.declared.limits.Limits.{Limits}
 use Rattle.calltext.specs.parts.Item.{IsRefused, IsUnended, BeginsWrong}
 use Rattle.calltext.proofs.Conjunctions.{and_true}

@@ -4,7 +4,8 @@ use Rattle.std.specs.Str.{IsNotAscii}
 use Rattle.std.specs.List.{AllByRecursion}
 use Rattle.std.proofs.lemmas.List.{append-nil}
 use Rattle.std.proofs.lemmas.Str.Parse.{digit_from_value}
-use Rattle.plaintext.specs.Plain.{numeral, line_of, text_lines, IsPlain}
+use Rattle.plaintext.specs.TextLines.{text_lines, IsPlain}
+use Rattle.plaintext.specs.Plain.{numeral, line_of}
 use Rattle.plaintext.specs.Fronts.{to_end}
 use Rattle.plaintext.proofs.Numerals.{numeral_injective, AllDigits-numeral, AllDigits_at, numeral_nonempty}
 use Rattle.plaintext.proofs.FirstFaults.{heads}
@@ -14,7 +15,8 @@ use Rattle.calltext.specs.declared.call.CallLine.{CallLine}
 use Rattle.calltext.specs.declared.call.CallLine.TheVariants.{Send, Receive, MatchedProbe, Probe, MatchedReceive, Wait, WaitAll, SendReceive}
 use Rattle.calltext.specs.declared.verb.Verb.{Verb}
 use Rattle.calltext.specs.declared.verb.Verb.TheVariants as verb
-use Rattle.calltext.specs.Grammar.{ProgramText, or_star, communicator_words, call_words, policy_words, ranks_words, rank_words, rank_lines, program_lines, text_of, HasNames, AllHaveNames, CallFits, Fits}
+use Rattle.calltext.specs.Readable.{AllHaveNames}
+use Rattle.calltext.specs.Grammar.{ProgramText, or_star, communicator_words, call_words, policy_words, ranks_words, rank_words, rank_lines, program_lines, text_of, HasNames, CallFits, Fits}
 use Rattle.calltext.specs.declared.limits.Limits.{Limits}
 use Rattle.calltext.specs.parts.Verbs.{operands, request_words, message_words, pattern_words}
 use Rattle.calltext.specs.Verbs.{is_started, verb_of, verb_word}

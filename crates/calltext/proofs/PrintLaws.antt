@@ -5,7 +5,8 @@ use Rattle.std.proofs.lemmas.Grind.{flat_map-append}
 use Rattle.std.proofs.lemmas.List.Concat.{flat_map-cons}
 use Rattle.std.proofs.lemmas.List.{append-nil, take_more, map_push, length-map, length-take}
 use Rattle.std.specs.Global.{Vec}
-use Rattle.plaintext.specs.Plain.{line_of, spaced}
+use Rattle.plaintext.specs.TextLines.{spaced}
+use Rattle.plaintext.specs.Plain.{line_of}
 use Rattle.plaintext.proofs.Spaced.{spaced-append, spaced-join}
 use Rattle.calltext.specs.declared.call.CallLine.{CallLine}
 use Rattle.calltext.specs.Body.{views}

@@ -11,7 +11,6 @@ use Rattle.calltext.specs.declared.call.Mode.TheVariants.{Standard, Synchronous,
 use Rattle.calltext.specs.declared.call.Policy.{Policy}
 use Rattle.calltext.specs.declared.call.Policy.TheVariants as policies
 use Rattle.calltext.specs.Names.{is_name, AreNames}
-use Rattle.calltext.specs.Limits.{short}
 use Rattle.calltext.specs.declared.limits.Limits.{Limits}
 
 -- What a program's text says: the policy for standard sends, and the call lines of each rank, from
@@ -128,10 +127,6 @@ IsInRange l (SendReceive destination send_tag source receive_tag communicator) =
 abbrev pub CallFits : Limits → CallLine → Type 0
 CallFits l call = HasNames call × IsInRange l call
 
--- Each call's names are names; this is what a program's text with numbers of any size keeps.
-abbrev pub AllHaveNames : ProgramText → Type 0
-AllHaveNames p = AllByRecursion (AllByRecursion HasNames) p.ranks
-
 -- A program is within the limits if it has one rank or more, no more than they allow, and each
 -- call's numbers are in range.
 pub record Fits (l : Limits) (p : ProgramText) : Type 0 where
@@ -145,15 +140,3 @@ pub record IsTextWithin (l : Limits) (bytes : List ℕ) (p : ProgramText) : Type
   pub fits : Fits l p
   pub small : length bytes ≤ l.bytes
   pub text : bytes ≡ text_of p
-
--- The program can be read within the limits: its text is a program's text.
-abbrev pub IsReadableWithin : Limits → ProgramText → Type 0
-IsReadableWithin l p = IsTextWithin l (text_of p) p
-
--- The bytes are the text of the program, which is within the short limits.
-abbrev pub IsText : List ℕ → ProgramText → Type 0
-IsText = IsTextWithin short
-
--- The program can be read within the short limits.
-abbrev pub IsReadable : ProgramText → Type 0
-IsReadable = IsReadableWithin short

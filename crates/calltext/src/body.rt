@@ -1,7 +1,7 @@
 //! The ranks and their calls.
 
 ghost use Rattle.std.specs.Prelude.{◌≡◌, ◌≤◌, IfOk, IfErr, length};
-ghost use Rattle.calltext.specs.Limits.{AreLimits};
+ghost use Rattle.calltext.specs.WiderLimits.{AreLimits};
 ghost use Rattle.calltext.specs.parts.Body.{HasRanks, IsStopped};
 ghost use Rattle.calltext.specs.Body.{views};
 ghost use Rattle.calltext.specs.declared.body.Stopped.{Stopped};

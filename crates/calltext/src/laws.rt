@@ -3,7 +3,7 @@
 //! at most, and never both.
 
 ghost use Rattle.calltext.specs.Fault.{OneFault, OneValue, SameTextWithin, TextHasNoFault};
-ghost use Rattle.calltext.specs.Limits.{ShortIsWithinLong};
+ghost use Rattle.calltext.specs.WiderLimits.{ShortIsWithinLong};
 ghost use Rattle.calltext.specs.Slots.{WordsFillSlots};
 
 /// Bytes are the text of one program at most.

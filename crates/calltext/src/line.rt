@@ -4,7 +4,7 @@ ghost use Rattle.std.specs.Prelude.{◌↔◌, ◌≡◌, ◌≤◌, ◌++◌, �
 ghost use Rattle.calltext.specs.Grammar.{IsInRange, IsCommunicator, UpTo, rank_words};
 ghost use Rattle.calltext.specs.RefusedWords.{refused_word, refused_words};
 ghost use Rattle.calltext.specs.parts.Item.{IsItem, IsWrong};
-ghost use Rattle.calltext.specs.Limits.{AreLimits};
+ghost use Rattle.calltext.specs.WiderLimits.{AreLimits};
 ghost use Rattle.calltext.specs.declared.line.LineFault.TheVariants.{Memory};
 
 use crate::call::CallLine;

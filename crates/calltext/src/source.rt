@@ -1,7 +1,7 @@
 //! A program as it is written.
 
 ghost use Rattle.std.specs.Prelude.{◌≡◌, ◌<◌, length, map, slice_get, Some};
-ghost use Rattle.calltext.specs.Grammar.{IsReadable, IsReadableWithin};
+ghost use Rattle.calltext.specs.Readable.{IsReadable, IsReadableWithin};
 ghost use Rattle.calltext.specs.Limits.{long};
 ghost use Rattle.calltext.specs.Body.{views};
 
@@ -19,7 +19,8 @@ pub struct LongSource {
 
 impl Model for LongSource {
     ghost use Rattle.std.specs.Prelude.{map};
-    ghost use Rattle.calltext.specs.Grammar.{ProgramText, IsReadableWithin};
+    ghost use Rattle.calltext.specs.Readable.{IsReadableWithin};
+    ghost use Rattle.calltext.specs.Grammar.{ProgramText};
     ghost use Rattle.calltext.specs.Limits.{long};
 
     ghost Value = { ProgramText };
@@ -84,7 +85,8 @@ pub struct Source {
 }
 
 impl Model for Source {
-    ghost use Rattle.calltext.specs.Grammar.{ProgramText, IsReadable};
+    ghost use Rattle.calltext.specs.Readable.{IsReadable};
+    ghost use Rattle.calltext.specs.Grammar.{ProgramText};
 
     ghost Value = { ProgramText };
 

@@ -9,7 +9,8 @@ use Rattle.std.proofs.lemmas.List.{get_or-replicate, get_or_past, length-replica
 use Rattle.std.proofs.lemmas.List.Quantifiers.{all_pairs_push}
 use Rattle.calltext.specs.Limits.{long}
 use Rattle.callorder.specs.declared.calls.Call.{Call}
-use Rattle.callorder.specs.Programs.{MpiProgram, IsProgramWithin, call_at, is_of_rank, are_of_one_rank, have_one_rank}
+use Rattle.callorder.specs.ProgramRules.{IsProgramWithin}
+use Rattle.callorder.specs.Programs.{MpiProgram, call_at, is_of_rank, are_of_one_rank, have_one_rank}
 use Rattle.callorder.specs.Calls.{both_hold}
 use Rattle.scene.specs.declared.acts.Act.{Act}
 use Rattle.scene.specs.declared.acts.Act.TheVariants.{Issue, Match, See}

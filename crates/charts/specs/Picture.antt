@@ -13,7 +13,8 @@ use Rattle.callorder.specs.declared.calls.Kind.TheVariants.{Send, Receive, Match
 use Rattle.callorder.specs.Calls.{message_of}
 use Rattle.callorder.specs.Programs.{MpiProgram, call_at}
 use Rattle.semantics.specs.declared.state.Step.{Step}
-use Rattle.semantics.specs.Machine.{Configuration, opening, after_all, is_fetched, is_rank_finished, IsFinished, IsFinishedRun, IsStuckRun}
+use Rattle.semantics.specs.RunEnds.{IsFinished, IsFinishedRun}
+use Rattle.semantics.specs.Machine.{Configuration, opening, after_all, is_fetched, is_rank_finished, IsStuckRun}
 use Rattle.waits.specs.Cycles.{HasEdge}
 use Rattle.waits.specs.Waiting.{WaitsFor}
 use Rattle.scene.specs.declared.acts.Act.{Act}

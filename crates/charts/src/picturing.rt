@@ -4,7 +4,8 @@ ghost use Rattle.std.specs.Prelude.{◌≡◌, ◌+◌, ◌*◌, ◌<◌, ◌≤
 ghost use Rattle.std.specs.List.{flat_map, slice_index_or};
 ghost use Rattle.plaintext.specs.Plain.{numeral};
 ghost use Rattle.scene.specs.Labels.{shortened};
-ghost use Rattle.semantics.specs.Machine.{IsFinished, IsRun, opening};
+ghost use Rattle.semantics.specs.RunEnds.{IsFinished};
+ghost use Rattle.semantics.specs.Machine.{IsRun, opening};
 ghost use Rattle.charts.specs.Chart.{columns};
 ghost use Rattle.charts.specs.Picture.{IsPicture, IsRunToEnd, arc, arc_at, arc_between, arc_title, arrow_of, bar, bend, box, box_head, box_of, by_width, colour_of_call, colour_of_kind, dash_of, drawn_arrow, drawn_box, drawn_find, drawn_find_of, drawn_issue, drawn_issue_of, edge, end_words, escape, find_title, finished, head, hop, is_chosen, is_in, is_left, link_of, mark_of, name, name_colour, picture_at, rank_end, row, row_head, straight, stroke_of, stub, tip_of, title, told_words, top, verb, waiting, waits_in, way, x_of, y_of};
 

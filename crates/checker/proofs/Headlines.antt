@@ -1,6 +1,7 @@
 -- A program that is refuted has no run that ends stuck.
 use Rattle.std.proofs.Common.{◌≡◌, ℕ, List, sym, subst}
-use Rattle.callorder.specs.Programs.{MpiProgram, IsProgram}
+use Rattle.callorder.specs.ProgramRules.{IsProgram}
+use Rattle.callorder.specs.Programs.{MpiProgram}
 use Rattle.callorder.specs.Resolving.{IsTextOf}
 use Rattle.callorder.proofs.FirstFaults.{one_program_of_bytes}
 use Rattle.calltext.specs.Limits.{short}

@@ -1,12 +1,14 @@
 -- Two texts have one verdict, but for want of memory.
 use Rattle.std.proofs.Common.{◌≡◌, ◌≢◌, ℕ, List, [], Result, Ok, Err, refl, sym, ◌∙◌, ap, subst, inl, inr, ◌⊎◌}
-use Rattle.calltext.specs.Grammar.{ProgramText, IsText}
+use Rattle.calltext.specs.Readable.{IsText}
+use Rattle.calltext.specs.Grammar.{ProgramText}
 use Rattle.calltext.specs.Fault.{HasFault}
 use Rattle.calltext.specs.declared.fault.ReadFault.{ReadFault}
 use Rattle.calltext.specs.declared.fault.ReadFault.TheVariants as reading
 use Rattle.calltext.proofs.Exact as texts
 use Rattle.callorder.specs.Programs.{MpiProgram}
-use Rattle.callorder.specs.Resolving.{IsFirstFault, IsTextOf}
+use Rattle.callorder.specs.FirstFaults.{IsFirstFault}
+use Rattle.callorder.specs.Resolving.{IsTextOf}
 use Rattle.callorder.specs.declared.fault.ResolveFault.{ResolveFault}
 use Rattle.callorder.specs.declared.fault.ResolveFault.TheVariants as resolving
 use Rattle.callorder.proofs.FirstFaults.{one_first_fault, one_program_of_bytes, program_text_has_no_fault}

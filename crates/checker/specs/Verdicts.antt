@@ -1,10 +1,12 @@
 -- What a verdict on a program's text and an evidence's text says.
 use Rattle.std.specs.Prelude.{◌≡◌, ◌≢◌, ◌⊎◌, ◌≤◌, ◌<◌, ℕ, Bool, true, false, IsTrue, List, length, Result, Ok, Err}
-use Rattle.calltext.specs.Grammar.{ProgramText, IsText}
+use Rattle.calltext.specs.Readable.{IsText}
+use Rattle.calltext.specs.Grammar.{ProgramText}
 use Rattle.calltext.specs.Fault.{HasFault}
 use Rattle.calltext.specs.declared.fault.ReadFault.TheVariants as reading
 use Rattle.callorder.specs.Programs.{MpiProgram}
-use Rattle.callorder.specs.Resolving.{IsFirstFault, IsTextOf}
+use Rattle.callorder.specs.FirstFaults.{IsFirstFault}
+use Rattle.callorder.specs.Resolving.{IsTextOf}
 use Rattle.callorder.specs.declared.fault.ResolveFault.TheVariants as resolving
 use Rattle.candidates.specs.Pairs.{pairs_of}
 use Rattle.candidates.specs.declared.fault.PairFault.TheVariants as pairing
@@ -14,7 +16,8 @@ use Rattle.formula.specs.Numbering.{formula_of}
 use Rattle.encode.specs.declared.fault.EncodeFault.TheVariants as encoding
 use Rattle.semantics.specs.declared.state.Step.{Step}
 use Rattle.semantics.specs.declared.schedule.End.TheVariants as ends
-use Rattle.semantics.specs.Machine.{IsStuckRun, IsFinishedRun, IsLiveRun, StopsAt}
+use Rattle.semantics.specs.RunEnds.{IsFinishedRun, IsLiveRun, StopsAt}
+use Rattle.semantics.specs.Machine.{IsStuckRun}
 use Rattle.refutations.specs.Refutations.{Accepts, AreDerived, IsFirstFaulty}
 use Rattle.refutations.specs.Trees.{AcceptsTree, HasTreeFault}
 use Rattle.trimming.specs.Needed.{Needed, IsFirstUnneeded}

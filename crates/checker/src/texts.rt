@@ -1,7 +1,7 @@
 //! What the two texts are of, and the schedules among them.
 
 ghost use Rattle.std.specs.Prelude.{◌≡◌, ◌⊎◌, IfOk, IfErr};
-ghost use Rattle.calltext.specs.Grammar.{IsText};
+ghost use Rattle.calltext.specs.Readable.{IsText};
 ghost use Rattle.callorder.specs.Resolving.{IsTextOf};
 ghost use Rattle.semantics.specs.Machine.{IsStuckRun};
 ghost use Rattle.checker.specs.Parts.{IsNoRun};

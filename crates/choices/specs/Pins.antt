@@ -1,7 +1,7 @@
 -- Texts with other words in the place of one line.
 use Rattle.std.specs.Prelude.{◌≡◌, ℕ, ◌+◌, List, [], ◌∷◌, ◌++◌, length}
 use Rattle.std.specs.List.{flat_map}
-use Rattle.plaintext.specs.Plain.{text_lines}
+use Rattle.plaintext.specs.TextLines.{text_lines}
 use Rattle.choices.specs.Words.{line_with}
 use Rattle.narrowing.specs.declared.taken.Taken.{Taken}
 

@@ -5,7 +5,8 @@ use Rattle.std.proofs.lemmas.Option.{slice_get_within}
 use Rattle.calltext.proofs.Conjunctions.{and_both}
 use Rattle.calltext.specs.Limits.{long}
 use Rattle.callorder.specs.declared.calls.Call.{Call}
-use Rattle.callorder.specs.Programs.{MpiProgram, IsProgramWithin, call_at, are_fit, are_of_one_rank}
+use Rattle.callorder.specs.ProgramRules.{IsProgramWithin}
+use Rattle.callorder.specs.Programs.{MpiProgram, call_at, are_fit, are_of_one_rank}
 use Rattle.callorder.specs.Calls.{both_hold, fits}
 use Rattle.semantics.specs.Machine.{Configuration, is_issued, partner_of}
 use Rattle.semantics.proofs.RankOrder.{one_rank_between}

@@ -5,9 +5,11 @@ use Rattle.semantics.proofs.Runs.{IsRun-at}
 use Rattle.std.proofs.lemmas.Bool.{cases_lt, eq-eqb, lt-ltb}
 use Rattle.calltext.specs.Limits.{long}
 use Rattle.callorder.specs.declared.calls.Call.{Call}
-use Rattle.callorder.specs.Programs.{are_of_one_rank, is_of_rank, MpiProgram, are_fit, IsProgramWithin, call_at}
+use Rattle.callorder.specs.ProgramRules.{IsProgramWithin}
+use Rattle.callorder.specs.Programs.{are_of_one_rank, is_of_rank, MpiProgram, are_fit, call_at}
 use Rattle.semantics.specs.declared.state.Step.{Step}
-use Rattle.semantics.specs.Machine.{Configuration, first_call, opening, after_all, partner_of, is_issued, is_rank_finished, has_next, has_returned_before, IsEnabled, IsRun, IsFinishedRun, IsStuckRun}
+use Rattle.semantics.specs.RunEnds.{IsFinishedRun}
+use Rattle.semantics.specs.Machine.{Configuration, first_call, opening, after_all, partner_of, is_issued, is_rank_finished, has_next, has_returned_before, IsEnabled, IsRun, IsStuckRun}
 use Rattle.races.specs.Races.{BuffersNoneByChoice}
 use Rattle.races.specs.Tells.{Table}
 use Rattle.races.specs.Blocks.{Blocks, HasFellow, IsSure}

@@ -1,7 +1,9 @@
 //! The first race of a run.
 
 ghost use Rattle.std.specs.Prelude.{◌≡◌, ◌≤◌, ◌<◌, ℕ, IfOk, IfNone, IfSome, Bool, IsTrue, Option, Some, slice_get, true, false};
-ghost use Rattle.semantics.specs.Machine.{opening, after_all, IsConfigurationOf, IsFinishedRun, partner_of};
+ghost use Rattle.semantics.specs.RunEnds.{IsFinishedRun};
+ghost use Rattle.semantics.specs.Configurations.{IsConfigurationOf};
+ghost use Rattle.semantics.specs.Machine.{opening, after_all, partner_of};
 ghost use Rattle.races.specs.Races.{BuffersNoneByChoice, NamesSources};
 ghost use Rattle.races.specs.Tells.{Table};
 ghost use Rattle.semantics.specs.Headline.{NoStuckRun};

@@ -13,7 +13,8 @@ use Rattle.races.proofs.Steps.{same_some}
 use Rattle.races.specs.Races.{names_source}
 use Rattle.races.specs.Races.{BuffersNoneByChoice}
 use Rattle.races.specs.Tells.{Table, IsJustified}
-use Rattle.semantics.specs.Machine.{Configuration, after_all, opening, partner_of, IsFinishedRun}
+use Rattle.semantics.specs.RunEnds.{IsFinishedRun}
+use Rattle.semantics.specs.Machine.{Configuration, after_all, opening, partner_of}
 use Rattle.semantics.specs.declared.state.Step.{Step}
 use Rattle.clocks.specs.Clocks.{IsRival, IsUnordered}
 use Rattle.clocks.specs.declared.race.Race as rivals

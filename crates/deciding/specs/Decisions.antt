@@ -7,12 +7,14 @@ use Rattle.calltext.specs.Grammar.{ProgramText, IsTextWithin}
 use Rattle.calltext.specs.Limits.{long}
 use Rattle.callorder.specs.Calls.{pattern_of}
 use Rattle.callorder.specs.Programs.{MpiProgram, are_fit, are_of_one_rank, call_at, is_of_rank}
-use Rattle.callorder.specs.Resolving.{IsFirstFaultWithin, IsTextOfWithin}
+use Rattle.callorder.specs.FirstFaults.{IsFirstFaultWithin}
+use Rattle.callorder.specs.Resolving.{IsTextOfWithin}
 use Rattle.callorder.specs.declared.calls.Call.{Call}
 use Rattle.callorder.specs.declared.fault.ResolveFault.{ResolveFault}
 use Rattle.callorder.specs.declared.fault.ResolveFault.TheVariants as resolving
 use Rattle.semantics.specs.Headline.{NoStuckRun, IsNeverStuckWithin, IsStuckRunWithin}
-use Rattle.semantics.specs.Machine.{Configuration, after_all, opening, partner_of, IsFinishedRun, IsStuckRun}
+use Rattle.semantics.specs.RunEnds.{IsFinishedRun}
+use Rattle.semantics.specs.Machine.{Configuration, after_all, opening, partner_of, IsStuckRun}
 use Rattle.semantics.specs.declared.state.Step.{Step}
 use Rattle.races.specs.Races.{names_source, BuffersNoneByChoice}
 use Rattle.races.specs.Tells.{Table, IsJustified}

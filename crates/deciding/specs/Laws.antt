@@ -5,7 +5,8 @@ use Rattle.callorder.specs.Programs.{MpiProgram, are_fit, are_of_one_rank}
 use Rattle.callorder.specs.Resolving.{IsTextOf, IsTextOfWithin}
 use Rattle.semantics.specs.declared.state.Step.{Step}
 use Rattle.semantics.specs.Headline.{IsNeverStuckWithin, IsStuckRunWithin}
-use Rattle.semantics.specs.Machine.{Configuration, after_all, opening, IsFinishedRun, IsStuckRun}
+use Rattle.semantics.specs.RunEnds.{IsFinishedRun}
+use Rattle.semantics.specs.Machine.{Configuration, after_all, opening, IsStuckRun}
 use Rattle.races.specs.Races.{BuffersNoneByChoice, NamesSources}
 use Rattle.races.specs.Tells.{Table, IsJustified, ShowsNoRace}
 use Rattle.deciding.specs.Decisions.{Decides}

@@ -1,7 +1,8 @@
 //! Words of a line, with a space before each.
 
 ghost use Rattle.std.specs.Prelude.{◌≡◌, ◌++◌, ◌∷◌, [], OnOk};
-ghost use Rattle.plaintext.specs.Plain.{numeral, spaced};
+ghost use Rattle.plaintext.specs.TextLines.{spaced};
+ghost use Rattle.plaintext.specs.Plain.{numeral};
 
 use std::alloc::AllocError;
 

@@ -5,10 +5,12 @@ use Rattle.std.proofs.lemmas.Bool.{cases_lt, eq-eqb, ltb-true}
 use Rattle.std.proofs.lemmas.Bool.Decides.{nat_tests}
 use Rattle.calltext.proofs.Conjunctions.{and_true}
 use Rattle.callorder.specs.declared.calls.Call.{Call}
-use Rattle.callorder.specs.Programs.{MpiProgram, IsProgram, call_at, is_of_rank, are_of_one_rank}
+use Rattle.callorder.specs.ProgramRules.{IsProgram}
+use Rattle.callorder.specs.Programs.{MpiProgram, call_at, is_of_rank, are_of_one_rank}
 use Rattle.callorder.specs.Calls.{holds_of}
 use Rattle.semantics.specs.declared.state.Step.{Step}
-use Rattle.semantics.specs.Machine.{Configuration, opening, after_all, IsFinished, IsFinishedRun, is_issued, is_issued_call, has_next, has_returned_before, is_returned}
+use Rattle.semantics.specs.RunEnds.{IsFinished, IsFinishedRun}
+use Rattle.semantics.specs.Machine.{Configuration, opening, after_all, is_issued, is_issued_call, has_next, has_returned_before, is_returned}
 use Rattle.races.proofs.Steps.{before_returned}
 use Rattle.races.proofs.Passing.{kept_run}
 use Rattle.always.specs.Always.{IsEndedRun}

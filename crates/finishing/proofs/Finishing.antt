@@ -9,9 +9,11 @@ use Rattle.callorder.specs.declared.calls.Call.{Call}
 use Rattle.callorder.specs.declared.calls.Kind.{Kind}
 use Rattle.callorder.specs.declared.calls.Kind.TheVariants.{Send, Receive, MatchedProbe, Probe, MatchedReceive, Wait}
 use Rattle.callorder.specs.Calls.{receive_of, pattern_of, is_probe_kind, both_hold, holds_of, fits}
-use Rattle.callorder.specs.Programs.{MpiProgram, IsProgram, call_at, is_of_rank, are_of_one_rank, are_fit, takes, is_probe, kind_holds, have_one_rank}
+use Rattle.callorder.specs.ProgramRules.{IsProgram}
+use Rattle.callorder.specs.Programs.{MpiProgram, call_at, is_of_rank, are_of_one_rank, are_fit, takes, is_probe, kind_holds, have_one_rank}
 use Rattle.candidates.specs.Pairs.{places, takers_of}
-use Rattle.semantics.specs.Machine.{Configuration, IsFinished, is_issued, is_issued_call, is_buffered, is_fetched, is_returned, has_returned_before, fetches, fetches_partner}
+use Rattle.semantics.specs.RunEnds.{IsFinished}
+use Rattle.semantics.specs.Machine.{Configuration, is_issued, is_issued_call, is_buffered, is_fetched, is_returned, has_returned_before, fetches, fetches_partner}
 use Rattle.run_laws.proofs.Descent.{takes_fit}
 use Rattle.formula.specs.declared.facts.Fact.TheVariants.{Issued as issued, Buffered as buffered, Matched as matched}
 use Rattle.formula.specs.declared.facts.Statement.TheVariants.{Holds as is_true}

@@ -3,7 +3,8 @@
 use Rattle.std.proofs.Common.{◌≡◌, ℕ, Bool, true, not, List, [], ◌∷◌, map, length, sym, ap, ◌∙◌, subst, arith}
 use Rattle.std.specs.Prelude.{All}
 use Rattle.std.specs.List.{flat_map}
-use Rattle.callorder.specs.Programs.{MpiProgram, IsProgram}
+use Rattle.callorder.specs.ProgramRules.{IsProgram}
+use Rattle.callorder.specs.Programs.{MpiProgram}
 use Rattle.candidates.specs.Pairs.{places, takers_of}
 use Rattle.semantics.specs.declared.state.Step.{Step}
 use Rattle.clauses.specs.Clauses.{TruthAssignment, satisfies}

@@ -2,10 +2,12 @@
 -- issued, and the last call of each rank has returned.
 use Rattle.std.proofs.Common.{◌≡◌, ℕ, ◌+◌, Bool, true, false, not, ◌||◌, List, [], ◌∷◌, ◌++◌, map, length, refl, sym, ◌∙◌, arith}
 use Rattle.std.specs.List.{list_any}
-use Rattle.callorder.specs.Programs.{MpiProgram, IsProgram, are_of_one_rank}
+use Rattle.callorder.specs.ProgramRules.{IsProgram}
+use Rattle.callorder.specs.Programs.{MpiProgram, are_of_one_rank}
 use Rattle.candidates.specs.Pairs.{places, takers_of}
 use Rattle.semantics.specs.declared.state.Step.{Step}
-use Rattle.semantics.specs.Machine.{opening, after_all, IsRun, IsFinishedRun, is_buffered, is_matched, is_fetched}
+use Rattle.semantics.specs.RunEnds.{IsFinishedRun}
+use Rattle.semantics.specs.Machine.{opening, after_all, IsRun, is_buffered, is_matched, is_fetched}
 use Rattle.run_laws.proofs.Matched.{found_before}
 use Rattle.formula.specs.declared.facts.Fact.TheVariants.{Issued as issued, Buffered as buffered, Matched as matched}
 use Rattle.formula.specs.declared.facts.Statement.TheVariants.{Holds as is_true}

@@ -1,9 +1,11 @@
 -- Where nothing satisfies the formula of the runs that finish, each run gets stuck.
 use Rattle.std.proofs.Common.{◌≡◌, ℕ, zero, suc, ◌<◌, ◌≤◌, ◌⊎◌, inl, inr, true, false, List, [], ◌∷◌, ◌++◌, slice_index, refl, sym, ap, ◌∙◌, subst, arith}
 use Rattle.std.proofs.lemmas.Bool.{cases_eq}
-use Rattle.callorder.specs.Programs.{MpiProgram, IsProgram}
+use Rattle.callorder.specs.ProgramRules.{IsProgram}
+use Rattle.callorder.specs.Programs.{MpiProgram}
 use Rattle.semantics.specs.declared.state.Step.{Step}
-use Rattle.semantics.specs.Machine.{Configuration, opening, after, after_all, IsRun, IsFinished, IsFinishedRun, IsStuckRun, is_rank_finished}
+use Rattle.semantics.specs.RunEnds.{IsFinished, IsFinishedRun}
+use Rattle.semantics.specs.Machine.{Configuration, opening, after, after_all, IsRun, IsStuckRun, is_rank_finished}
 use Rattle.races.proofs.Steps.{is_or_not}
 use Rattle.races.proofs.Passing.{kept_run, part_all}
 use Rattle.races.proofs.Climb.{no_more, finished_too}

@@ -4,7 +4,8 @@ use Rattle.std.specs.List.{filter_map, fold, list_all, position_or_len}
 use Rattle.std.proofs.lemmas.Bool.{and_parts}
 use Rattle.std.proofs.lemmas.List.Sums.{passes_at_first}
 use Rattle.std.proofs.lemmas.Option.{slice_get-get_or}
-use Rattle.callorder.specs.Programs.{MpiProgram, IsProgram}
+use Rattle.callorder.specs.ProgramRules.{IsProgram}
+use Rattle.callorder.specs.Programs.{MpiProgram}
 use Rattle.clauses.specs.Clauses.{Literal}
 use Rattle.formula.specs.declared.facts.Fact.TheVariants.{Unfinished as unfinished}
 use Rattle.formula.specs.declared.facts.Meaning.{Meaning}

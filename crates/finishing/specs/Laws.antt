@@ -1,8 +1,9 @@
 -- What the formula of the runs that finish tells of a program.
 use Rattle.std.specs.Prelude.{◌↔◌, IsTrue, List}
-use Rattle.callorder.specs.Programs.{MpiProgram, IsProgram}
+use Rattle.callorder.specs.ProgramRules.{IsProgram}
+use Rattle.callorder.specs.Programs.{MpiProgram}
 use Rattle.semantics.specs.declared.state.Step.{Step}
-use Rattle.semantics.specs.Machine.{IsFinishedRun}
+use Rattle.semantics.specs.RunEnds.{IsFinishedRun}
 use Rattle.clauses.specs.Clauses.{TruthAssignment, satisfies, IsUnsatisfiable}
 use Rattle.always.specs.Always.{IsEndedRun}
 use Rattle.formula_from_run.specs.Laws.{assignment_of}

@@ -1,7 +1,7 @@
 //! The run that an assignment tells.
 
 ghost use Rattle.std.specs.Prelude.{IfOk, IfSome};
-ghost use Rattle.semantics.specs.Machine.{IsFinishedRun};
+ghost use Rattle.semantics.specs.RunEnds.{IsFinishedRun};
 
 use clauses::Assignment;
 use encode::Encoded;

@@ -6,7 +6,8 @@ use Rattle.std.specs.List.{flat_map, range_with_len}
 use Rattle.std.proofs.lemmas.Bool.{and_parts, ltb-true}
 use Rattle.std.proofs.lemmas.Bool.Decides.{nat_tests}
 use Rattle.std.proofs.lemmas.List.Sums.{passes_at_first}
-use Rattle.callorder.specs.Programs.{MpiProgram, IsProgram}
+use Rattle.callorder.specs.ProgramRules.{IsProgram}
+use Rattle.callorder.specs.Programs.{MpiProgram}
 use Rattle.clauses.specs.Clauses.{TruthAssignment}
 use Rattle.formula.specs.Facts.{Event, issue_of, match_of, Fact, Meaning, fact, clock_bit, before, same_bits, Statement, is_true, is_false, is_earlier, is_same_event}
 use Rattle.formula.specs.parts.Families.{sends_are_buffered_as_allowed, probes_see_messages}

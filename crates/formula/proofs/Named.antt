@@ -15,7 +15,8 @@ use Rattle.callorder.specs.declared.calls.Kind.TheVariants.{Send, Receive, Match
 use Rattle.callorder.specs.declared.calls.Message.{Message}
 use Rattle.callorder.specs.declared.calls.Pattern.{Pattern}
 use Rattle.callorder.specs.Calls.{message_of, pattern_of, fits_between, both_hold, fits}
-use Rattle.callorder.specs.Programs.{is_probe, takes, sees, MpiProgram, call_at, are_of_one_rank, are_fit, IsProgram}
+use Rattle.callorder.specs.ProgramRules.{IsProgram}
+use Rattle.callorder.specs.Programs.{is_probe, takes, sees, MpiProgram, call_at, are_of_one_rank, are_fit}
 use Rattle.candidates.specs.Pairs.{places, takers_of, probes_of, matching_pairs, seeing_pairs}
 use Rattle.nonovertake.specs.Earlier.{earlier_sends, earlier_takers}
 use Rattle.formula.specs.Facts.{Event, issue_of, match_of, Fact, issued, buffered, matched, unfinished, Meaning, fact, Statement, is_true, is_false, is_earlier, is_same_event}

@@ -4,7 +4,8 @@ use Rattle.std.specs.Prelude.{nat_le}
 use Rattle.std.specs.List.{filter_map, flat_map, cons_option, fold, list_all}
 use Rattle.std.proofs.lemmas.Bool.{ltb-true}
 use Rattle.std.proofs.lemmas.Bool.Decides.{nat_tests}
-use Rattle.callorder.specs.Programs.{MpiProgram, IsProgram}
+use Rattle.callorder.specs.ProgramRules.{IsProgram}
+use Rattle.callorder.specs.Programs.{MpiProgram}
 use Rattle.clauses.specs.Clauses.{Literal, is_within}
 use Rattle.formula.specs.Facts.{Meaning, fact, before, Statement, is_true, is_false, is_earlier}
 use Rattle.formula.specs.parts.Families.{sends_are_buffered_as_allowed, probes_see_messages}

@@ -1,7 +1,8 @@
 -- What shows that the definitions of the formula mean what they say.
 use Rattle.std.specs.Prelude.{◌≡◌, ◌≢◌, ℕ, ◌+◌, ◌*◌, ◌<◌, ◌≤◌, ◌^◌, Bool, false, not, nat_lt, IsTrue, List, map, length, Option, Some, None, All, ⊤}
 use Rattle.std.specs.List.{list_any, list_all}
-use Rattle.callorder.specs.Programs.{MpiProgram, IsProgram}
+use Rattle.callorder.specs.ProgramRules.{IsProgram}
+use Rattle.callorder.specs.Programs.{MpiProgram}
 use Rattle.clauses.specs.Clauses.{Literal, TruthAssignment, value_of, holds, are_within, rises, satisfies}
 use Rattle.formula.specs.Facts.{Fact, Meaning, fact, clock_bit, before, same_bits, Statement, is_true, is_false, is_earlier}
 use Rattle.formula.specs.Families.{SymbolicClause, events, event_at, place_of, families}

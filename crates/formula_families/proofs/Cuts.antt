@@ -1,7 +1,7 @@
 -- Parts of a list by their ends.
 use Rattle.std.proofs.Common.{◌≡◌, ℕ, zero, suc, ◌-◌, ◌<◌, ◌≤◌, List, [], ◌∷◌, ◌++◌, length, take, drop, get_or, refl, sym, ap, ◌∙◌, arith}
 use Rattle.std.proofs.lemmas.List.{length-append, length-drop, take-append-le, drop-append-le, drop_at, take_all}
-use Rattle.formula_families.specs.Parts.{parts, start_of, AreEnds}
+use Rattle.formula_families.specs.PackedLists.{parts, start_of, AreEnds}
 
 pub start_first : (ends : List ℕ) (place : ℕ) → place ≡ 0 → 0 ≡ start_of 0 ends place
 start_first ends zero h = refl

@@ -1,7 +1,7 @@
 //! Clauses before their variables are numbered.
 
 ghost use Rattle.std.specs.Prelude.{◌≡◌, ◌<◌, ◌≤◌, ◌-◌, take, drop, ◌++◌, ◌∷◌, [], OnOk, length, get_or};
-ghost use Rattle.formula_families.specs.Parts.{parts, start_of, AreEnds};
+ghost use Rattle.formula_families.specs.PackedLists.{parts, start_of, AreEnds};
 
 use std::alloc::{AllocError, Global};
 use std::marker::Model;
@@ -16,7 +16,7 @@ pub struct Symbolic<Item> {
 
 impl<Item> Model for Symbolic<Item> {
     ghost use Rattle.std.specs.Prelude.{List, length};
-    ghost use Rattle.formula_families.specs.Parts.{parts, AreEnds};
+    ghost use Rattle.formula_families.specs.PackedLists.{parts, AreEnds};
 
     ghost Value = { List (List Item) };
 

@@ -7,7 +7,8 @@ use Rattle.callorder.specs.declared.calls.Call.{Call}
 use Rattle.callorder.specs.declared.calls.Kind.{Kind}
 use Rattle.callorder.specs.declared.calls.Kind.TheVariants.{Send, Receive, MatchedProbe, Probe, MatchedReceive, Wait}
 use Rattle.callorder.specs.Calls.{receive_of, both_hold, holds_of}
-use Rattle.callorder.specs.Programs.{MpiProgram, IsProgram, call_at, are_fit, takes, are_of_one_rank, kind_holds, have_one_rank}
+use Rattle.callorder.specs.ProgramRules.{IsProgram}
+use Rattle.callorder.specs.Programs.{MpiProgram, call_at, are_fit, takes, are_of_one_rank, kind_holds, have_one_rank}
 use Rattle.semantics.specs.declared.state.Step.{Step}
 use Rattle.semantics.specs.Machine.{Configuration, opening, after_all, IsRun, is_issued, is_buffered, is_fetched, partner_of, fetches, fetches_partner, is_returned}
 use Rattle.run_laws.specs.Laws.{IsInRankOrder}

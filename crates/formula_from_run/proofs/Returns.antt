@@ -7,7 +7,8 @@ use Rattle.callorder.specs.declared.calls.Pattern.{Pattern}
 use Rattle.callorder.specs.declared.calls.Kind.{Kind}
 use Rattle.callorder.specs.declared.calls.Kind.TheVariants.{Send, Receive, MatchedProbe, Probe, MatchedReceive, Wait}
 use Rattle.callorder.specs.Calls.{fits_between, message_of, pattern_of, both_hold, fits}
-use Rattle.callorder.specs.Programs.{MpiProgram, IsProgram, call_at, are_fit, kind_holds}
+use Rattle.callorder.specs.ProgramRules.{IsProgram}
+use Rattle.callorder.specs.Programs.{MpiProgram, call_at, are_fit, kind_holds}
 use Rattle.semantics.specs.Machine.{Configuration, is_buffered, is_matched, is_fetched, is_done, is_done_kind, is_returned, is_returned_kind}
 use Rattle.formula.specs.declared.facts.Condition.{Condition}
 use Rattle.formula.specs.declared.facts.Condition.TheVariants.{AtOnce as at_once, IfMatched as if_matched, IfFetched as if_fetched, IfBufferedOrFetched as if_buffered_or_fetched}

@@ -6,7 +6,8 @@ use Rattle.std.proofs.lemmas.Bool.Decides.{nat_tests}
 use Rattle.std.proofs.lemmas.List.{length-replicate}
 use Rattle.std.proofs.lemmas.Option.{same_Some}
 use Rattle.calltext.proofs.Conjunctions.{and_true}
-use Rattle.callorder.specs.Programs.{MpiProgram, IsProgram, are_fit, is_probe, takes, are_of_one_rank}
+use Rattle.callorder.specs.ProgramRules.{IsProgram}
+use Rattle.callorder.specs.Programs.{MpiProgram, are_fit, is_probe, takes, are_of_one_rank}
 use Rattle.candidates.specs.Pairs.{places}
 use Rattle.nonovertake.specs.Earlier.{earlier_sends, earlier_takers}
 use Rattle.semantics.specs.declared.state.Step.{Step}

@@ -3,7 +3,8 @@
 -- or of all that nothing can follow.
 use Rattle.formula.specs.Families as families
 use Rattle.std.specs.Prelude.{ℕ, ◌<◌, ◌≢◌, IsTrue, List, length}
-use Rattle.callorder.specs.Programs.{MpiProgram, IsProgram}
+use Rattle.callorder.specs.ProgramRules.{IsProgram}
+use Rattle.callorder.specs.Programs.{MpiProgram}
 use Rattle.semantics.specs.declared.state.Step.{Step}
 use Rattle.semantics.specs.Machine.{IsStuckRun}
 use Rattle.clauses.specs.Clauses.{TruthAssignment, satisfies, IsUnsatisfiable}

@@ -1,9 +1,11 @@
 -- What a run that buffers all it may tells of all runs.
 use Rattle.std.proofs.Common.{◌≡◌, ℕ, ◌<◌, false, List, sym, subst}
 use Rattle.calltext.specs.Limits.{long}
-use Rattle.callorder.specs.Programs.{MpiProgram, IsProgramWithin}
+use Rattle.callorder.specs.ProgramRules.{IsProgramWithin}
+use Rattle.callorder.specs.Programs.{MpiProgram}
 use Rattle.semantics.specs.declared.state.Step.{Step}
-use Rattle.semantics.specs.Machine.{Configuration, IsConfigurationOf, opening, after_all, is_rank_finished, IsStuckRun}
+use Rattle.semantics.specs.Configurations.{IsConfigurationOf}
+use Rattle.semantics.specs.Machine.{Configuration, opening, after_all, is_rank_finished, IsStuckRun}
 use Rattle.races.specs.Races.{NamesSources}
 use Rattle.races.proofs.Telling.{programs_are_in_order}
 use Rattle.races.proofs.Passing.{kept_run}

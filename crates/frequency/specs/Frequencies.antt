@@ -2,7 +2,8 @@
 use Rattle.std.specs.Prelude.{List, ◌++◌}
 use Rattle.callorder.specs.Programs.{MpiProgram}
 use Rattle.semantics.specs.declared.state.Step.{Step}
-use Rattle.semantics.specs.Machine.{opening, IsRun, IsFinishedRun, IsStuckRun}
+use Rattle.semantics.specs.RunEnds.{IsFinishedRun}
+use Rattle.semantics.specs.Machine.{opening, IsRun, IsStuckRun}
 use Rattle.races.specs.Races.{NamesSources}
 use Rattle.always.specs.Always.{IsEndedRun}
 use Rattle.leastrun.specs.LeastBuffered.{IsLeastBufferedRun, IsMostBufferedRun}

@@ -1,7 +1,8 @@
 //! What the run that buffers as much as the policy allows tells of all runs.
 
 ghost use Rattle.std.specs.Prelude.{◌≡◌, IfNone, IfOk, IfSome};
-ghost use Rattle.semantics.specs.Machine.{opening, after_all, IsFinishedRun};
+ghost use Rattle.semantics.specs.RunEnds.{IsFinishedRun};
+ghost use Rattle.semantics.specs.Machine.{opening, after_all};
 ghost use Rattle.races.specs.Races.{NamesSources};
 ghost use Rattle.leastrun.specs.LeastBuffered.{IsMostBufferedRun};
 ghost use Rattle.frequency.specs.Frequencies.{IsFrequency, LeastSticks};

@@ -2,7 +2,8 @@
 
 ghost use Rattle.std.specs.Prelude.{◌≡◌, ◌++◌, List, ℕ, IfOk, IfSome, OnOk, option_copied};
 ghost use Rattle.std.specs.List.{flat_map};
-ghost use Rattle.semantics.specs.Machine.{IsFinishedRun, IsStuckRun};
+ghost use Rattle.semantics.specs.RunEnds.{IsFinishedRun};
+ghost use Rattle.semantics.specs.Machine.{IsStuckRun};
 ghost use Rattle.htmlpage.specs.Page.{AreTimelines, IsPage, IsWellPart, listing, page_with};
 
 use crate::listing::put_listing;

@@ -2,7 +2,8 @@
 -- most.
 use Rattle.std.proofs.Common.{◌≡◌, ℕ, zero, suc, ◌<◌, Bool, true, false, cond, Option, None, Some, refl, sym, subst, ◌∙◌, arith, inl, inr}
 use Rattle.std.proofs.lemmas.Bool.{cases_eq, cases_lt}
-use Rattle.interning.specs.Places.{last_below, IsLast, LastBelowIsLast}
+use Rattle.interning.specs.LastPlaces.{last_below}
+use Rattle.interning.specs.Places.{IsLast, LastBelowIsLast}
 
 -- what is last below n stays so where n fails the test
 still_last : (test : ℕ → Bool) (n : ℕ) (last : Option ℕ) → test n ≡ false → IsLast test n last → IsLast test (suc n) last

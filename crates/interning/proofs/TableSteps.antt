@@ -4,7 +4,8 @@ use Rattle.std.specs.Prelude.{replicate, slice_set, slice_get}
 use Rattle.std.proofs.lemmas.Bool.{cases_eq, ne_eqb}
 use Rattle.std.proofs.lemmas.List.{get_or-set_same, get_or-set_other, length-set, length-append, length-replicate, get_or-replicate, get_or_append_left, get_or_at}
 use Rattle.std.proofs.lemmas.Option.{slice_get-get_or, slice_get_read, get_or_from_slice_get}
-use Rattle.interning.specs.Places.{AreBelow, last_below, holds, holds_at, last_before, previous_of, IsTable}
+use Rattle.interning.specs.LastPlaces.{last_below, holds}
+use Rattle.interning.specs.Places.{AreBelow, holds_at, last_before, previous_of, IsTable}
 
 -- the table of the last places below this one
 abbrev pub IsLastTable : ℕ → List (Option ℕ) → ℕ → List (Option ℕ) → Type 0

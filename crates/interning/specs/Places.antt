@@ -1,11 +1,7 @@
 -- Things that stand at places, from 0, of a list, and where each stood before. A place may hold
 -- none.
-use Rattle.std.specs.Prelude.{◌≡◌, ◌↔◌, ℕ, zero, suc, ◌<◌, Bool, true, false, ◌==◌, if◌then◌else◌, List, length, Option, Some, None, slice_get, get_or}
-
--- the last place below n that passes the test
-unfoldable pub last_below : (ℕ → Bool) → ℕ → Option ℕ
-last_below test zero = None
-last_below test (suc n) = if test n then Some n else last_below test n
+use Rattle.std.specs.Prelude.{◌≡◌, ◌↔◌, ℕ, ◌<◌, Bool, true, false, List, length, Option, Some, None, slice_get, get_or}
+use Rattle.interning.specs.LastPlaces.{last_below, holds}
 
 -- this is the greatest place below n that passes the test, or none passes
 abbrev pub IsLast : (ℕ → Bool) → ℕ → Option ℕ → Type 0
@@ -15,11 +11,6 @@ IsLast test n (Some p) = (p < n) × (test p ≡ true) × ((q : ℕ) → p < q �
 -- one answer is the last place below n that passes the test: the greatest that passes
 abbrev pub LastBelowIsLast : Type 0
 LastBelowIsLast = (test : ℕ → Bool) (n : ℕ) (last : Option ℕ) → (last_below test n ≡ last) ↔ IsLast test n last
-
--- this one is held
-abbrev pub holds : Option ℕ → ℕ → Bool
-holds None number = false
-holds (Some held) number = held == number
 
 -- the place holds this one
 abbrev pub holds_at : List (Option ℕ) → ℕ → ℕ → Bool

@@ -1,7 +1,8 @@
 //! Where numbers stood before.
 
 ghost use Rattle.std.specs.Prelude.{IfOk, length};
-ghost use Rattle.interning.specs.Places.{AreBelow, IsTable, holds_at, last_below, previous_of};
+ghost use Rattle.interning.specs.LastPlaces.{last_below};
+ghost use Rattle.interning.specs.Places.{AreBelow, IsTable, holds_at, previous_of};
 
 use std::alloc::{AllocError, Global};
 

@@ -1,7 +1,8 @@
 -- A report of tests in JUnit's form.
 use Rattle.std.specs.Prelude.{◌≡◌, ◌==◌, ◌||◌, ◌-◌, ℕ, Bool, true, false, nat_lt, if◌then◌else◌, List, [], ◌∷◌, ◌++◌, codes, length, filter, take}
 use Rattle.std.specs.List.{flat_map}
-use Rattle.plaintext.specs.Plain.{numeral, text_lines}
+use Rattle.plaintext.specs.TextLines.{text_lines}
+use Rattle.plaintext.specs.Plain.{numeral}
 use Rattle.junit.specs.declared.report.Outcome.{Outcome}
 use Rattle.junit.specs.declared.report.Outcome.TheVariants.{Passed, Failed, Broken}
 use Rattle.junit.specs.declared.report.Report.{Report}

@@ -4,7 +4,8 @@ use Rattle.calltext.proofs.Conjunctions.{and_true, and_both}
 use Rattle.callorder.specs.Programs.{MpiProgram, are_fit, is_probe, are_of_one_rank}
 use Rattle.semantics.specs.declared.state.Step.{Step}
 use Rattle.semantics.specs.declared.state.Step.TheVariants.{Issue}
-use Rattle.semantics.specs.Machine.{Configuration, is_issued, is_matched, is_open, CanFind, IsEnabled}
+use Rattle.semantics.specs.Configurations.{is_open}
+use Rattle.semantics.specs.Machine.{Configuration, is_issued, is_matched, CanFind, IsEnabled}
 use Rattle.run_laws.specs.Laws.{IsOpenPair}
 use Rattle.run_laws.specs.Places.{find_step}
 use Rattle.races.proofs.Steps.{not_true, is_or_not, issued_within, within_issued, one_rank, same_some}

@@ -6,7 +6,8 @@ use Rattle.std.proofs.lemmas.Option.{slice_get_within}
 use Rattle.std.proofs.lemmas.Bool.Decides.{nat_tests}
 use Rattle.callorder.specs.declared.calls.Call.{Call}
 use Rattle.callorder.specs.Programs.{MpiProgram, call_at, are_fit}
-use Rattle.semantics.specs.Machine.{Configuration, is_open}
+use Rattle.semantics.specs.Configurations.{is_open}
+use Rattle.semantics.specs.Machine.{Configuration}
 use Rattle.races.proofs.Steps.{is_or_not, same_some, one_rank_back}
 use Rattle.leastrun.specs.declared.slot.Form.{Form}
 use Rattle.leastrun.specs.declared.rows.Rows.{Rows}

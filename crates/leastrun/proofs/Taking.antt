@@ -7,7 +7,8 @@ use Rattle.callorder.specs.Programs.{MpiProgram, call_at, are_of_one_rank}
 use Rattle.callorder.specs.Calls.{holds_of}
 use Rattle.semantics.specs.declared.state.Step.{Step}
 use Rattle.semantics.specs.declared.state.Step.TheVariants.{Issue, Match, See}
-use Rattle.semantics.specs.Machine.{Configuration, after, is_issued, is_issued_call, is_matched, is_open}
+use Rattle.semantics.specs.Configurations.{is_open}
+use Rattle.semantics.specs.Machine.{Configuration, after, is_issued, is_issued_call, is_matched}
 use Rattle.semantics.proofs.Lengths.{Issues, issues, issued_grows, matched_grows}
 use Rattle.races.proofs.Steps.{is_or_not, next_is, now_issued, issued_within, one_rank, same_some}
 use Rattle.races.proofs.Passing.{issued_call_before}

@@ -4,8 +4,10 @@ use Rattle.std.proofs.lemmas.Bool.{cases_eq}
 use Rattle.std.proofs.lemmas.Option.{slice_get_within}
 use Rattle.calltext.specs.Limits.{long}
 use Rattle.callorder.specs.declared.calls.Call.{Call}
-use Rattle.callorder.specs.Programs.{MpiProgram, IsProgramWithin, call_at}
-use Rattle.semantics.specs.Machine.{Configuration, opening, is_issued, is_issued_call, is_open}
+use Rattle.callorder.specs.ProgramRules.{IsProgramWithin}
+use Rattle.callorder.specs.Programs.{MpiProgram, call_at}
+use Rattle.semantics.specs.Configurations.{is_open}
+use Rattle.semantics.specs.Machine.{Configuration, opening, is_issued, is_issued_call}
 use Rattle.callorder.proofs.Lookups.{slice_get_of_append}
 use Rattle.callorder.specs.Calls.{holds_of, fits}
 use Rattle.races.proofs.Passing.{none_issued}

@@ -1,7 +1,8 @@
 //! The runs that buffer as little and as much as the policy allows.
 
 ghost use Rattle.std.specs.Prelude.{◌≡◌, ℕ, [], IfSome, IfNone, IfOk, OnOk, None, Option};
-ghost use Rattle.semantics.specs.Machine.{IsConfigurationOf, opening, after_all};
+ghost use Rattle.semantics.specs.Configurations.{IsConfigurationOf};
+ghost use Rattle.semantics.specs.Machine.{opening, after_all};
 ghost use Rattle.leastrun.specs.parts.Along.{IsReached};
 ghost use Rattle.leastrun.specs.parts.Waiting.{IsKept, NoOpenPair, IsFresh, fresh_after, IsSettled, IsNext, NoIssueOf};
 ghost use Rattle.leastrun.specs.LeastBuffered.{BuffersSo, NothingEnabled, IsLeastBufferedRun, IsMostBufferedRun, IsBufferedRun};

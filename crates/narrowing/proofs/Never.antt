@@ -7,7 +7,8 @@ use Rattle.std.proofs.lemmas.List.Elements.{All-contains}
 use Rattle.callorder.specs.declared.calls.Call.{Call}
 use Rattle.callorder.specs.declared.calls.Message.{Message}
 use Rattle.callorder.specs.Calls.{message_of, pattern_of, fits_between, both_hold, fits}
-use Rattle.callorder.specs.Programs.{MpiProgram, IsProgram, call_at, are_fit}
+use Rattle.callorder.specs.ProgramRules.{IsProgram}
+use Rattle.callorder.specs.Programs.{MpiProgram, call_at, are_fit}
 use Rattle.semantics.specs.declared.state.Step.{Step}
 use Rattle.semantics.specs.Machine.{IsStuckRun, opening, after_all, is_issued, is_buffered, is_matched, partner_of}
 use Rattle.formula_from_run.proofs.Pairings.{received, take_all}

@@ -16,7 +16,8 @@ use Rattle.callorder.specs.declared.calls.Kind.{Kind}
 use Rattle.callorder.specs.declared.calls.Kind.TheVariants.{Send, Receive, MatchedProbe, Probe, MatchedReceive, Wait}
 use Rattle.callorder.specs.declared.calls.Message.{Message}
 use Rattle.callorder.specs.Calls.{message_of, pattern_of, operation_of, is_probe_kind, fits_between, both_hold, holds_of, fits}
-use Rattle.callorder.specs.Programs.{MpiProgram, IsProgram, call_at, is_of_rank, are_fit, is_probe, takes, kind_holds}
+use Rattle.callorder.specs.ProgramRules.{IsProgram}
+use Rattle.callorder.specs.Programs.{MpiProgram, call_at, is_of_rank, are_fit, is_probe, takes, kind_holds}
 use Rattle.semantics.specs.declared.state.Step.{Step}
 use Rattle.semantics.specs.declared.state.Step.TheVariants.{Issue, Match, See}
 use Rattle.semantics.specs.Machine.{Configuration, CanFind, IsEnabled, IsRun, IsStuck, IsStuckRun, opening, after, after_all, is_issued, is_issued_call, is_matched, is_buffered, partner_of, fetches, fetches_partner, is_fetched, is_done, is_done_kind, is_returned, is_returned_kind, has_returned_before, may_be, can_issue, can_issue_next, can_issue_call, is_rank_finished}

@@ -4,7 +4,8 @@ use Rattle.calltext.specs.declared.call.Policy.TheVariants.{Any}
 use Rattle.calltext.specs.declared.call.Mode.TheVariants.{Standard}
 use Rattle.callorder.specs.declared.calls.Kind.TheVariants.{Send}
 use Rattle.callorder.specs.declared.calls.Message.{Message}
-use Rattle.callorder.specs.Programs.{MpiProgram, IsProgram, call_at}
+use Rattle.callorder.specs.ProgramRules.{IsProgram}
+use Rattle.callorder.specs.Programs.{MpiProgram, call_at}
 use Rattle.semantics.specs.Machine.{Configuration, IsStuckRun, opening, after_all, is_issued, is_buffered, partner_of}
 use Rattle.semantics.specs.declared.state.Step.{Step}
 use Rattle.narrowing.specs.Narrowed.{IsNarrowed}

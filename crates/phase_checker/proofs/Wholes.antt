@@ -6,13 +6,14 @@ use Rattle.std.proofs.lemmas.Option.{same_Some}
 use Rattle.calltext.specs.Limits.{long, short}
 use Rattle.callorder.specs.declared.calls.Call.{Call}
 use Rattle.callorder.specs.Calls.{message_of}
-use Rattle.callorder.specs.Programs.{MpiProgram, IsProgramWithin, call_at}
+use Rattle.callorder.specs.ProgramRules.{IsProgramWithin}
+use Rattle.callorder.specs.Programs.{MpiProgram, call_at}
 use Rattle.callorder.specs.Resolving.{IsTextOfWithin}
 use Rattle.callorder.proofs.FirstFaults.{same_program_within}
 use Rattle.callorder.proofs.ProgramsMade.{expansion_is_program}
 use Rattle.semantics.specs.Headline.{NoStuckRun}
 use Rattle.semantics.specs.Machine.{first_call}
-use Rattle.phases.specs.Parts.{IsFrom, IsPart, IsWellFormed, moved_call}
+use Rattle.phases.specs.CallPlaces.{IsFrom, IsPart, IsWellFormed, moved_call}
 use Rattle.phases.specs.Rests.{behind}
 use Rattle.phases.proofs.ManyPhases.{programs_are_well_formed}
 use Rattle.phases.proofs.Joined.{joined_is_cut}

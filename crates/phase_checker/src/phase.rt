@@ -2,7 +2,7 @@
 
 ghost use Rattle.std.specs.Prelude.{◌≡◌, ◌↔◌, true};
 ghost use Rattle.calltext.specs.Limits.{long};
-ghost use Rattle.callorder.specs.Programs.{IsProgramWithin};
+ghost use Rattle.callorder.specs.ProgramRules.{IsProgramWithin};
 ghost use Rattle.semantics.specs.Headline.{NoStuckRun};
 ghost use Rattle.races.specs.Races.{NamesSources};
 ghost use Rattle.phases.specs.Conditions.{LeavesNothing};

@@ -16,7 +16,7 @@ use Rattle.semantics.specs.Machine.{Configuration, first_call, opening, after, a
 use Rattle.semantics.proofs.Runs.{after_all-push, IsRun-push}
 use Rattle.semantics.specs.Headline.{NoStuckRun}
 use Rattle.races.specs.Races.{names_source}
-use Rattle.phases.specs.Parts.{IsPart, IsFrom, IsWellFormed, moved_kind, moved_call}
+use Rattle.phases.specs.CallPlaces.{IsPart, IsFrom, IsWellFormed, moved_kind, moved_call}
 use Rattle.phases.specs.Cuts.{Cut, IsCut, IsClean, StayInParts, StaysInPart, AreOfOnePart}
 use Rattle.phases.specs.Conditions.{IsBalanced, HasFinder, IsOfOnlySender, ComesAfter, is_send_to, is_taker_at, goes_to}
 use Rattle.phases.specs.Order.{IsFinder, Needs}

@@ -15,7 +15,8 @@ use Rattle.callorder.specs.Calls.{message_of, pattern_of, is_probe_kind, fits_be
 use Rattle.callorder.specs.Programs.{MpiProgram, call_at, are_fit, kind_holds}
 use Rattle.semantics.specs.declared.state.Step.{Step}
 use Rattle.semantics.specs.declared.state.Step.TheVariants.{Issue, Match, See}
-use Rattle.semantics.specs.Machine.{Configuration, IsConfigurationOf, opening, after, after_all, CanFind, IsEnabled, IsRun, is_matched}
+use Rattle.semantics.specs.Configurations.{IsConfigurationOf}
+use Rattle.semantics.specs.Machine.{Configuration, opening, after, after_all, CanFind, IsEnabled, IsRun, is_matched}
 use Rattle.semantics.proofs.Lengths.{matched_is, some_set}
 use Rattle.semantics.proofs.Runs.{IsConfigurationOf-opening}
 use Rattle.phases.specs.Conditions.{goes_to, is_send_to, finds_on, is_taker_at}

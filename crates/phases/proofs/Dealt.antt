@@ -10,7 +10,7 @@ use Rattle.callorder.specs.declared.calls.Kind.{Kind}
 use Rattle.callorder.specs.declared.calls.Kind.TheVariants.{MatchedProbe, Wait}
 use Rattle.callorder.specs.Programs.{MpiProgram, call_at, is_of_rank}
 use Rattle.semantics.specs.Machine.{first_call}
-use Rattle.phases.specs.Parts.{IsWellFormed, moved_kind, moved_call}
+use Rattle.phases.specs.CallPlaces.{IsWellFormed, moved_kind, moved_call}
 use Rattle.phases.specs.parts.Moves.{IsMovedOn, StandFirst, StandsAt}
 use Rattle.phases.specs.Rests.{IsFront, IsRest, behind, calls_by, lowered_kind}
 use Rattle.phases.proofs.Clean.{both_ways}

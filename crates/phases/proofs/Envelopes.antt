@@ -15,7 +15,7 @@ use Rattle.semantics.specs.declared.state.Step.{Step}
 use Rattle.semantics.specs.declared.state.Step.TheVariants.{Issue, Match, See}
 use Rattle.semantics.specs.Machine.{Configuration, opening, after, after_all, CanFind, IsEnabled, IsRun, is_issued, is_issued_call, is_matched}
 use Rattle.semantics.proofs.Lengths.{matched_grows, issued_grows}
-use Rattle.phases.specs.Parts.{IsWellFormed}
+use Rattle.phases.specs.CallPlaces.{IsWellFormed}
 use Rattle.phases.specs.Conditions.{ComesAfter}
 use Rattle.phases.specs.Order.{Envelope, is_addressed, sends_with, is_number, is_named, takes_with, IsExact, AreCounterparts, StandsBehind}
 use Rattle.phases.specs.Laws.{CounterpartsComeFirst, MessagesOrder, OrderedIsTimely}

@@ -7,7 +7,7 @@ use Rattle.std.proofs.lemmas.List.Sums.{sum_by-cons}
 use Rattle.callorder.specs.declared.calls.Call.{Call}
 use Rattle.callorder.specs.Programs.{MpiProgram, call_at, is_of_rank}
 use Rattle.semantics.specs.Machine.{first_call}
-use Rattle.phases.specs.Parts.{IsFrom, IsWellFormed}
+use Rattle.phases.specs.CallPlaces.{IsFrom, IsWellFormed}
 use Rattle.phases.specs.Cuts.{Cut, IsCut}
 use Rattle.phases.specs.Joining.{IsJoined, cut_between}
 use Rattle.phases.specs.Laws.{JoinedIsCut}

@@ -12,9 +12,10 @@ use Rattle.callorder.specs.declared.calls.Kind.TheVariants.{Wait}
 use Rattle.callorder.specs.declared.calls.Message.{Message}
 use Rattle.callorder.specs.declared.calls.Pattern.{Pattern}
 use Rattle.callorder.specs.Calls.{operation_of, is_start, receive_of, is_matched_receive}
-use Rattle.callorder.specs.Programs.{MpiProgram, HasRanksBelow, IsPairing, call_at}
+use Rattle.callorder.specs.ProgramRules.{HasRanksBelow, IsPairing}
+use Rattle.callorder.specs.Programs.{MpiProgram, call_at}
 use Rattle.semantics.specs.Machine.{first_call}
-use Rattle.phases.specs.Parts.{IsFrom, IsPart, IsWellFormed, moved_kind, moved_call}
+use Rattle.phases.specs.CallPlaces.{IsFrom, IsPart, IsWellFormed, moved_kind, moved_call}
 use Rattle.phases.specs.Cuts.{IsCut}
 use Rattle.phases.specs.Joining.{IsJoined, cut_between, put, merge, join}
 use Rattle.phases.specs.Laws.{JoinIsJoined}

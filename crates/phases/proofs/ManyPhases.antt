@@ -2,7 +2,7 @@
 use Rattle.std.proofs.Common.{◌≡◌, List, [], ◌∷◌, ◌∙◌, refl}
 use Rattle.callorder.specs.Programs.{MpiProgram}
 use Rattle.semantics.specs.Headline.{NoStuckRun}
-use Rattle.phases.specs.Parts.{IsWellFormed}
+use Rattle.phases.specs.CallPlaces.{IsWellFormed}
 use Rattle.phases.specs.Cuts.{IsCut}
 use Rattle.phases.specs.Joining.{join, join_all, cut_between}
 use Rattle.phases.specs.Laws.{ProgramsAreWellFormed, LeavesNothingIsBalanced, ArePhases, FollowsInTime, IsNamedBefore, IsOrderedBefore, TimelyPhasesAreNeverStuck, NamedPhasesAreNeverStuck, OrderedPhasesAreNeverStuck}

@@ -17,10 +17,11 @@ use Rattle.callorder.specs.Programs.{MpiProgram, call_at, is_of_rank, are_of_one
 use Rattle.semantics.specs.declared.state.Step.{Step}
 use Rattle.semantics.specs.declared.state.Step.TheVariants.{Issue, Match, See}
 use Rattle.callorder.proofs.Lookups.{slice_get-none_past}
-use Rattle.semantics.specs.Machine.{Configuration, IsConfigurationOf, after, CanFind, is_issued, is_matched, is_buffered, is_fetched, is_done, is_done_kind, is_returned, is_returned_kind, fetches, fetches_partner, has_returned_before, may_be, can_issue, can_issue_next, can_issue_call}
+use Rattle.semantics.specs.Configurations.{IsConfigurationOf}
+use Rattle.semantics.specs.Machine.{Configuration, after, CanFind, is_issued, is_matched, is_buffered, is_fetched, is_done, is_done_kind, is_returned, is_returned_kind, fetches, fetches_partner, has_returned_before, may_be, can_issue, can_issue_next, can_issue_call}
 use Rattle.semantics.proofs.Lengths.{matched_is}
 use Rattle.run_laws.specs.Laws.{IsOpenPair}
-use Rattle.phases.specs.Parts.{IsPart, IsFrom, IsWellFormed, moved_kind, moved_call}
+use Rattle.phases.specs.CallPlaces.{IsPart, IsFrom, IsWellFormed, moved_kind, moved_call}
 
 -- ---- calls of a rank
 

@@ -10,10 +10,11 @@ use Rattle.callorder.specs.declared.calls.Kind.TheVariants.{MatchedProbe, Wait}
 use Rattle.callorder.specs.declared.calls.Message.{Message}
 use Rattle.callorder.specs.declared.calls.Pattern.{Pattern}
 use Rattle.callorder.specs.Calls.{operation_of, is_start, receive_of, is_matched_receive}
-use Rattle.callorder.specs.Programs.{MpiProgram, HasRanksBelow, IsPairing, call_at, is_of_rank}
+use Rattle.callorder.specs.ProgramRules.{HasRanksBelow, IsPairing}
+use Rattle.callorder.specs.Programs.{MpiProgram, call_at, is_of_rank}
 use Rattle.semantics.specs.Machine.{first_call, opening, after_all, is_rank_finished, has_next, has_returned_before}
 use Rattle.semantics.specs.Headline.{NoStuckRun}
-use Rattle.phases.specs.Parts.{IsWellFormed, moved_kind, moved_call}
+use Rattle.phases.specs.CallPlaces.{IsWellFormed, moved_kind, moved_call}
 use Rattle.phases.specs.Joining.{IsJoined, cut_between}
 use Rattle.phases.specs.Rests.{IsFront, behind, drop_front, lowered_kind, lowered_call}
 use Rattle.phases.specs.Laws.{FrontIsJoined, OnePhaseMore, LastPhase}

@@ -18,7 +18,7 @@ use Rattle.semantics.specs.declared.state.Step.{Step}
 use Rattle.semantics.specs.declared.state.Step.TheVariants.{Issue, Match, See}
 use Rattle.semantics.specs.Machine.{Configuration, first_call, opening, after, after_all, IsEnabled, IsRun, is_matched, is_done, is_done_kind, is_returned, is_returned_kind, is_rank_finished, has_next, has_returned_before}
 use Rattle.semantics.proofs.Lengths.{matched_grows, matched_is, runs_are_short}
-use Rattle.phases.specs.Parts.{IsWellFormed}
+use Rattle.phases.specs.CallPlaces.{IsWellFormed}
 use Rattle.phases.specs.Order.{IsFinder, Needs}
 use Rattle.phases.proofs.Parts.{rank_is, before_to, IssueParts, issue_parts, of_rank_between}
 

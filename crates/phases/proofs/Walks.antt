@@ -10,11 +10,12 @@ use Rattle.callorder.specs.Programs.{MpiProgram, call_at, is_of_rank}
 use Rattle.callorder.specs.Calls.{holds_of}
 use Rattle.semantics.specs.declared.state.Step.{Step}
 use Rattle.semantics.specs.declared.state.Step.TheVariants.{Issue, Match, See}
-use Rattle.semantics.specs.Machine.{Configuration, IsConfigurationOf, first_call, opening, after, after_all, CanFind, CanMatch, CanSee, IsEnabled, IsRun, IsStuck, is_issued_call, is_rank_finished, has_next, has_returned_before, is_returned, can_issue}
+use Rattle.semantics.specs.Configurations.{IsConfigurationOf}
+use Rattle.semantics.specs.Machine.{Configuration, first_call, opening, after, after_all, CanFind, CanMatch, CanSee, IsEnabled, IsRun, IsStuck, is_issued_call, is_rank_finished, has_next, has_returned_before, is_returned, can_issue}
 use Rattle.semantics.proofs.Runs.{IsConfigurationOf-opening}
 use Rattle.run_laws.specs.Laws.{IsOpenPair}
 use Rattle.run_laws.proofs.Descent.{some_match_or_see_is_enabled}
-use Rattle.phases.specs.Parts.{IsFrom, IsWellFormed, moved_call}
+use Rattle.phases.specs.CallPlaces.{IsFrom, IsWellFormed, moved_call}
 use Rattle.phases.specs.Cuts.{Cut, IsCut, StayInParts, StaysInPart, AreOfOnePart}
 use Rattle.phases.specs.Laws.{WholeIsNeverStuck}
 use Rattle.phases.proofs.Parts.{of_rank, rank_is, before_to, before_from, IssueParts, issue_parts, issue_made, SamePartner, IsSeen, set_in_both, probe_moved, one_place, same_place, match_written, see_written, before_in_part, find_in_part, open_in_whole, fit_calls_there, of_rank_between, configuration_after, from_rank, may_in_part, may_in_whole, returned_from}

@@ -8,7 +8,7 @@ use Rattle.callorder.specs.Calls.{message_of, pattern_of, is_probe_kind}
 use Rattle.callorder.specs.Programs.{MpiProgram, call_at, are_fit}
 use Rattle.semantics.specs.declared.state.Step.{Step}
 use Rattle.semantics.specs.Machine.{opening, after_all, IsRun, is_issued, is_matched}
-use Rattle.phases.specs.Parts.{IsFrom}
+use Rattle.phases.specs.CallPlaces.{IsFrom}
 use Rattle.phases.specs.Cuts.{Cut}
 
 -- ---- what is left

@@ -6,7 +6,7 @@ use Rattle.callorder.specs.Programs.{MpiProgram, call_at, is_of_rank}
 use Rattle.semantics.specs.declared.state.Step.{Step}
 use Rattle.semantics.specs.declared.state.Step.TheVariants.{Issue, Match, See}
 use Rattle.semantics.specs.Machine.{first_call, opening, IsRun}
-use Rattle.phases.specs.Parts.{IsPart, IsFrom}
+use Rattle.phases.specs.CallPlaces.{IsPart, IsFrom}
 
 -- The two parts, and where the calls of each rank stand in the whole: those of the first part from
 -- the rank's first call to its bound, and those of the second part from there on.

@@ -3,7 +3,7 @@ use Rattle.std.specs.Prelude.{◌≡◌, ℕ, ◌+◌, nat_lt, if◌then◌else�
 use Rattle.callorder.specs.declared.calls.Call.{Call}
 use Rattle.callorder.specs.Programs.{MpiProgram, call_at}
 use Rattle.semantics.specs.Machine.{first_call}
-use Rattle.phases.specs.Parts.{moved_call}
+use Rattle.phases.specs.CallPlaces.{moved_call}
 use Rattle.phases.specs.Cuts.{Cut}
 
 -- the call, put before the first of the list that isn't of a lower rank, with what comes of the

@@ -1,12 +1,13 @@
 -- Laws of cuts, and of programs of many phases.
 use Rattle.std.specs.Prelude.{◌≡◌, ℕ, IsTrue, List, [], ◌∷◌}
 use Rattle.calltext.specs.declared.limits.Limits.{Limits}
-use Rattle.callorder.specs.Programs.{MpiProgram, IsProgramWithin}
+use Rattle.callorder.specs.ProgramRules.{IsProgramWithin}
+use Rattle.callorder.specs.Programs.{MpiProgram}
 use Rattle.semantics.specs.declared.state.Step.{Step}
 use Rattle.semantics.specs.Headline.{NoStuckRun}
 use Rattle.semantics.specs.Machine.{IsRun, opening, after_all, is_issued, is_matched}
 use Rattle.races.specs.Races.{NamesSources}
-use Rattle.phases.specs.Parts.{IsWellFormed}
+use Rattle.phases.specs.CallPlaces.{IsWellFormed}
 use Rattle.phases.specs.Cuts.{Cut, IsCut, IsClean}
 use Rattle.phases.specs.Joining.{join, join_all, IsJoined, cut_between}
 use Rattle.phases.specs.Conditions.{ComesAfter, IsBalanced, IsTimely, LeavesNothing}

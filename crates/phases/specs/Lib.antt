@@ -1,4 +1,4 @@
-pub mod Parts
+pub mod CallPlaces
 pub mod Cuts
 pub mod Joining
 pub mod Conditions

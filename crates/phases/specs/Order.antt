@@ -8,7 +8,7 @@ use Rattle.callorder.specs.declared.calls.Message.{Message}
 use Rattle.callorder.specs.declared.calls.Pattern.{Pattern}
 use Rattle.callorder.specs.Calls.{message_of, pattern_of, is_probe_kind}
 use Rattle.callorder.specs.Programs.{MpiProgram, call_at, are_of_one_rank, are_fit}
-use Rattle.phases.specs.Parts.{IsFrom}
+use Rattle.phases.specs.CallPlaces.{IsFrom}
 use Rattle.phases.specs.Cuts.{Cut}
 use Rattle.phases.specs.Conditions.{IsOfOnlySender}
 

@@ -6,7 +6,7 @@ use Rattle.callorder.specs.declared.calls.Kind.{Kind}
 use Rattle.callorder.specs.Calls.{map_link}
 use Rattle.callorder.specs.Programs.{MpiProgram}
 use Rattle.semantics.specs.Machine.{first_call}
-use Rattle.phases.specs.Parts.{IsPart, IsWellFormed}
+use Rattle.phases.specs.CallPlaces.{IsPart, IsWellFormed}
 
 -- ---- in front, and behind
 

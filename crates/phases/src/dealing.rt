@@ -2,9 +2,10 @@
 
 ghost use Rattle.std.specs.Prelude.{◌≡◌, ◌↔◌, ◌+◌, ◌-◌, ◌≤◌, ◌<◌, true, false, ℕ, [], IfOk, length, get_or, slice_get, take, Some};
 ghost use Rattle.calltext.specs.Limits.{long};
-ghost use Rattle.callorder.specs.Programs.{MpiProgram, IsProgramWithin};
+ghost use Rattle.callorder.specs.ProgramRules.{IsProgramWithin};
+ghost use Rattle.callorder.specs.Programs.{MpiProgram};
 ghost use Rattle.semantics.specs.Machine.{first_call};
-ghost use Rattle.phases.specs.Parts.{moved_kind, moved_call};
+ghost use Rattle.phases.specs.CallPlaces.{moved_kind, moved_call};
 ghost use Rattle.phases.specs.Rests.{calls_by, behind, IsFront, IsRest};
 ghost use Rattle.phases.specs.parts.Moves.{IsMovedOn, StandsAt, StandFirst};
 

@@ -3,7 +3,8 @@
 -- language. No parser is needed to say so.
 use Rattle.std.specs.Prelude.{◌≡◌, ℕ, Bool, true, List, [], ◌∷◌, ◌++◌, map}
 use Rattle.std.specs.List.{AllByRecursion, flat_map}
-use Rattle.plaintext.specs.Plain.{IsPlain, line_of, text_lines}
+use Rattle.plaintext.specs.TextLines.{IsPlain, text_lines}
+use Rattle.plaintext.specs.Plain.{line_of}
 
 -- To the end of a text stand its lines, and then the end itself, which counts as a last line with
 -- no byte at all.

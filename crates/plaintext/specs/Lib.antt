@@ -1,2 +1,3 @@
+pub mod TextLines
 pub mod Plain
 pub mod Fronts

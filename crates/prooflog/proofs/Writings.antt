@@ -6,7 +6,8 @@ use Rattle.std.proofs.lemmas.Grind.{flat_map-append}
 use Rattle.std.proofs.lemmas.List.{append-nil, map_push, take_more}
 use Rattle.std.proofs.lemmas.List.Concat.{flat_map-cons}
 use Rattle.std.proofs.lemmas.List.Folds.{flat_map-map}
-use Rattle.plaintext.specs.Plain.{numeral, spaced}
+use Rattle.plaintext.specs.TextLines.{spaced}
+use Rattle.plaintext.specs.Plain.{numeral}
 use Rattle.plaintext.proofs.Spaced.{spaced-append, spaced-join}
 use Rattle.refutations.specs.Proofs.{ProofLine}
 use Rattle.prooflog.specs.declared.evidence.Evidence.TheVariants.{Refutation}

@@ -15,7 +15,9 @@ use Rattle.callorder.specs.Calls.{message_of, pattern_of, is_probe_kind, fits_be
 use Rattle.callorder.specs.Programs.{MpiProgram, call_at, is_probe, kind_holds}
 use Rattle.semantics.specs.declared.state.Step.{Step}
 use Rattle.semantics.specs.declared.state.Step.TheVariants.{Issue, Match, See}
-use Rattle.semantics.specs.Machine.{Configuration, opening, after, after_all, is_issued, is_matched, is_open, is_rank_finished, can_issue_next, CanFind, IsConfigurationOf, IsEnabled, IsRun, IsStuckRun, IsFinishedRun}
+use Rattle.semantics.specs.RunEnds.{IsFinishedRun}
+use Rattle.semantics.specs.Configurations.{is_open, IsConfigurationOf}
+use Rattle.semantics.specs.Machine.{Configuration, opening, after, after_all, is_issued, is_matched, is_rank_finished, can_issue_next, CanFind, IsEnabled, IsRun, IsStuckRun}
 use Rattle.semantics.specs.StuckParts.{NoIssue}
 use Rattle.semantics.proofs.Lengths.{runs_are_short}
 use Rattle.semantics.proofs.Runs.{after_all-push, IsRun-push, IsRun-at}

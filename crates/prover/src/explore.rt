@@ -1,7 +1,8 @@
 //! Walks of several manners, before any formula is made.
 
 ghost use Rattle.std.specs.Prelude.{◌↔◌, IfNone, IfOk, IfSome, IsTrue};
-ghost use Rattle.semantics.specs.Machine.{IsFinishedRun, IsStuckRun};
+ghost use Rattle.semantics.specs.RunEnds.{IsFinishedRun};
+ghost use Rattle.semantics.specs.Machine.{IsStuckRun};
 ghost use Rattle.prover.specs.parts.Searches.{HasFinishedRun};
 
 use crate::manner::{CHANCES, CHANCES_BEHIND, by_chance, manner_at, manners, unbuffered};

@@ -2,7 +2,8 @@
 
 ghost use Rattle.std.specs.Prelude.{◌≡◌, ℕ, Contains, IfSome, IfNone, IfOk, IsPermutation, filter, length};
 ghost use Rattle.std.specs.List.{range_with_len};
-ghost use Rattle.semantics.specs.Machine.{IsConfigurationOf, IsEnabled};
+ghost use Rattle.semantics.specs.Configurations.{IsConfigurationOf};
+ghost use Rattle.semantics.specs.Machine.{IsEnabled};
 ghost use Rattle.run_laws.specs.Places.{find_step};
 ghost use Rattle.prover.specs.parts.Walks.{IsWalk, NothingButSees, NothingEnabled, NoFindBy, NoIssueOf, finds, is_open_finder, is_open_send, is_other};
 

@@ -1,6 +1,7 @@
 -- What a replay of an evidence on a program tells.
 use Rattle.std.specs.Prelude.{◌≡◌, ℕ, Bool, true, false, List}
-use Rattle.calltext.specs.Grammar.{IsText, ProgramText}
+use Rattle.calltext.specs.Readable.{IsText}
+use Rattle.calltext.specs.Grammar.{ProgramText}
 use Rattle.callorder.specs.Programs.{MpiProgram}
 use Rattle.semantics.specs.declared.state.Step.{Step}
 use Rattle.checker.specs.Headline.{Shows}

@@ -1,7 +1,7 @@
 //! The steps of a schedule, told one by one.
 
 ghost use Rattle.std.specs.Prelude.{◌≡◌, ◌++◌, ◌≤◌, IfOk, IsSome, OnOk, length, slice_get, true};
-ghost use Rattle.calltext.specs.Grammar.{IsText};
+ghost use Rattle.calltext.specs.Readable.{IsText};
 ghost use Rattle.semantics.specs.Machine.{IsEnabled, IsRun, IsStuckRun, opening};
 ghost use Rattle.reports.specs.Replays.{Replays, TellsRun};
 ghost use Rattle.reports.specs.Telling.{how_issued, issue_line, told_line, told_run, verb_of};

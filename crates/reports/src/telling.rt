@@ -3,7 +3,8 @@
 ghost use Rattle.std.specs.Prelude.{◌≡◌, IfOk, option_copied};
 ghost use Rattle.calltext.specs.Limits.{long};
 ghost use Rattle.callorder.specs.Resolving.{IsTextOf, IsTextOfWithin};
-ghost use Rattle.semantics.specs.Machine.{IsFinishedRun, IsStuckRun};
+ghost use Rattle.semantics.specs.RunEnds.{IsFinishedRun};
+ghost use Rattle.semantics.specs.Machine.{IsStuckRun};
 ghost use Rattle.frequency.specs.Frequencies.{IsFrequency};
 ghost use Rattle.explain.specs.Often.{BeginsWith, often_line};
 ghost use Rattle.reports.specs.Explanations.{IsDrawnFrom, SaysHowOften, well_steps};

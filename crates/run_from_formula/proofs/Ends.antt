@@ -6,7 +6,8 @@ use Rattle.std.proofs.lemmas.Bool.{cases_lt, and_parts, eq-eqb}
 use Rattle.std.proofs.lemmas.Bool.Decides.{nat_tests}
 use Rattle.std.proofs.lemmas.Option.{slice_get_within}
 use Rattle.callorder.specs.declared.calls.Call.{Call}
-use Rattle.callorder.specs.Programs.{MpiProgram, IsProgram, call_at, is_of_rank, are_fit, takes, are_of_one_rank, kind_holds}
+use Rattle.callorder.specs.ProgramRules.{IsProgram}
+use Rattle.callorder.specs.Programs.{MpiProgram, call_at, is_of_rank, are_fit, takes, are_of_one_rank, kind_holds}
 use Rattle.callorder.specs.Calls.{holds_of, fits}
 use Rattle.semantics.specs.Machine.{Configuration, CanFind, IsStuck, first_call, is_issued, is_issued_call, is_buffered, is_fetched, is_matched, partner_of, is_returned, has_returned_before, may_be, can_issue, can_issue_next, can_issue_call, is_rank_finished, fetches}
 use Rattle.semantics.proofs.Lengths.{Issues, issues}

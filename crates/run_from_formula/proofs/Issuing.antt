@@ -10,7 +10,8 @@ use Rattle.calltext.specs.declared.call.Policy.TheVariants.{Any, Never, Always}
 use Rattle.callorder.specs.declared.calls.Call.{Call}
 use Rattle.callorder.specs.declared.calls.Kind.{Kind}
 use Rattle.callorder.specs.declared.calls.Kind.TheVariants.{Send}
-use Rattle.callorder.specs.Programs.{MpiProgram, IsProgram, call_at, is_of_rank, have_one_rank}
+use Rattle.callorder.specs.ProgramRules.{IsProgram}
+use Rattle.callorder.specs.Programs.{MpiProgram, call_at, is_of_rank, have_one_rank}
 use Rattle.callorder.specs.Calls.{both_hold, holds_of, fits}
 use Rattle.semantics.specs.declared.state.Step.TheVariants.{Issue}
 use Rattle.semantics.specs.Machine.{Configuration, first_call, after, is_issued, is_issued_call, is_buffered, has_returned_before, may_be, can_issue, can_issue_next, can_issue_call}

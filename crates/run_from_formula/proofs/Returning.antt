@@ -9,7 +9,8 @@ use Rattle.callorder.specs.declared.calls.Kind.{Kind}
 use Rattle.callorder.specs.declared.calls.Kind.TheVariants.{Send, Receive, MatchedProbe, Probe, MatchedReceive, Wait}
 use Rattle.callorder.specs.declared.calls.Pattern.{Pattern}
 use Rattle.callorder.specs.Calls.{receive_of, pattern_of, is_probe_kind, both_hold, holds_of, fits}
-use Rattle.callorder.specs.Programs.{MpiProgram, IsProgram, call_at, are_of_one_rank, is_probe, kind_holds, have_one_rank}
+use Rattle.callorder.specs.ProgramRules.{IsProgram}
+use Rattle.callorder.specs.Programs.{MpiProgram, call_at, are_of_one_rank, is_probe, kind_holds, have_one_rank}
 use Rattle.semantics.specs.Machine.{Configuration, is_issued, is_buffered, is_fetched, partner_of, fetches, fetches_partner, is_returned}
 use Rattle.semantics.proofs.RankOrder.{one_rank_between}
 use Rattle.formula.specs.declared.facts.Event.{Event}

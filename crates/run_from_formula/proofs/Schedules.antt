@@ -1,7 +1,8 @@
 -- The schedule of a world in which the clauses of a program hold is a stuck run.
 use Rattle.std.proofs.Common.{◌≡◌, ℕ, ◌≤◌, Bool, true, false, not, ◌&&◌, List, [], ◌∷◌, map, refl, sym, ap, subst}
 use Rattle.std.specs.List.{filter}
-use Rattle.callorder.specs.Programs.{MpiProgram, IsProgram, are_fit, is_probe, takes, sees}
+use Rattle.callorder.specs.ProgramRules.{IsProgram}
+use Rattle.callorder.specs.Programs.{MpiProgram, are_fit, is_probe, takes, sees}
 use Rattle.semantics.specs.declared.state.Step.TheVariants.{Issue}
 use Rattle.semantics.specs.Machine.{Configuration, IsEnabled, IsRun, IsStuckRun, opening, after, after_all, can_issue}
 use Rattle.formula.specs.declared.facts.Event.{Event}

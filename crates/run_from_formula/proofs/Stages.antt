@@ -8,8 +8,10 @@ use Rattle.callorder.specs.declared.calls.Call.{Call}
 use Rattle.callorder.specs.declared.calls.Message.{Message}
 use Rattle.callorder.specs.declared.calls.Pattern.{Pattern}
 use Rattle.callorder.specs.Calls.{fits_between, message_of, pattern_of, both_hold, holds_of, fits}
-use Rattle.callorder.specs.Programs.{MpiProgram, IsProgram, call_at, is_of_rank, are_fit, takes}
-use Rattle.semantics.specs.Machine.{Configuration, IsConfigurationOf, first_call, opening, is_issued, is_issued_call, is_buffered, partner_of}
+use Rattle.callorder.specs.ProgramRules.{IsProgram}
+use Rattle.callorder.specs.Programs.{MpiProgram, call_at, is_of_rank, are_fit, takes}
+use Rattle.semantics.specs.Configurations.{IsConfigurationOf}
+use Rattle.semantics.specs.Machine.{Configuration, first_call, opening, is_issued, is_issued_call, is_buffered, partner_of}
 use Rattle.semantics.proofs.Runs.{IsConfigurationOf-opening}
 use Rattle.run_laws.proofs.Issued.{issued_before}
 use Rattle.candidates.specs.Pairs.{places}

@@ -2,7 +2,8 @@
 -- program can be satisfied exactly where the program has a stuck run.
 use Rattle.std.specs.Prelude.{◌≡◌, ◌↔◌, ◌≤◌, ◌==◌, ℕ, IsTrue, List, filter}
 use Rattle.std.specs.List.{AllPairs, list_all}
-use Rattle.callorder.specs.Programs.{MpiProgram, IsProgram}
+use Rattle.callorder.specs.ProgramRules.{IsProgram}
+use Rattle.callorder.specs.Programs.{MpiProgram}
 use Rattle.semantics.specs.declared.state.Step.{Step}
 use Rattle.semantics.specs.Machine.{IsStuckRun}
 use Rattle.clauses.specs.Clauses.{TruthAssignment, satisfies}

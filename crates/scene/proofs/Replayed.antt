@@ -3,7 +3,8 @@ use Rattle.std.proofs.Common.{◌≡◌, ℕ, ◌<◌, List, length, get_or, tak
 use Rattle.std.proofs.lemmas.Option.{slice_get-get_or}
 use Rattle.callorder.specs.Programs.{MpiProgram}
 use Rattle.semantics.specs.declared.state.Step.{Step}
-use Rattle.semantics.specs.Machine.{Configuration, IsConfigurationOf, IsEnabled, IsRun, after_all, opening}
+use Rattle.semantics.specs.Configurations.{IsConfigurationOf}
+use Rattle.semantics.specs.Machine.{Configuration, IsEnabled, IsRun, after_all, opening}
 use Rattle.semantics.proofs.Runs.{IsRun-at}
 
 -- the state after so many of the steps

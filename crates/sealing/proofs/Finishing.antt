@@ -17,7 +17,7 @@ use Rattle.races.proofs.Steps.{matched_from, not_true, partner_from, within_issu
 use Rattle.races.proofs.Kept.{Kept, takes_fit}
 use Rattle.races.proofs.Passing.{kept_run, none_issued}
 use Rattle.races.proofs.Telling.{Agrees, Told, fetching, no_send_fetches_call, told_step}
-use Rattle.phases.specs.Parts.{IsWellFormed}
+use Rattle.phases.specs.CallPlaces.{IsWellFormed}
 use Rattle.phases.proofs.Parts.{before_to, fit_calls_there, of_rank, rank_is}
 use Rattle.phases.proofs.Waiting.{HasNextBelow, below_all}
 use Rattle.phases.proofs.Clean.{Reached, both_ways, reached_opening, reached_step}

@@ -9,7 +9,7 @@ use Rattle.semantics.specs.Headline.{NoStuckRun}
 use Rattle.semantics.specs.Machine.{Configuration, CanFind, is_matched, is_rank_finished, is_returned, has_next, has_returned_before}
 use Rattle.races.proofs.Kept.{Kept}
 use Rattle.races.proofs.Passing.{kept_run}
-use Rattle.phases.specs.Parts.{IsFrom, IsWellFormed, moved_call}
+use Rattle.phases.specs.CallPlaces.{IsFrom, IsWellFormed, moved_call}
 use Rattle.phases.specs.Cuts.{Cut, IsCut}
 use Rattle.phases.specs.Joining.{cut_between}
 use Rattle.phases.specs.Rests.{behind}

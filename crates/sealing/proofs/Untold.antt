@@ -4,7 +4,8 @@ use Rattle.std.specs.Option.{option_map}
 use Rattle.std.proofs.lemmas.Bool.{cases_eq, eqb-true, eq-eqb}
 use Rattle.std.proofs.lemmas.List.{length-map}
 use Rattle.std.proofs.lemmas.Option.{same_Some, slice_get_within, slice_get-map, get_or_from_slice_get}
-use Rattle.interning.specs.Places.{holds, holds_at, last_below, AreBelow, IsTable}
+use Rattle.interning.specs.LastPlaces.{holds, last_below}
+use Rattle.interning.specs.Places.{holds_at, AreBelow, IsTable}
 use Rattle.interning.proofs.Places.{last_below_is_last}
 use Rattle.callorder.specs.declared.calls.Call.{Call}
 use Rattle.callorder.specs.declared.calls.Pattern.{Pattern}

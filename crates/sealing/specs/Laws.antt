@@ -6,7 +6,7 @@ use Rattle.semantics.specs.Headline.{NoStuckRun}
 use Rattle.semantics.specs.Machine.{Configuration, opening, after_all, IsRun, partner_of}
 use Rattle.races.specs.Tells.{Table, IsJustified}
 use Rattle.phases.specs.Conditions.{LeavesNothing}
-use Rattle.phases.specs.Parts.{IsWellFormed}
+use Rattle.phases.specs.CallPlaces.{IsWellFormed}
 use Rattle.phases.specs.Rests.{IsFront, behind}
 use Rattle.sealing.specs.declared.loose.Loose.{Loose}
 use Rattle.sealing.specs.Sealing.{IsFoundBefore, IsSealed}

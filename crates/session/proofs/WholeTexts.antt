@@ -1,6 +1,7 @@
 -- What is said of texts as far as they were read is right of the whole texts.
 use Rattle.std.proofs.Common.{◌≤◌, ℕ, List, length, inl, inr, subst, arith}
-use Rattle.calltext.specs.Grammar.{ProgramText, IsText}
+use Rattle.calltext.specs.Readable.{IsText}
+use Rattle.calltext.specs.Grammar.{ProgramText}
 use Rattle.calltext.specs.Fault.{HasFault}
 use Rattle.calltext.specs.declared.fault.ReadFault.{ReadFault}
 use Rattle.calltext.specs.declared.fault.ReadFault.TheVariants as reading

@@ -5,7 +5,8 @@ use Rattle.calltext.specs.Grammar.{ProgramText, IsTextWithin}
 use Rattle.calltext.specs.Limits.{long}
 use Rattle.calltext.proofs.Exact.{one_value_within}
 use Rattle.callorder.specs.Programs.{MpiProgram}
-use Rattle.callorder.specs.Resolving.{IsFirstCallFault, IsProgramOfWithin}
+use Rattle.callorder.specs.FirstFaults.{IsFirstCallFault}
+use Rattle.callorder.specs.Resolving.{IsProgramOfWithin}
 use Rattle.callorder.specs.declared.fault.CallFault.{CallFault}
 use Rattle.spmd_text.specs.declared.reading.Policy.{Policy}
 use Rattle.unroll.specs.declared.call.Placed.{Placed}

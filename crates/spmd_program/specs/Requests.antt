@@ -3,7 +3,8 @@ use Rattle.std.specs.Prelude.{codes, ◌≡◌, ℕ, ◌-◌, Bool, ◌&&◌, na
 use Rattle.std.specs.Global.{Vec}
 use Rattle.calltext.specs.Limits.{long}
 use Rattle.callorder.specs.Programs.{MpiProgram}
-use Rattle.callorder.specs.Resolving.{IsFirstCallFault, IsProgramOfWithin}
+use Rattle.callorder.specs.FirstFaults.{IsFirstCallFault}
+use Rattle.callorder.specs.Resolving.{IsProgramOfWithin}
 use Rattle.callorder.specs.declared.fault.CallFault.{CallFault}
 use Rattle.callorder.specs.declared.fault.CallFault.TheVariants as fault
 use Rattle.spmd_text.specs.declared.reading.Policy.{Policy}

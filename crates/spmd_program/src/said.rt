@@ -1,7 +1,7 @@
 //! What the lines of an SPMD text say.
 
 ghost use Rattle.std.specs.Prelude.{◌≡◌, ◌++◌, IfOk, OnOk, map};
-ghost use Rattle.plaintext.specs.Plain.{text_lines};
+ghost use Rattle.plaintext.specs.TextLines.{text_lines};
 ghost use Rattle.spmd_program.specs.Maps.{blank_before, is_blank, said_lines, words_of};
 
 use plaintext::next_line;

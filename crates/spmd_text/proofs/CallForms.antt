@@ -14,7 +14,7 @@ use Rattle.spmd_text.specs.declared.piece.Piece.TheVariants as piece
 use Rattle.spmd_text.specs.declared.piece.Token.{Token}
 use Rattle.spmd_text.specs.Spelling.{after_arguments, after_communicator, after_group, after_root, begins, has_root, is_rooted, only, same}
 use Rattle.spmd_text.specs.parts.Parts.{Part, arguments_part, form_of_call, group_part, label_part, optional_part, piece_part, request_part, root_part, then_part, value_part, wild_part}
-use Rattle.spmd_text.specs.Parts.{IfThere, MayCall, MayGroup, MayValue}
+use Rattle.spmd_text.specs.Rules.{IfThere, MayCall, MayGroup, MayValue}
 use Rattle.spmd_text.proofs.NoStar.{only_left}
 use Rattle.spmd_text.proofs.Parts.{IsAs, ended}
 use Rattle.spmd_text.proofs.Following.{communicator_ends, label_ends}

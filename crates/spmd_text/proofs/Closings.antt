@@ -14,7 +14,7 @@ use Rattle.spmd_text.specs.declared.reading.Policy.TheVariants as policy
 use Rattle.spmd_text.specs.parts.Joints.{Place}
 use Rattle.spmd_text.specs.Limits.{IsWithin}
 use Rattle.spmd_text.specs.Spelling.{Rest, after, after_end, after_head, after_optional, after_parameter, after_policy, after_span, after_statement, after_variable, begins, is_any, is_branch, is_ordered, is_tail, only, policy_word}
-use Rattle.spmd_text.specs.Parts.{IfThere}
+use Rattle.spmd_text.specs.Rules.{IfThere}
 use Rattle.spmd_text.specs.parts.Statements.{MayOne, MayStatements, MayTail, first_word}
 use Rattle.spmd_text.specs.Statements.{Scope, is_one_of}
 use Rattle.spmd_text.specs.Programs.{ObeyParameters, parameters_of}

@@ -12,7 +12,7 @@ use Rattle.spmd_text.specs.Spelling.{Rest, after, after_optional, after_value, b
 use Rattle.spmd_text.specs.declared.parser.Parser.{Parser}
 use Rattle.spmd_text.specs.Limits.{IsWithin}
 use Rattle.spmd_text.specs.parts.Parts.{lacks, optional_part, piece_part, then_part, value_part}
-use Rattle.spmd_text.specs.Parts.{MayValue}
+use Rattle.spmd_text.specs.Rules.{MayValue}
 use Rattle.spmd_text.proofs.Pieces.{piece_is, taken}
 use Rattle.spmd_text.proofs.Strict.{value_strict}
 use Rattle.spmd_text.proofs.Parts.{IsAs}

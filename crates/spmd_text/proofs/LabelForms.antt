@@ -15,7 +15,7 @@ use Rattle.spmd_text.specs.Labels.{has_index, label_fits, name_fits}
 use Rattle.spmd_text.specs.Spelling.{after, after_label, after_labels, after_request, begins}
 use Rattle.spmd_text.specs.parts.Reading.{Finds, noted}
 use Rattle.spmd_text.specs.parts.Parts.{Keeps, Reads, index_part, label_part, labels_part, lacks, name_part, piece_part, request_part, then_part}
-use Rattle.spmd_text.specs.Parts.{IfThere, MayLabel, MayLabels, count_labels}
+use Rattle.spmd_text.specs.Rules.{IfThere, MayLabel, MayLabels, count_labels}
 use Rattle.spmd_text.proofs.Parts.{IsAs, found_as, keeps_on, keeps_same, sound_before, still_found}
 use Rattle.spmd_text.proofs.NoStar.{left_before}
 use Rattle.spmd_text.proofs.Following.{and_left, and_right, comma_unindexed, lacks_not}

@@ -14,7 +14,7 @@ use Rattle.spmd_tree.specs.declared.tree.Statement.{Statement}
 use Rattle.spmd_tree.specs.declared.tree.Statement.TheVariants as statement
 use Rattle.spmd_text.specs.Labels.{all_fit, call_fits, has_index, is_label, label_fits, labels_fit, name_fits, request_fits}
 use Rattle.spmd_text.specs.Spelling.{are_parameters, has_none, is_ordered}
-use Rattle.spmd_text.specs.Parts.{IfThere, MayCall, MayLabel, MayLabels}
+use Rattle.spmd_text.specs.Rules.{IfThere, MayCall, MayLabel, MayLabels}
 use Rattle.spmd_text.specs.Statements.{Obeys, Scope, within_loop}
 use Rattle.spmd_text.specs.Programs.{ObeyParameters, ObeysText, behind_parameters, parameters_of}
 use Rattle.spmd_text.proofs.Following.{both_true}

@@ -12,7 +12,7 @@ use Rattle.spmd_text.specs.parts.Joints.{stops}
 use Rattle.spmd_text.specs.Limits.{IsWithin}
 use Rattle.spmd_text.specs.Spelling.{after, after_group, after_index, after_optional, after_value, after_wild, begins}
 use Rattle.spmd_text.specs.parts.Parts.{Part, group_part, index_part, lacks, optional_part, piece_part, then_part, value_part, wild_part}
-use Rattle.spmd_text.specs.Parts.{MayValue}
+use Rattle.spmd_text.specs.Rules.{MayValue}
 use Rattle.spmd_text.proofs.NoStar.{left_before, value_not_star}
 use Rattle.spmd_text.proofs.Following.{among_stops, and_left, and_right, both_true, lacks_not, value_behind}
 use Rattle.spmd_text.proofs.Parts.{IsAs}

@@ -13,7 +13,7 @@ use Rattle.spmd_text.specs.Limits.{IsWithin}
 use Rattle.spmd_text.specs.parts.Reading.{Finds}
 use Rattle.spmd_text.specs.Spelling.{Rest, after, after_optional, after_statement, after_value, begins, is_piece}
 use Rattle.spmd_text.specs.parts.Parts.{Part, Reads, lacks, name_part, piece_part, then_part, value_part}
-use Rattle.spmd_text.specs.Parts.{IfThere}
+use Rattle.spmd_text.specs.Rules.{IfThere}
 use Rattle.spmd_text.specs.parts.Statements.{Makes, put_back}
 use Rattle.spmd_text.specs.Statements.{is_one_of}
 use Rattle.spmd_text.specs.parts.Programs.{Adds, Meets, ReadsParameter, is_parameter, otherwise_part, parameter_part}

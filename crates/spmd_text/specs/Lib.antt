@@ -7,7 +7,7 @@ pub mod Texts
 pub mod Headings
 pub mod Joints
 pub mod Limits
-pub mod Parts
+pub mod Rules
 pub mod Statements
 pub mod Programs
 pub mod Lines

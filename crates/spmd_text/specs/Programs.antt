@@ -7,7 +7,7 @@ use Rattle.spmd_text.specs.declared.piece.Token.{Token}
 use Rattle.spmd_text.specs.declared.reading.Policy.{Policy}
 use Rattle.spmd_text.specs.Limits.{IsWithin}
 use Rattle.spmd_text.specs.Spelling.{after_text}
-use Rattle.spmd_text.specs.Parts.{IfThere}
+use Rattle.spmd_text.specs.Rules.{IfThere}
 use Rattle.spmd_text.specs.Statements.{Obeys, Scope, is_one_of}
 
 -- ---- rules

@@ -6,7 +6,7 @@ use Rattle.spmd_tree.specs.declared.tree.Statement.{Statement, Sequence, Otherwi
 use Rattle.spmd_tree.specs.declared.tree.Statement.TheVariants as statement
 use Rattle.spmd_text.specs.declared.piece.Token.{Token}
 use Rattle.spmd_text.specs.Limits.{IsWithin}
-use Rattle.spmd_text.specs.Parts.{MayCall, MayLabels, count_labels}
+use Rattle.spmd_text.specs.Rules.{MayCall, MayLabels, count_labels}
 
 -- ---- where statements stand
 

@@ -4,8 +4,10 @@ use Rattle.std.proofs.lemmas.Bool.{and_parts, and_from, or_cases, not-true, true
 use Rattle.calltext.specs.declared.limits.Limits.{Limits}
 use Rattle.callorder.specs.declared.calls.Call.{Call}
 use Rattle.callorder.specs.Calls.{operation_of, holds_of}
-use Rattle.callorder.specs.Programs.{MpiProgram, IsProgramWithin, call_at, is_of_rank}
-use Rattle.semantics.specs.Machine.{Configuration, is_issued, is_issued_call, is_matched, is_open, partner_of}
+use Rattle.callorder.specs.ProgramRules.{IsProgramWithin}
+use Rattle.callorder.specs.Programs.{MpiProgram, call_at, is_of_rank}
+use Rattle.semantics.specs.Configurations.{is_open}
+use Rattle.semantics.specs.Machine.{Configuration, is_issued, is_issued_call, is_matched, partner_of}
 use Rattle.run_laws.proofs.Descent.{no_open_pair_where_stuck}
 use Rattle.waits.specs.declared.fates.Fate.TheVariants.{Open}
 use Rattle.waits.specs.Waiting.{WaitsIn, operation_of_call, operation_at, fate_from}

@@ -13,7 +13,8 @@ use Rattle.callorder.specs.declared.calls.Kind.TheVariants.{Send}
 use Rattle.callorder.specs.declared.calls.Message.{Message}
 use Rattle.callorder.specs.declared.calls.Pattern.{Pattern}
 use Rattle.callorder.specs.Calls.{message_of, pattern_of, covers, fits_between, both_hold, holds_of, fits}
-use Rattle.callorder.specs.Programs.{MpiProgram, IsProgramWithin, call_at, is_of_rank}
+use Rattle.callorder.specs.ProgramRules.{IsProgramWithin}
+use Rattle.callorder.specs.Programs.{MpiProgram, call_at, is_of_rank}
 use Rattle.semantics.specs.Machine.{Configuration, is_issued, is_issued_call}
 use Rattle.waits.specs.Waiting.{WaitsIn, WaitsFor, IsMissing, IsNeededBy, IsOnlyPeer, fits_with, operation_of_call}
 use Rattle.waits.proofs.NeededCalls.{own_rank}

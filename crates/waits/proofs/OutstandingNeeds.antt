@@ -12,7 +12,8 @@ use Rattle.callorder.specs.declared.calls.Kind.TheVariants.{Send, Receive, Match
 use Rattle.callorder.specs.declared.calls.Message.{Message}
 use Rattle.callorder.specs.declared.calls.Pattern.{Pattern}
 use Rattle.callorder.specs.Calls.{message_of, pattern_of, receive_of, operation_of, is_probe_kind, fits_between, both_hold, holds_of, fits}
-use Rattle.callorder.specs.Programs.{MpiProgram, IsProgramWithin, call_at, kind_holds}
+use Rattle.callorder.specs.ProgramRules.{IsProgramWithin}
+use Rattle.callorder.specs.Programs.{MpiProgram, call_at, kind_holds}
 use Rattle.semantics.specs.declared.state.Step.{Step}
 use Rattle.semantics.specs.declared.state.Step.TheVariants.{Issue, Match as MatchStep, See}
 use Rattle.semantics.specs.Machine.{Configuration, IsEnabled, IsRun, after, after_all, opening, partner_of, is_done, is_done_kind, is_returned, is_returned_kind, is_issued, fetches, fetches_partner}

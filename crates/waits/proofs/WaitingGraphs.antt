@@ -7,7 +7,8 @@ use Rattle.std.proofs.lemmas.Bool.{cases_eq, cases_lt}
 use Rattle.std.proofs.lemmas.List.{length_push}
 use Rattle.std.proofs.lemmas.List.Elements.{Contains-get_or}
 use Rattle.calltext.specs.declared.limits.Limits.{Limits}
-use Rattle.callorder.specs.Programs.{MpiProgram, IsProgramWithin, call_at}
+use Rattle.callorder.specs.ProgramRules.{IsProgramWithin}
+use Rattle.callorder.specs.Programs.{MpiProgram, call_at}
 use Rattle.semantics.specs.Machine.{Configuration}
 use Rattle.waits.specs.Cycles.{ranks_in, awaited_by, HasEdge}
 use Rattle.waits.specs.Waiting.{WaitsFor}

@@ -2,8 +2,10 @@
 -- has not begun.
 use Rattle.std.specs.Prelude.{◌≡◌, ◌≢◌, ℕ, ◌<◌, false, IsTrue, List, Some, None}
 use Rattle.calltext.specs.declared.limits.Limits.{Limits}
-use Rattle.callorder.specs.Programs.{MpiProgram, IsProgramWithin, are_fit}
-use Rattle.semantics.specs.Machine.{Configuration, IsConfigurationOf, IsRun, IsStuck, opening, after_all, is_issued, is_open, is_rank_finished, partner_of}
+use Rattle.callorder.specs.ProgramRules.{IsProgramWithin}
+use Rattle.callorder.specs.Programs.{MpiProgram, are_fit}
+use Rattle.semantics.specs.Configurations.{IsConfigurationOf, is_open}
+use Rattle.semantics.specs.Machine.{Configuration, IsRun, IsStuck, opening, after_all, is_issued, is_rank_finished, partner_of}
 use Rattle.semantics.specs.declared.state.Step.{Step}
 use Rattle.waits.specs.declared.fates.Fate.TheVariants.{Open}
 use Rattle.waits.specs.declared.needs.Need.{Need}

@@ -1,7 +1,8 @@
 -- What inner functions promise one another, beside `specs/Body.antt`.
 use Rattle.std.specs.Prelude.{◌≡◌, ℕ, ◌+◌, ◌<◌, ◌≤◌, List, [], ◌∷◌, ◌++◌, length, ⊤}
 use Rattle.std.specs.List.{AllByRecursion}
-use Rattle.plaintext.specs.Plain.{line_of, text_lines}
+use Rattle.plaintext.specs.TextLines.{text_lines}
+use Rattle.plaintext.specs.Plain.{line_of}
 use Rattle.calltext.specs.declared.call.CallLine.{CallLine}
 use Rattle.calltext.specs.declared.line.LineFault.{LineFault}
 use Rattle.calltext.specs.declared.line.LineFault.TheVariants as wrong

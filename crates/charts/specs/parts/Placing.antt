@@ -4,7 +4,8 @@ use Rattle.std.specs.List.{All, AllPairs, slice_index_or}
 use Rattle.std.specs.Option.{unwrap_or}
 use Rattle.callorder.specs.declared.calls.Call.{Call}
 use Rattle.calltext.specs.Limits.{long}
-use Rattle.callorder.specs.Programs.{MpiProgram, IsProgramWithin, call_at}
+use Rattle.callorder.specs.ProgramRules.{IsProgramWithin}
+use Rattle.callorder.specs.Programs.{MpiProgram, call_at}
 use Rattle.scene.specs.declared.acts.Act.{Act}
 use Rattle.scene.specs.declared.acts.Act.TheVariants.{Issue, Match, See}
 use Rattle.scene.specs.Labels.{Label}

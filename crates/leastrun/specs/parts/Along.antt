@@ -3,7 +3,8 @@ use Rattle.std.specs.Prelude.{◌≡◌, ℕ, ◌<◌, ◌≤◌, true, List, So
 use Rattle.callorder.specs.declared.calls.Call.{Call}
 use Rattle.callorder.specs.Programs.{MpiProgram, call_at, are_fit}
 use Rattle.semantics.specs.declared.state.Step.{Step}
-use Rattle.semantics.specs.Machine.{Configuration, IsConfigurationOf, IsRun, opening, after_all, is_open}
+use Rattle.semantics.specs.Configurations.{IsConfigurationOf, is_open}
+use Rattle.semantics.specs.Machine.{Configuration, IsRun, opening, after_all}
 use Rattle.leastrun.specs.declared.tables.Tables.{Tables}
 use Rattle.leastrun.specs.parts.Queues.{IsGrown}
 use Rattle.leastrun.specs.parts.Waiting.{IsSendIn, IsFinderIn}

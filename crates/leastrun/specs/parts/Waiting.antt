@@ -5,7 +5,8 @@ use Rattle.callorder.specs.declared.calls.Call.{Call}
 use Rattle.callorder.specs.Programs.{MpiProgram, call_at, are_fit, are_of_one_rank, is_probe}
 use Rattle.semantics.specs.declared.state.Step.{Step}
 use Rattle.semantics.specs.declared.state.Step.TheVariants.{Issue, Match, See}
-use Rattle.semantics.specs.Machine.{Configuration, IsEnabled, is_issued, is_open, can_issue}
+use Rattle.semantics.specs.Configurations.{is_open}
+use Rattle.semantics.specs.Machine.{Configuration, IsEnabled, is_issued, can_issue}
 use Rattle.run_laws.specs.Laws.{IsOpenPair}
 use Rattle.run_laws.specs.Places.{find_step}
 use Rattle.leastrun.specs.declared.walk.Buffering.{Buffering}

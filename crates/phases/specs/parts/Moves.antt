@@ -2,7 +2,7 @@
 use Rattle.std.specs.Prelude.{◌≡◌, ℕ, ◌+◌, ◌-◌, ◌<◌, ◌≤◌, List, length, take, get_or, slice_get, Some}
 use Rattle.callorder.specs.declared.calls.Call.{Call}
 use Rattle.callorder.specs.Programs.{MpiProgram, call_at}
-use Rattle.phases.specs.Parts.{moved_call}
+use Rattle.phases.specs.CallPlaces.{moved_call}
 use Rattle.phases.specs.Rests.{calls_by}
 
 -- each rank's place has moved on by as many places as these calls are of the rank

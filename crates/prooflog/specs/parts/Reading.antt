@@ -1,7 +1,8 @@
 -- What inner functions promise one another, beside `specs/Reading.antt`.
 use Rattle.std.specs.Prelude.{codes, ◌≡◌, ◌≢◌, ◌↔◌, ℕ, ◌+◌, ◌≤◌, Bool, IsTrue, List, [], ◌∷◌, ◌++◌, length, map, drop, min, Option, Some, None, IfSome, slice_get, ◌==◌}
 use Rattle.std.specs.List.{slice_split, slice_range, AllByRecursion, list_all}
-use Rattle.plaintext.specs.Plain.{numeral, text_lines}
+use Rattle.plaintext.specs.TextLines.{text_lines}
+use Rattle.plaintext.specs.Plain.{numeral}
 use Rattle.plaintext.specs.Fronts.{to_end, IsFirstFaultyLine}
 use Rattle.clauses.specs.Clauses.{Literal}
 use Rattle.refutations.specs.Proofs.{ProofLine}

@@ -3,7 +3,8 @@ use Rattle.std.specs.Prelude.{◌≡◌, ℕ, List, Option, Some, None, Bool, tr
 use Rattle.callorder.specs.Programs.{MpiProgram}
 use Rattle.callorder.specs.Resolving.{IsTextOf}
 use Rattle.semantics.specs.declared.state.Step.{Step}
-use Rattle.semantics.specs.Machine.{IsStuckRun, IsFinishedRun}
+use Rattle.semantics.specs.RunEnds.{IsFinishedRun}
+use Rattle.semantics.specs.Machine.{IsStuckRun}
 use Rattle.formula.specs.Numbering.{formula_of}
 use Rattle.encode.specs.Encodings.{EncodedProgram}
 use Rattle.prooflog.specs.declared.evidence.Evidence.{Evidence}

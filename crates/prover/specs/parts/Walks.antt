@@ -5,7 +5,8 @@ use Rattle.callorder.specs.declared.calls.Kind.{Kind}
 use Rattle.callorder.specs.Calls.{message_of, pattern_of, is_probe_kind}
 use Rattle.callorder.specs.Programs.{MpiProgram, call_at}
 use Rattle.semantics.specs.declared.state.Step.{Step}
-use Rattle.semantics.specs.Machine.{Configuration, opening, after_all, is_open, can_issue, IsEnabled, IsRun}
+use Rattle.semantics.specs.Configurations.{is_open}
+use Rattle.semantics.specs.Machine.{Configuration, opening, after_all, can_issue, IsEnabled, IsRun}
 use Rattle.semantics.specs.StuckParts.{NoIssue}
 use Rattle.run_laws.specs.Places.{find_step}
 

@@ -17,7 +17,7 @@ use Rattle.spmd_text.specs.declared.piece.Token.{Token}
 use Rattle.spmd_text.specs.declared.reading.Policy.{Policy}
 use Rattle.spmd_text.specs.Limits.{IsWithin}
 use Rattle.spmd_text.specs.Spelling.{after, after_end, after_head, after_parameter, after_span, after_statement, after_variable, policy_word}
-use Rattle.spmd_text.specs.Parts.{IfThere}
+use Rattle.spmd_text.specs.Rules.{IfThere}
 use Rattle.spmd_text.specs.parts.Reading.{next}
 use Rattle.spmd_text.specs.parts.Statements.{MayOne, MaySpan, first_word, is_end, is_simple, scope_of}
 use Rattle.spmd_text.specs.Statements.{Scope, is_one_of, line_at, may_give, within_loop}

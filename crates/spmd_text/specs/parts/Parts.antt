@@ -1,4 +1,4 @@
--- What inner functions promise one another, beside `specs/Parts.antt`.
+-- What inner functions promise one another, beside `specs/Rules.antt`.
 use Rattle.std.specs.Prelude.{◌≡◌, ℕ, ◌≤◌, Bool, true, false, ◌&&◌, not, List, length, Option, Some, None, is_some}
 use Rattle.std.specs.Global.{Vec}
 use Rattle.spmd_tree.specs.declared.tree.Mode.TheVariants.{Standard, Synchronous, Buffered}
@@ -21,7 +21,7 @@ use Rattle.spmd_text.specs.Spelling.{Rest, after, after_arguments, after_conditi
 use Rattle.spmd_text.specs.parts.Joints.{stops}
 use Rattle.spmd_text.specs.Limits.{IsWithin}
 use Rattle.spmd_text.specs.parts.Reading.{Finds, Sticks}
-use Rattle.spmd_text.specs.Parts.{IfThere, MayCall, MayGroup, MayLabel, MayLabels, MayValue, count_labels}
+use Rattle.spmd_text.specs.Rules.{IfThere, MayCall, MayGroup, MayLabel, MayLabels, MayValue, count_labels}
 
 -- the reader has the same names, parameters and open loops, no piece comes back, and what was wrong
 -- first stays so

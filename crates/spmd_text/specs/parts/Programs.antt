@@ -15,7 +15,7 @@ use Rattle.spmd_text.specs.Limits.{IsWithin}
 use Rattle.spmd_text.specs.parts.Reading.{Finds, Sticks, noted}
 use Rattle.spmd_text.specs.Spelling.{after_optional, after_statement, is_piece}
 use Rattle.spmd_text.specs.parts.Parts.{Part, Unknown, any_end, lacks}
-use Rattle.spmd_text.specs.Parts.{IfThere}
+use Rattle.spmd_text.specs.Rules.{IfThere}
 use Rattle.spmd_text.specs.parts.Statements.{heading_part, put_back}
 use Rattle.spmd_text.specs.Programs.{ObeyParameters, ObeysText, parameters_of}
 

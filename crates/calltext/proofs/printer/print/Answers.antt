@@ -1,6 +1,7 @@
 use Rattle.std.proofs.Common.{◌≡◌, ◌++◌, ℕ, List, length, take, arith, ap, sym, ◌∙◌, subst}
 use Rattle.std.proofs.lemmas.Grind.{common_steps}
-use Rattle.calltext.specs.Grammar.{IsText, text_of, ProgramText}
+use Rattle.calltext.specs.Readable.{IsText}
+use Rattle.calltext.specs.Grammar.{text_of, ProgramText}
 use Rattle.calltext.specs.Body.{views}
 use Rattle.calltext.specs.parts.Printed.{heads, ranks_text}
 use Rattle.calltext.proofs.PrintLaws.{text_is, one_more}

@@ -1,5 +1,6 @@
 use Rattle.std.proofs.Common.{◌≡◌, ◌↔◌, IsTrue, ℕ, List, length, drop, slice_index, ap, ◌∙◌, subst}
-use Rattle.semantics.specs.Machine.{Configuration, IsFinished, opening}
+use Rattle.semantics.specs.RunEnds.{IsFinished}
+use Rattle.semantics.specs.Machine.{Configuration, opening}
 use Rattle.scene.specs.declared.acts.Act.{Act}
 use Rattle.scene.specs.Acts.{acts_from}
 use Rattle.scene.specs.Labels.{Label, call_labels}

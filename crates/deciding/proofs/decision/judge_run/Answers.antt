@@ -1,6 +1,6 @@
 use Rattle.std.proofs.Common.{sym, subst}
 use Rattle.calltext.specs.Limits.{long}
-use Rattle.semantics.specs.Machine.{IsFinished, IsFinishedRun}
+use Rattle.semantics.specs.RunEnds.{IsFinished, IsFinishedRun}
 use Rattle.races.specs.Races.{BuffersNoneByChoice}
 use Rattle.races.proofs.Kept.{Kept}
 use Rattle.races.proofs.Passing.{kept_run}

@@ -1,6 +1,6 @@
 use Rattle.std.proofs.Common.{List, subst, sym}
 use Rattle.semantics.specs.declared.state.Step.{Step}
-use Rattle.semantics.specs.Machine.{IsFinishedRun}
+use Rattle.semantics.specs.RunEnds.{IsFinishedRun}
 use Rattle.frequency.specs.declared.judging.Frequency.{Frequency}
 use Rattle.frequency.specs.Frequencies.{IsFrequency}
 use Rattle.explain.proofs.text.put_parting_from.Goals as goal

@@ -1,5 +1,5 @@
 use Rattle.std.proofs.Common.{subst}
-use Rattle.callorder.specs.Programs.{IsProgram}
+use Rattle.callorder.specs.ProgramRules.{IsProgram}
 use Rattle.clauses.specs.Clauses.{Conjunction, IsUnsatisfiable}
 use Rattle.finishing.proofs.Sticking as sticking
 use Rattle.finishing.proofs.searching.judge_found.Goals as goal

@@ -1,6 +1,6 @@
 use Rattle.std.proofs.Common.{◌≡◌, ◌++◌, ℕ, List, length, sym, ap, ◌∙◌, subst, arith}
 use Rattle.std.proofs.lemmas.List.{length-append}
-use Rattle.formula_families.specs.Parts.{parts, AreEnds}
+use Rattle.formula_families.specs.PackedLists.{parts, AreEnds}
 use Rattle.formula_families.proofs.Cuts.{ends_more, parts_more}
 use Rattle.formula_families.proofs.symbolic.add.Goals as goal
 

@@ -2,7 +2,7 @@ use Rattle.std.proofs.Common.{◌≡◌, ◌∙◌, ◌++◌, codes, ℕ, List, 
 use Rattle.std.specs.Borrow.{Bor}
 use Rattle.std.specs.Prelude.{IfSome, option_copied}
 use Rattle.semantics.specs.declared.state.Step.{Step}
-use Rattle.semantics.specs.Machine.{IsFinishedRun}
+use Rattle.semantics.specs.RunEnds.{IsFinishedRun}
 use Rattle.htmlpage.specs.Page.{IsWellPart}
 use Rattle.htmlpage.proofs.paging.put_well_part.Goals as goal
 

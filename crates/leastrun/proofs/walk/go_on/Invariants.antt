@@ -1,5 +1,6 @@
 use Rattle.std.proofs.Common.{◌≡◌, ◌+◌, length}
-use Rattle.semantics.specs.Machine.{IsConfigurationOf, IsRun, opening, after_all}
+use Rattle.semantics.specs.Configurations.{IsConfigurationOf}
+use Rattle.semantics.specs.Machine.{IsRun, opening, after_all}
 use Rattle.leastrun.specs.LeastBuffered.{BuffersSo}
 use Rattle.leastrun.specs.parts.Waiting.{IsKept, IsFresh}
 use Rattle.leastrun.proofs.walk.go_on.Given as goal

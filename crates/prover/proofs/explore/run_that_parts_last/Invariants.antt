@@ -1,5 +1,5 @@
 use Rattle.std.specs.Prelude.{IfSome}
-use Rattle.semantics.specs.Machine.{IsFinishedRun}
+use Rattle.semantics.specs.RunEnds.{IsFinishedRun}
 use Rattle.prover.proofs.explore.run_that_parts_last.Given as goal
 
 -- the best run so far ends well

@@ -1,5 +1,6 @@
 use Rattle.std.proofs.Common.{◌≡◌, length}
-use Rattle.semantics.specs.Machine.{IsConfigurationOf, IsRun, opening, after_all}
+use Rattle.semantics.specs.Configurations.{IsConfigurationOf}
+use Rattle.semantics.specs.Machine.{IsRun, opening, after_all}
 use Rattle.prover.proofs.walk.walk_along.Given as goal
 
 abbrev pub invariant-loop-turn : goal.invariant-loop-turn

@@ -1,5 +1,6 @@
 use Rattle.std.proofs.Common.{◌≡◌, take}
-use Rattle.semantics.specs.Machine.{IsConfigurationOf, opening, after_all}
+use Rattle.semantics.specs.Configurations.{IsConfigurationOf}
+use Rattle.semantics.specs.Machine.{opening, after_all}
 use Rattle.reports.specs.Telling.{told_steps}
 use Rattle.reports.proofs.steps.numbered.Given as goal
 

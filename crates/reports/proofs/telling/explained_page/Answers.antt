@@ -1,7 +1,7 @@
 use Rattle.std.proofs.Common.{List, Option, ℕ, IfOk, sym, subst}
 use Rattle.std.specs.Prelude.{IfSome}
 use Rattle.semantics.specs.declared.state.Step.{Step}
-use Rattle.semantics.specs.Machine.{IsFinishedRun}
+use Rattle.semantics.specs.RunEnds.{IsFinishedRun}
 use Rattle.explain.specs.Often.{BeginsWith, often_line}
 use Rattle.htmlpage.specs.Page.{IsPage}
 use Rattle.reports.proofs.Drawn.{ends_well, page_drawn}

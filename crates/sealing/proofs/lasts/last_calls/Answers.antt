@@ -1,6 +1,7 @@
 use Rattle.std.proofs.Common.{ℕ, List, Option, length, sym, subst}
 use Rattle.std.proofs.lemmas.Result.{IfOk-weaker}
-use Rattle.interning.specs.Places.{AreBelow, IsTable, holds_at, last_below}
+use Rattle.interning.specs.LastPlaces.{last_below}
+use Rattle.interning.specs.Places.{AreBelow, IsTable, holds_at}
 use Rattle.sealing.proofs.Untold.{ranks_below, lasts_so}
 use Rattle.sealing.proofs.lasts.last_calls.Goals as goal
 

@@ -1,6 +1,6 @@
 use Rattle.std.proofs.Common.{subst}
 use Rattle.calltext.specs.Limits.{long}
-use Rattle.callorder.specs.Resolving.{IsFirstCallFault, IsFirstFaultWithin}
+use Rattle.callorder.specs.FirstFaults.{IsFirstCallFault, IsFirstFaultWithin}
 use Rattle.callorder.specs.declared.fault.ResolveFault.{ResolveFault}
 use Rattle.spmd_program.proofs.Orders.{right, wrong}
 use Rattle.spmd_program.proofs.requests.ordered.Goals as goal

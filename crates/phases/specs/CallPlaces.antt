@@ -3,7 +3,8 @@ use Rattle.std.specs.Prelude.{◌≡◌, ℕ, ◌+◌, ◌<◌, Some}
 use Rattle.callorder.specs.declared.calls.Call.{Call}
 use Rattle.callorder.specs.declared.calls.Kind.{Kind}
 use Rattle.callorder.specs.Calls.{operation_of, is_start, receive_of, is_matched_receive, map_link}
-use Rattle.callorder.specs.Programs.{MpiProgram, HasRanksBelow, IsPairing, call_at}
+use Rattle.callorder.specs.ProgramRules.{HasRanksBelow, IsPairing}
+use Rattle.callorder.specs.Programs.{MpiProgram, call_at}
 use Rattle.run_laws.specs.Laws.{IsInRankOrder}
 
 -- What each program keeps, but for the limits on its ranks and calls, and for the order of a

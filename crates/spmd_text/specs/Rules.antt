@@ -1,4 +1,4 @@
--- Parts of a text, and what it means that one is read: it is found exactly where it stands.
+-- What may stand in labels, groups and calls of a text.
 use Rattle.std.specs.Prelude.{◌≡◌, ℕ, ◌+◌, Bool, true, List, Option, Some, None}
 use Rattle.std.specs.Global.{Vec}
 use Rattle.spmd_tree.specs.declared.tree.Expression.{Expression}

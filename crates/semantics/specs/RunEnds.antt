@@ -1,0 +1,29 @@
+-- How else runs end, and where a list of steps is no run.
+use Rattle.std.specs.Prelude.{◌≡◌, ℕ, ◌+◌, ◌<◌, IsTrue, List, take, Some, slice_get}
+use Rattle.callorder.specs.Programs.{MpiProgram}
+use Rattle.semantics.specs.declared.state.Step.{Step}
+use Rattle.semantics.specs.Machine.{Configuration, IsEnabled, IsRun, IsStuck, after_all, is_rank_finished, opening}
+
+-- all ranks are finished; messages that nobody receives don't matter
+abbrev pub IsFinished : MpiProgram → Configuration → Type 0
+IsFinished p m = (rank : ℕ) → rank < p.ranks → IsTrue (is_rank_finished p m rank)
+
+-- a run that ends where all ranks are finished
+pub record IsFinishedRun (p : MpiProgram) (steps : List Step) : Type 0 where
+  pub run : IsRun p (opening p) steps
+  pub finished : IsFinished p (after_all (opening p) steps)
+
+-- a run whose end is neither stuck nor finished
+pub record IsLiveRun (p : MpiProgram) (steps : List Step) : Type 0 where
+  pub run : IsRun p (opening p) steps
+  pub not_stuck : IsStuck p (after_all (opening p) steps) → ⊥
+  pub not_finished : IsFinished p (after_all (opening p) steps) → ⊥
+
+-- the step at this place, from 1, is the first that is not enabled
+pub record StopsAt (p : MpiProgram) (steps : List Step) (at : ℕ) : Type 0 where
+  pub step : Step
+  pub place : ℕ
+  pub at_place : at ≡ place + 1
+  pub there : slice_get steps place ≡ Some step
+  pub run : IsRun p (opening p) (take place steps)
+  pub not_enabled : IsEnabled p (after_all (opening p) (take place steps)) step → ⊥
