@@ -1,4 +1,5 @@
--- Which of the faults of call lines is told: the first, by rank, by place, and at one place by its number.
+-- Which of the faults of call lines is told: the first, by rank, by place, and at one place by its
+-- number.
 use Rattle.std.specs.Prelude.{◌≡◌, ℕ, ◌<◌, ◌≤◌, ◌⊎◌}
 use Rattle.calltext.specs.Grammar.{ProgramText}
 use Rattle.calltext.specs.Limits.{short}

@@ -28,7 +28,8 @@ impl Model for Clause {
 
     ghost view = { λ c. literals_in c.storage };
 
-    ghost invariant = { λ c. IsSound c.storage × IsTrue (rises (literals_in c.storage)) × IsTrue (is_within LARGEST_VARIABLE (literals_in c.storage)) };
+    ghost invariant = { λ c. IsSound c.storage × IsTrue (rises (literals_in c.storage)) ×
+        IsTrue (is_within LARGEST_VARIABLE (literals_in c.storage)) };
 }
 
 /// Why no clause was made.

@@ -52,9 +52,18 @@ impl Model for Pool {
 
     ghost Value = { PoolWithHistory };
 
-    ghost view = { λ a. record { held = held_of (arc_value a.encoded) a.tree a.closed.items a.log (option_map (λ s. s.items) a.schedule) a.ledger.reasons; history = a.ledger.history; places = a.ledger.places } };
+    ghost view = { λ a. record {
+        held = held_of (arc_value a.encoded) a.tree a.closed.items a.log
+            (option_map (λ s. s.items) a.schedule) a.ledger.reasons;
+        history = a.ledger.history;
+        places = a.ledger.places
+    } };
 
-    ghost invariant = { λ a. IsSound (held_of (arc_value a.encoded) a.tree a.closed.items a.log (option_map (λ s. s.items) a.schedule) a.ledger.reasons) × (a.open_leaves ≡ open_count a.tree.nodes a.closed.items) × (length a.known ≡ (arc_value a.encoded).formula.variables + 1) };
+    ghost invariant = { λ a.
+        IsSound (held_of (arc_value a.encoded) a.tree a.closed.items a.log
+            (option_map (λ s. s.items) a.schedule) a.ledger.reasons)
+        × (a.open_leaves ≡ open_count a.tree.nodes a.closed.items)
+        × (length a.known ≡ (arc_value a.encoded).formula.variables + 1) };
 }
 
 /// How many leaves the tree has.

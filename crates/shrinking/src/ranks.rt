@@ -6,8 +6,8 @@ use calltext::Slot;
 use plaintext::{number_of, put_number, words_of};
 use std::alloc::{AllocError, Global};
 
-/// What stands in the words of a line behind the first. A line that is no call's is a heading, which
-/// names a rank, or how many ranks there are.
+/// What stands in the words of a line behind the first. A line that is no call's is a heading,
+/// which names a rank, or how many ranks there are.
 fn slots_of(words: &[&[u8]]) -> &'static [Slot] {
     match verb_of(words) {
         Some(verb) => verb.slots(),
