@@ -16,8 +16,7 @@ use Rattle.formula.specs.declared.facts.Statement.{Statement}
 use Rattle.formula.specs.declared.facts.Statement.TheVariants.{Holds as is_true, Fails as is_false, Earlier as is_earlier}
 use Rattle.formula.specs.declared.facts.Condition.{Condition}
 use Rattle.formula.specs.declared.facts.Condition.TheVariants.{AtOnce as at_once, IfMatched as if_matched, IfFetched as if_fetched, IfBufferedOrFetched as if_buffered_or_fetched}
-use Rattle.formula.specs.parts.Families.{some_rank_is_unfinished}
-use Rattle.formula.specs.Families.{SymbolicClause, sends_of, last_calls, rank_of, events, event_at, receive_on_handle, unless_issued, when_returned, where_fetched, where_returned, where_returned_under}
+use Rattle.formula.specs.Families.{SymbolicClause, sends_of, last_calls, rank_of, events, event_at, receive_on_handle, unless_issued, when_returned, where_fetched, where_returned, where_returned_under, some_rank_is_unfinished}
 use Rattle.formula.specs.Orders.{clock_size, rank_in_time, is_so_by}
 use Rattle.formula.specs.Numbering.{meanings, is_same_meaning, variable_of, numbered}
 use Rattle.formula.specs.Laws.{Agrees, Means}

@@ -11,8 +11,7 @@ use Rattle.semantics.specs.RunEnds.{IsFinishedRun}
 use Rattle.clauses.specs.Clauses.{Literal, TruthAssignment, satisfies, satisfies_clause}
 use Rattle.formula.specs.declared.facts.Fact.TheVariants.{Unfinished as unfinished}
 use Rattle.formula.specs.declared.facts.Statement.TheVariants.{Holds as is_true, Fails as is_false}
-use Rattle.formula.specs.parts.Families.{some_rank_is_unfinished}
-use Rattle.formula.specs.Families.{SymbolicClause, last_calls, rank_of, where_returned, said, first_families, last_families, families}
+use Rattle.formula.specs.Families.{SymbolicClause, last_calls, rank_of, where_returned, said, first_families, last_families, families, some_rank_is_unfinished}
 use Rattle.formula.specs.Numbering.{normal_form, numbered, numbered_order, formula_of}
 use Rattle.formula.specs.Laws.{Agrees}
 use Rattle.formula.proofs.Elements.{Each, each_append, each_parts, each_mono, each_both, each_flat_map, each_filter, each_of_all, all_from_each, all_append}

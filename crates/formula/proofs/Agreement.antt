@@ -10,8 +10,7 @@ use Rattle.callorder.specs.ProgramRules.{IsProgram}
 use Rattle.callorder.specs.Programs.{MpiProgram}
 use Rattle.clauses.specs.Clauses.{TruthAssignment}
 use Rattle.formula.specs.Facts.{Event, issue_of, match_of, Fact, Meaning, fact, clock_bit, before, same_bits, Statement, is_true, is_false, is_earlier, is_same_event}
-use Rattle.formula.specs.parts.Families.{sends_are_buffered_as_allowed, probes_see_messages}
-use Rattle.formula.specs.Families.{SymbolicClause, events, event_at, place_of, families_with_orders, last_families, families, said, first_families}
+use Rattle.formula.specs.Families.{SymbolicClause, events, event_at, place_of, families_with_orders, last_families, families, said, first_families, sends_are_buffered_as_allowed, probes_see_messages}
 use Rattle.formula.specs.Orders.{clock_size, used_pairs, clock_meanings, pair_meanings, order_meanings}
 use Rattle.formula.specs.Numbering.{facts, meanings, is_same_meaning, variable_of, literal}
 use Rattle.formula.specs.Laws.{holds_if_any, IsTold, AgreesByClock, UsedPairsSuffice, AgreesByFact, FactsSuffice, EventsAreListed, StatedEventsAreListed}

@@ -20,8 +20,7 @@ use Rattle.callorder.specs.Programs.{is_probe, takes, sees, MpiProgram, call_at,
 use Rattle.candidates.specs.Pairs.{places, takers_of, probes_of, matching_pairs, seeing_pairs}
 use Rattle.nonovertake.specs.Earlier.{earlier_sends, earlier_takers}
 use Rattle.formula.specs.Facts.{Event, issue_of, match_of, Fact, issued, buffered, matched, unfinished, Meaning, fact, Statement, is_true, is_false, is_earlier, is_same_event}
-use Rattle.formula.specs.parts.Families.{probes_see_messages, calls_are_issued_in_order, calls_are_issued_after_returns, matches_come_after_issues, calls_are_matched_once, sends_do_not_overtake, takers_do_not_overtake, no_pair_waits, no_issue_waits, some_rank_is_unfinished, sends_are_buffered_as_allowed}
-use Rattle.formula.specs.Families.{without_later_sends, seen_before_taken, see_clauses, families_with_orders, sends_of, is_finder_call, is_finder, is_standard_kind, is_standard_call, is_standard, standard_sends, receive_of_call, receive_on_handle, previous, last_calls, rank_of, events, event_of_fetch, fetch_of, Condition, at_once, if_matched, if_fetched, if_buffered_or_fetched, when_done_kind, when_done_call, when_done, if_blocking, when_returned_kind, when_returned_call, when_returned, SymbolicClause, unless_issued, where_fetched, where_returned_under, where_returned, issued_after, handle_is_received_on, is_fetched_before, is_returned_before, issued_after_return_of, issued_before_match, without_later_pairs, send_is_matched_before, taker_is_matched_before, pair_does_not_wait, issue_does_not_wait, buffered_under, said, first_families, family_of}
+use Rattle.formula.specs.Families.{without_later_sends, seen_before_taken, see_clauses, families_with_orders, sends_of, is_finder_call, is_finder, is_standard_kind, is_standard_call, is_standard, standard_sends, receive_of_call, receive_on_handle, previous, last_calls, rank_of, events, event_of_fetch, fetch_of, Condition, at_once, if_matched, if_fetched, if_buffered_or_fetched, when_done_kind, when_done_call, when_done, if_blocking, when_returned_kind, when_returned_call, when_returned, SymbolicClause, unless_issued, where_fetched, where_returned_under, where_returned, issued_after, handle_is_received_on, is_fetched_before, is_returned_before, issued_after_return_of, issued_before_match, without_later_pairs, send_is_matched_before, taker_is_matched_before, pair_does_not_wait, issue_does_not_wait, buffered_under, said, first_families, family_of, probes_see_messages, calls_are_issued_in_order, calls_are_issued_after_returns, matches_come_after_issues, calls_are_matched_once, sends_do_not_overtake, takers_do_not_overtake, no_pair_waits, no_issue_waits, some_rank_is_unfinished, sends_are_buffered_as_allowed}
 use Rattle.formula.specs.Orders.{order_meanings}
 use Rattle.formula.specs.Numbering.{facts, meanings, is_same_fact, is_same_meaning}
 use Rattle.formula.proofs.Elements.{each_mono, and_both, Each, each_append, each_map, each_flat_map, each_filter, each_range, any_append_left, any_append_right, any_map, any_flat_map, any_filter, any_range}

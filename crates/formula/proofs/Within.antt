@@ -8,8 +8,7 @@ use Rattle.callorder.specs.ProgramRules.{IsProgram}
 use Rattle.callorder.specs.Programs.{MpiProgram}
 use Rattle.clauses.specs.Clauses.{Literal, is_within}
 use Rattle.formula.specs.Facts.{Meaning, fact, before, Statement, is_true, is_false, is_earlier}
-use Rattle.formula.specs.parts.Families.{sends_are_buffered_as_allowed, probes_see_messages}
-use Rattle.formula.specs.Families.{SymbolicClause, families_with_orders, last_families, place_of, said, first_families}
+use Rattle.formula.specs.Families.{SymbolicClause, families_with_orders, last_families, place_of, said, first_families, sends_are_buffered_as_allowed, probes_see_messages}
 use Rattle.formula.specs.Orders.{SignedMeaning, order_clauses}
 use Rattle.formula.specs.Numbering.{meanings, is_same_meaning, variable_of, literal, literal_of, put, comes_first, sorted, has_both_signs, in_normal_form, normal_form, numbered, literal_of_signed, numbered_order}
 use Rattle.formula.specs.Laws.{ClausesAreWithin}

@@ -11,8 +11,7 @@ use Rattle.formula.specs.declared.facts.Event.TheVariants.{Issue as issue_of, Ma
 use Rattle.formula.specs.declared.facts.Fact.TheVariants.{Issued as issued, Matched as matched, Unfinished as unfinished}
 use Rattle.formula.specs.declared.facts.Statement.TheVariants.{Holds as is_true, Fails as is_false, Earlier as is_earlier}
 use Rattle.formula.specs.declared.facts.Condition.TheVariants.{IfMatched as if_matched}
-use Rattle.formula.specs.parts.Families.{calls_are_matched_once, some_rank_is_unfinished, no_pair_waits, no_issue_waits}
-use Rattle.formula.specs.Families.{without_later_sends, seen_before_taken, see_clauses, SymbolicClause, sends_of, is_standard, previous, last_calls, rank_of, fetch_of, receive_on_handle, when_returned, where_returned, issued_after, issued_after_return_of, handle_is_received_on, is_fetched_before, is_returned_before, issued_before_match, without_later_pairs, send_is_matched_before, taker_is_matched_before, pair_does_not_wait, issue_does_not_wait, buffered_under, standard_sends, said, last_families, families}
+use Rattle.formula.specs.Families.{without_later_sends, seen_before_taken, see_clauses, SymbolicClause, sends_of, is_standard, previous, last_calls, rank_of, fetch_of, receive_on_handle, when_returned, where_returned, issued_after, issued_after_return_of, handle_is_received_on, is_fetched_before, is_returned_before, issued_before_match, without_later_pairs, send_is_matched_before, taker_is_matched_before, pair_does_not_wait, issue_does_not_wait, buffered_under, standard_sends, said, last_families, families, calls_are_matched_once, some_rank_is_unfinished, no_pair_waits, no_issue_waits}
 use Rattle.formula.proofs.Named.{families_of_order, families_of_end}
 use Rattle.formula.proofs.Elements.{Each, each_append, each_parts, each_both, each_from_all, each_filter, each_range}
 use Rattle.formula_from_run.specs.Worlds.{World, is_right, clause_holds, clauses_hold}

@@ -20,7 +20,7 @@ use Rattle.spmd_text.specs.Spelling.{Rest, after, after_condition, after_end, af
 use Rattle.spmd_text.specs.parts.Parts.{Keeps, Part, Reads, condition_part, piece_part, then_part}
 use Rattle.spmd_text.specs.parts.Statements.{Begins, IsWhen, Makes, MaySpan, RowSoFar, begun_part, first_word, is_end, is_first, is_simple, one_part, put_back, scope_of, statements_part, tail_part, word_of}
 use Rattle.spmd_text.specs.Statements.{Obeys, Scope, line_at, may_give, within_loop}
-use Rattle.spmd_text.specs.Lines as lines
+use Rattle.spmd_text.specs.parts.Lines as lines
 use Rattle.spmd_text.specs.parts.Lines.{Block, EndsBlock, EndsBranch, IsSimpleLine, IsStuckAt, Level, Tells, from_word, goes_on, has_text_end, is_inner, is_settled, level_at, lists, may_hold, settled, takes}
 use Rattle.spmd_text.proofs.BlockForms.{behind_span, loop_head_parts, span_strict}
 use Rattle.spmd_text.proofs.BlockWords.{begins_so, condition_strict, is_else, one_begins, same_begin}

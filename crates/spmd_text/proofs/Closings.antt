@@ -20,7 +20,7 @@ use Rattle.spmd_text.specs.Statements.{Scope, is_one_of}
 use Rattle.spmd_text.specs.Programs.{ObeyParameters, parameters_of}
 use Rattle.spmd_text.specs.FirstFaults.{IsReadable}
 use Rattle.spmd_text.specs.parts.Lines.{Block, Level, Moves, Runs, Steps, begin, behind_one, in_block, in_loop, is_inner, lists, settled, takes, with_block, with_parameter}
-use Rattle.spmd_text.specs.Lines as lines
+use Rattle.spmd_text.specs.parts.Lines as lines
 use Rattle.spmd_text.proofs.BlockWords.{one_begins, start_begins, taken_begins}
 use Rattle.spmd_text.proofs.Following.{never_taken}
 use Rattle.spmd_text.proofs.LeftOut.{chosen, not_chosen}

@@ -19,7 +19,7 @@ use Rattle.spmd_text.specs.Programs.{ObeyParameters, ObeysText, behind_parameter
 use Rattle.spmd_text.specs.FirstFaults.{IsFirstFault}
 use Rattle.spmd_text.specs.parts.Lines.{Block, IsStuckAt, Level, Moves, Runs, Steps, begin, behind_one, in_block, in_loop, is_inner, lists, settled, takes, with_block}
 use Rattle.spmd_text.specs.Lines.{are_lines, closes, is_line}
-use Rattle.spmd_text.specs.Lines as lines
+use Rattle.spmd_text.specs.parts.Lines as lines
 use Rattle.spmd_text.proofs.BlockForms.{not_so}
 use Rattle.spmd_text.proofs.BlockWords.{statement_strict}
 use Rattle.spmd_text.proofs.Closings.{begins_readable}

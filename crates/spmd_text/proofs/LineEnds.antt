@@ -1,7 +1,7 @@
 -- A line that leads anywhere ends with the end of a line, and not of the text.
 use Rattle.std.proofs.Common.{◌≡◌, ◌⊎◌, Bool, true, false, ◌||◌, List, [], ◌∷◌, ◌++◌, refl, ap, sym, subst, ◌∙◌, inl, inr}
 use Rattle.spmd_text.specs.declared.piece.Token.{Token}
-use Rattle.spmd_text.specs.Lines as lines
+use Rattle.spmd_text.specs.parts.Lines as lines
 use Rattle.spmd_text.specs.parts.Lines.{IsTextEnd, Level, Runs, Steps, has_text_end}
 use Rattle.spmd_text.proofs.Framing.{IsFull}
 use Rattle.spmd_text.proofs.LineKinds.{none_leads, step_full}

@@ -14,7 +14,7 @@ use Rattle.spmd_text.specs.Spelling.{Rest, after, after_condition, after_gap, af
 use Rattle.spmd_text.specs.parts.Statements.{first_word, is_one, is_simple}
 use Rattle.spmd_text.specs.parts.Lines.{IsElifLine, IsElseLine, IsEndLine, IsHeading, IsIfLine, IsLoopLine, IsParameterLine, IsPolicyLine, IsSimpleLine, IsTextEnd, Level, Moves, Runs, Steps, behind_one, branch, done, headed, in_block, in_loop, last, listed, more, with_block, with_parameter}
 use Rattle.spmd_text.specs.Lines.{closes, is_line}
-use Rattle.spmd_text.specs.Lines as lines
+use Rattle.spmd_text.specs.parts.Lines as lines
 use Rattle.spmd_text.proofs.BlockForms.{not_so}
 use Rattle.spmd_text.proofs.BlockWords.{condition_strict, one_begins, start_begins, taken_begins}
 use Rattle.spmd_text.proofs.Following.{and_left, and_right}

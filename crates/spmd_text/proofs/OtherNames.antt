@@ -18,7 +18,7 @@ use Rattle.spmd_text.specs.declared.piece.Token.{Token}
 use Rattle.spmd_text.specs.FirstFaults.{AreAlike, IsAlike, letters_of}
 use Rattle.spmd_text.specs.Labels.{has_index, is_label, label_fits, name_fits}
 use Rattle.spmd_text.specs.parts.Lines.{Level, Runs, Steps}
-use Rattle.spmd_text.specs.Lines as lines
+use Rattle.spmd_text.specs.parts.Lines as lines
 use Rattle.spmd_text.specs.Rules.{IfThere, MayCall, MayLabel, MayLabels}
 use Rattle.spmd_text.specs.Spelling.{Rest, after, after_arguments, after_index, after_label, after_labels, after_request, after_start, after_statement, call_word}
 use Rattle.spmd_text.specs.parts.Statements.{first_word, is_one, is_simple}

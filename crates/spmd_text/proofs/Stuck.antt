@@ -8,7 +8,7 @@ use Rattle.spmd_text.specs.parts.Reading.{Finds, Sticks, noted}
 use Rattle.spmd_text.specs.parts.Parts.{Part, Reads}
 use Rattle.spmd_text.specs.parts.Statements.{Makes}
 use Rattle.spmd_text.specs.Statements.{line_at}
-use Rattle.spmd_text.specs.Lines as lines
+use Rattle.spmd_text.specs.parts.Lines as lines
 use Rattle.spmd_text.specs.parts.Lines.{IsStuckAt, Level, Steps, Tells, has_text_end}
 use Rattle.spmd_text.specs.Lines.{closes, is_line}
 use Rattle.spmd_text.proofs.Framing.{longer_line, open_piece}

@@ -26,7 +26,7 @@ use Rattle.spmd_text.specs.parts.Programs.{Grows, ReadsParameters, is_all_read}
 use Rattle.spmd_text.specs.Programs.{parameters_of}
 use Rattle.spmd_text.specs.parts.Lines.{Block, IsEnded, IsStuckAt, Level, Moves, Runs, Steps, Tells, begin, behind_one, has_text_end, in_block, in_loop, is_inner, is_settled, is_text_end, level_at, lists, takes}
 use Rattle.spmd_text.specs.Lines.{is_line}
-use Rattle.spmd_text.specs.Lines as lines
+use Rattle.spmd_text.specs.parts.Lines as lines
 use Rattle.spmd_text.proofs.FirstFaults.{RunsEarly, grown, heading_runs, lists_outermost, only_level, parameters_run, policy_runs, step_early, with_parameters}
 use Rattle.spmd_text.proofs.BlockWords.{start_begins}
 use Rattle.spmd_text.proofs.Flat.{all_strict}

@@ -5,7 +5,7 @@ use Rattle.spmd_text.specs.declared.piece.Word.{Word}
 use Rattle.spmd_text.specs.declared.piece.Word.TheVariants as word
 use Rattle.spmd_text.specs.parts.Parts.{Reads}
 use Rattle.spmd_text.specs.declared.piece.Piece.TheVariants as piece
-use Rattle.spmd_text.specs.Lines as lines
+use Rattle.spmd_text.specs.parts.Lines as lines
 use Rattle.spmd_text.specs.parts.Lines.{Level, Tells, from_word, level_at}
 use Rattle.spmd_text.specs.parts.Statements.{Kept, MayStatements, RowSoFar, begun_part, held, held_all, is_end, put_back, scope_of, span_part, statements_part, tail_part, word_of}
 use Rattle.spmd_text.specs.Statements.{line_at, within_loop}
