@@ -139,10 +139,20 @@ impl Verb {
                 &[Slot::RankOrStar, Slot::TagOrStar, Slot::Communicator]
             }
             Verb::Receive { started: true } => {
-                &[Slot::Request, Slot::RankOrStar, Slot::TagOrStar, Slot::Communicator]
+                &[
+                    Slot::Request,
+                    Slot::RankOrStar,
+                    Slot::TagOrStar,
+                    Slot::Communicator,
+                ]
             }
             Verb::MatchedProbe => {
-                &[Slot::Handle, Slot::RankOrStar, Slot::TagOrStar, Slot::Communicator]
+                &[
+                    Slot::Handle,
+                    Slot::RankOrStar,
+                    Slot::TagOrStar,
+                    Slot::Communicator,
+                ]
             }
             Verb::MatchedReceive { started: false } => &[Slot::Handle],
             Verb::MatchedReceive { started: true } => &[Slot::Request, Slot::Handle],

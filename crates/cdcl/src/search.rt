@@ -6,9 +6,9 @@ ghost use Rattle.cdcl.specs.parts.Searches.{IfEnded, IsCounted, IsNotBudget, IsR
 use crate::analysis::{Learnt, analyse, analyse_cube, analyse_root};
 use crate::engine::Engine;
 use crate::models::checked;
-use refutations::{Batch, Hint};
 use clauses::{Assignment, Formula, Lit};
 use propagation::{ClauseRef, LitIndex, Origin, Truth, add_line};
+use refutations::{Batch, Hint};
 use std::alloc::{AllocError, Global};
 use std::mem;
 

@@ -7,9 +7,9 @@ ghost use Rattle.cdcl.specs.Answers.{are_opposite, has_both, is_foreign, Searche
 
 use crate::engine::Engine;
 use crate::search::{Counted, Ending};
-use refutations::{Batch, Hint};
 use clauses::{Assignment, Clause, Formula, Lit};
 use propagation::no_lines;
+use refutations::{Batch, Hint};
 use std::alloc::{AllocError, Global};
 use std::marker::Model;
 use thiserror::Error;

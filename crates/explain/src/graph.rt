@@ -7,10 +7,10 @@ use crate::needing::MOST_MISSES;
 use crate::wording::put_line;
 use callorder::LongProgram;
 use calltext::LongSource;
-use waits::{Need, Standing, misses_in, need_of, operation_of};
 use scene::{Scene, part_word, scene_of};
 use semantics::Step;
 use std::alloc::{AllocError, Global};
+use waits::{Need, Standing, misses_in, need_of, operation_of};
 
 /// The most ranks that are laid out in layers.
 const MOST_LAYERED: u32 = 16;

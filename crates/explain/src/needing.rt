@@ -4,9 +4,9 @@
 use crate::text::MOST_TOLD;
 use crate::wording::{put_call_of, put_line, put_number_of};
 use callorder::{LongProgram, Message, Pattern};
-use waits::{Fate, Mismatch, Need, Standing, fate_of, fitting, misses_in, need_of, operation_of};
 use scene::Scene;
 use std::alloc::{AllocError, Global};
+use waits::{Fate, Mismatch, Need, Standing, fate_of, fitting, misses_in, need_of, operation_of};
 
 /// The most calls of one rank that are told one by one, of those that are reached and of those that
 /// aren't.

@@ -6,12 +6,12 @@ ghost use Rattle.frequency.specs.Frequencies.{IsFrequency};
 use callorder::LongProgram;
 use calltext::LongSource;
 use frequency::Frequency;
-use waits::{Fate, Standing, fate_of, fitting, misses_in, operation_of};
 use scene::{CallLabel, Choice, Parting, Scene, choices_of, part_word, parting_of, scene_of};
 use semantics::Step;
 use serde::Serialize;
 use serde_json::to_string;
 use std::alloc::{AllocError, Global};
+use waits::{Fate, Standing, fate_of, fitting, misses_in, operation_of};
 use writing::put_characters;
 
 /// A call as the program's text has it.

@@ -6,8 +6,11 @@ ghost use Rattle.refutations.specs.Derivations.{Derives};
 ghost use Rattle.refutations.specs.Refutations.{AreDerived};
 ghost use Rattle.refutations.specs.Trees.{AcceptsTree};
 
-use refutations::{Batch, BatchLine, Hint, Line, Node, PartialAssignment, ProofTree, TreeFault, check_line_in, check_tree};
 use clauses::Formula;
+use refutations::{
+    Batch, BatchLine, Hint, Line, Node, PartialAssignment, ProofTree, TreeFault, check_line_in,
+    check_tree,
+};
 use std::alloc::{AllocError, Global};
 
 /// The number of the first line behind the clauses of the formula. One that doesn't fit counts as

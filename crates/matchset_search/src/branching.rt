@@ -4,9 +4,9 @@ ghost use Rattle.std.specs.Prelude.{◌≤◌, vec_len};
 
 use crate::explorer::Explorer;
 use crate::tasks::{Branch, Branching, Purpose, Task};
-use refutations::Batch;
 use matchsets::{Key, State, choose, mixed, read_off};
 use propagation::LitIndex;
+use refutations::Batch;
 use std::alloc::{AllocError, Global};
 
 /// How often lemmas are made below one literal before its state is looked at anew.

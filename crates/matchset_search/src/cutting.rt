@@ -2,9 +2,9 @@
 
 use crate::engine::Engine;
 use crate::others::SharedClosed;
-use refutations::Batch;
 use matchsets::{Cycle, Shape};
 use propagation::{LitIndex, Trail};
+use refutations::Batch;
 use std::alloc::{AllocError, Global};
 
 /// The pairs of neighbours on the cycle.

@@ -1,10 +1,10 @@
 //! What propagation knows, and how clauses come in.
 
 use crate::others::SharedClosed;
-use refutations::Batch;
 use clauses::Formula;
 use matchsets::mixed;
 use propagation::{ClauseRef, LitIndex, Marks, Origin, Propagator, Refuting, indices_of};
+use refutations::Batch;
 use std::alloc::{AllocError, Global};
 use std::mem;
 

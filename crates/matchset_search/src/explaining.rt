@@ -1,8 +1,8 @@
 //! Why a conflict can't be, as a line.
 
 use crate::engine::{Conflict, Engine, Written};
-use refutations::Batch;
 use propagation::{ClauseRef, LitIndex, Marks, Propagator};
+use refutations::Batch;
 use std::alloc::{AllocError, Global};
 
 /// For how many places there is room at first.

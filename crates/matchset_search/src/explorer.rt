@@ -6,12 +6,12 @@ use crate::engine::{Engine, MOST_WATCHED};
 use crate::lemmas::{Lemmas, Portion};
 use crate::others::SharedClosed;
 use crate::tasks::Task;
-use refutations::Batch;
 use cdcl::Solver;
 use clauses::Clause;
 use encode::Encoded;
 use matchsets::{Shape, State, find_cycle, read_off};
 use propagation::{ClauseRef, LitIndex, Origin, indices_of};
+use refutations::Batch;
 use std::alloc::{AllocError, Global};
 use std::collections::HashMap;
 

@@ -3,9 +3,9 @@
 use crate::engine::{Conflict, Written};
 use crate::explorer::Explorer;
 use crate::tasks::{Branch, Branching, Purpose, Task};
-use refutations::Batch;
 use matchsets::Key;
 use propagation::{ClauseRef, LitIndex};
+use refutations::Batch;
 use std::alloc::{AllocError, Global};
 
 /// What comes of a literal.

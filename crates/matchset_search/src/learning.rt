@@ -3,10 +3,10 @@
 use crate::engine::Written;
 use crate::explorer::Explorer;
 use crate::tasks::{Branch, Purpose, Task};
-use refutations::{Batch, BatchLine, Hint};
 use cdcl::{Found, Solver};
 use clauses::{Assignment, Formula, Lit};
 use propagation::{ClauseRef, LitIndex, Origin, indices_of};
+use refutations::{Batch, BatchLine, Hint};
 use std::alloc::{AllocError, Global};
 
 /// What the learner found.

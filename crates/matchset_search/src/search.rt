@@ -8,12 +8,12 @@ use crate::explorer::Explorer;
 use crate::learning::Learning;
 use crate::models::checked;
 use crate::tasks::{Purpose, Task};
-use refutations::{Batch, Hint};
 use cdcl::{Counted, Ending, Step};
 use clauses::Formula;
 use encode::Encoded;
 use matchsets::State;
 use propagation::{ClauseRef, LitIndex, Origin};
+use refutations::{Batch, Hint};
 use std::alloc::{AllocError, Global};
 
 /// How many steps there are for each line that may be written, and how many at first.

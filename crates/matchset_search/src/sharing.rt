@@ -4,10 +4,10 @@ use crate::claims::InProgress;
 use crate::explorer::Explorer;
 use crate::others::ClosedState;
 use crate::tasks::Task;
-use refutations::Hint;
 use matchsets::Key;
 use pages::Lines;
 use propagation::{LitIndex, indices_of};
+use refutations::Hint;
 use std::alloc::{AllocError, Global};
 
 impl<'e> Explorer<'e> {

@@ -6,9 +6,9 @@ ghost use Rattle.pool.specs.Runs.{IsPoolRun, AreAnswered, IsAnswered, after_even
 use crate::entry::{CloseFault, FetchFault, FoundFault, PublishFault, SplitFault};
 use crate::keep::Pool;
 use crate::why::Why;
-use refutations::Batch;
 use encode::Encoded;
 use pages::Lines;
+use refutations::Batch;
 use semantics::Step;
 use std::alloc::{AllocError, Global};
 use trees::Tree;

@@ -9,9 +9,9 @@ ghost use Rattle.pool.specs.Moves.{AreOfBatch};
 
 use crate::derived::DerivedLines;
 use crate::entry::PublishFault;
-use refutations::{BatchLine, Hint, Line, PartialAssignment, check_line_in};
 use clauses::Formula;
 use pages::{Extended, Log};
+use refutations::{BatchLine, Hint, Line, PartialAssignment, check_line_in};
 use std::alloc::{AllocError, Global};
 
 /// How many lines a log has at most.

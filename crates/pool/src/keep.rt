@@ -16,11 +16,11 @@ use crate::entry::{CloseFault, FetchFault, FoundFault, Operation, PublishFault, 
 use crate::extend::extend;
 use crate::ledger::Ledger;
 use crate::why::Why;
-use refutations::{Batch, PartialAssignment};
 use callorder::Program;
 use clauses::Formula;
 use encode::Encoded;
 use pages::{Lines, Log};
+use refutations::{Batch, PartialAssignment};
 use semantics::{End, ReplayFault, Step, replay};
 use std::alloc::{AllocError, Global};
 use std::marker::Model;
@@ -53,15 +53,15 @@ impl Model for Pool {
     ghost Value = { PoolWithHistory };
 
     ghost view = { λ a. record {
-        held = held_of (arc_value a.encoded) a.tree a.closed.items a.log
-            (option_map (λ s. s.items) a.schedule) a.ledger.reasons;
-        history = a.ledger.history;
-        places = a.ledger.places
+      held = held_of (arc_value a.encoded) a.tree a.closed.items a.log
+          (option_map (λ s. s.items) a.schedule) a.ledger.reasons;
+      history = a.ledger.history;
+      places = a.ledger.places;
     } };
 
     ghost invariant = { λ a.
         IsSound (held_of (arc_value a.encoded) a.tree a.closed.items a.log
-            (option_map (λ s. s.items) a.schedule) a.ledger.reasons)
+        (option_map (λ s. s.items) a.schedule) a.ledger.reasons)
         × (a.open_leaves ≡ open_count a.tree.nodes a.closed.items)
         × (length a.known ≡ (arc_value a.encoded).formula.variables + 1) };
 }

@@ -7,9 +7,9 @@ ghost use Rattle.pool.specs.Moves.{is_earlier, are_earlier, number_after, AreOfB
 
 use crate::derived::DerivedLines;
 use crate::extend::{LONGEST_BATCH, MOST_LINES, checked_lines};
-use refutations::{BatchLine, Hint, PartialAssignment};
 use clauses::Formula;
 use pages::Log;
+use refutations::{BatchLine, Hint, PartialAssignment};
 use std::alloc::Global;
 
 /// Whether the hint names a line of the batch, or a clause with a number below this one.

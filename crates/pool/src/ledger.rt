@@ -25,9 +25,13 @@ impl Model for Ledger {
 
     ghost Value = { LedgerState };
 
-    ghost view = { λ l. record { history = l.history.items; reasons = l.reasons.items;
-        places = l.places; calls_fit = vec_capacity l.history;
-        reasons_fit = vec_capacity l.reasons } };
+    ghost view = { λ l. record {
+      history = l.history.items;
+      reasons = l.reasons.items;
+      places = l.places;
+      calls_fit = vec_capacity l.history;
+      reasons_fit = vec_capacity l.reasons;
+    } };
 
     ghost invariant = { λ l. (vec_len l.history + l.places ≤ vec_capacity l.history) ×
         (vec_len l.reasons + l.places ≤ vec_capacity l.reasons) };

@@ -49,11 +49,21 @@ impl Model for Refutation {
 
     ghost Value = { ClaimedRefutation };
 
-    ghost view = { λ r. record { version = r.version; variables = r.variables; clauses = r.clauses;
-        lines = r.lines.items; nodes = r.tree } };
+    ghost view = { λ r. record {
+      version = r.version;
+      variables = r.variables;
+      clauses = r.clauses;
+      lines = r.lines.items;
+      nodes = r.tree;
+    } };
 
-    ghost invariant = { λ r. IsRefutation (record { version = r.version; variables = r.variables;
-        clauses = r.clauses; lines = r.lines.items; nodes = r.tree }) };
+    ghost invariant = { λ r. IsRefutation (record {
+      version = r.version;
+      variables = r.variables;
+      clauses = r.clauses;
+      lines = r.lines.items;
+      nodes = r.tree;
+    }) };
 }
 
 /// Why no refutation was made.

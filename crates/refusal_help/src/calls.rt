@@ -70,11 +70,7 @@ fn put_broken(help: &mut Help, verb: Verb, words: &[&[u8]]) -> Result<bool, Allo
 }
 
 /// Tells what is wrong with the words that follow those of the shape.
-fn put_more(
-    help: &mut Help,
-    has_communicator: bool,
-    rest: &[&[u8]],
-) -> Result<(), AllocError> {
+fn put_more(help: &mut Help, has_communicator: bool, rest: &[&[u8]]) -> Result<(), AllocError> {
     match rest {
         [] => Ok(()),
         [word, number] if has_communicator && is_word(word, "comm") => {

@@ -14,9 +14,11 @@ use crate::sizes::is_large;
 use balance::{Imbalance, imbalances};
 use callorder::LongProgram;
 use calltext::LongSource;
-use waits::{Mismatch, Standing, cycle, edges, fitting, misses_in, near_misses, operation_of, standing_of};
 use semantics::{State, Step};
 use std::alloc::{AllocError, Global};
+use waits::{
+    Mismatch, Standing, cycle, edges, fitting, misses_in, near_misses, operation_of, standing_of,
+};
 
 /// The most entries of a list that is cut in large programs alone.
 pub const MOST_OF_LARGE: usize = 16;

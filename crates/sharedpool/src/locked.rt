@@ -14,7 +14,6 @@ ghost use Rattle.sharedpool.specs.Told.{IsTold, IsDerivedFrom};
 use crate::note::{match_lists, note};
 use crate::room::{Cell, PoolName, StepsName, Token};
 use crate::seat::Ticket;
-use refutations::Batch;
 use clauses::Lit;
 use pages::{Lines, Log};
 use pool::{
@@ -22,6 +21,7 @@ use pool::{
     Pool, PublishFault, SplitFault, Status, Why,
 };
 use prooflog::Evidence;
+use refutations::Batch;
 use semantics::Step;
 use std::alloc::{AllocError, Global};
 use std::marker::{Brand, Model, PhantomData};

@@ -10,10 +10,10 @@ ghost use Rattle.sharedpool.specs.Views.{items_of, AllBelow, AreDifferent};
 
 use crate::passes::{join, take_back};
 use crate::room::{Cell, PoolName, Token};
-use refutations::{Batch, PartialAssignment};
 use clauses::Formula;
 use pages::{Lines, Log};
 use pool::{DerivedLines, FetchFault, MOST_LINES, derived_lines};
+use refutations::{Batch, PartialAssignment};
 use std::alloc::{AllocError, Global};
 use std::marker::{Model, PhantomData};
 use std::sync::Wait;

@@ -14,7 +14,6 @@ use crate::locked::Locked;
 use crate::passes::take_seat;
 use crate::room::{Cell, PoolName, Token};
 use crate::seat::{Seat, derived_from, follow};
-use refutations::Batch;
 use clauses::{Formula, Lit};
 use encode::Encoded;
 use pages::Lines;
@@ -23,6 +22,7 @@ use pool::{
     SplitFault, Status, Why,
 };
 use prooflog::Evidence;
+use refutations::Batch;
 use semantics::Step;
 use std::alloc::{AllocError, Global};
 use std::sync::{Arc, Mutex, Wait};

@@ -4,9 +4,9 @@
 use crate::lines::{count_calls, is_call, lines_of};
 use balance::{Imbalance, imbalances};
 use callorder::{Kind, Program};
-use waits::{Mismatch, misses_in};
 use plaintext::words_of;
 use std::alloc::{AllocError, Global};
+use waits::{Mismatch, misses_in};
 
 /// The number of a line that is never left out for its own sake: a wait, or a receive on a handle.
 pub const FOLLOWS: usize = usize::MAX;

@@ -353,7 +353,13 @@ fn tail(parser: &mut Parser<'_>, at: &mut u32, depth: u32) -> Made
 
 /// A statement after its first word.
 #[cycle(statements)]
-fn rest_of_statement(parser: &mut Parser<'_>, at: &mut u32, word: Word, line: u32, depth: u32) -> Made
+fn rest_of_statement(
+    parser: &mut Parser<'_>,
+    at: &mut u32,
+    word: Word,
+    line: u32,
+    depth: u32,
+) -> Made
     ensures reads { is_first word ≡ true → Reads (begun_part (scope_of parser.old) depth line word) parser.old parser.new (held result) }
     ensures stays { (why : ParseReason) → parser.old.fault ≡ Some why → at.new ≡ at.old }
     ensures line { (block : Block) (outer : List Level) → is_settled block ≡ true →

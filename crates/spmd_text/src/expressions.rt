@@ -147,7 +147,12 @@ fn want(parser: &mut Parser<'_>, part: &Expression, condition: bool)
 }
 
 /// Two parts with a joint between them, of which the left one goes with it.
-fn put_joint(parser: &mut Parser<'_>, joint: Joint, left: Expression, right: Expression) -> Expression
+fn put_joint(
+    parser: &mut Parser<'_>,
+    joint: Joint,
+    left: Expression,
+    right: Expression,
+) -> Expression
     ensures goes { Goes parser.old parser.new }
     ensures joined { (a b : Expression) (p q : Place) (rest : List Token) → Stands parser.old rest →
         Alike left a → Alike right b → may_join joint a b ≡ true →

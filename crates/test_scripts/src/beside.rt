@@ -2,11 +2,11 @@
 use crate::given::{Given, add};
 use crate::reading::cut_number;
 use crate::searches::{accept, next_number};
-use refutations::{Batch, Line};
 use cdcl::{Found, SolveFault};
 use encode::Encoded;
 use matchset_search::{ClosedState, InProgress, SHORT, StateSearch};
 use pages::Lines;
+use refutations::{Batch, Line};
 use std::alloc::{AllocError, Global};
 use std::mem;
 use std::ops::Range;

@@ -1,8 +1,8 @@
 //! What the words of a script stand for. Where they stand for nothing, the reply says so.
 use crate::given::{Given, MEMORY, add};
-use refutations::{Batch, BatchLine, Hint, Line, MakeLineFault, Node, ProofTree};
 use clauses::{Assignment, Clause, ClauseFault, Formula, Lit};
 use pool::{Event, Why};
+use refutations::{Batch, BatchLine, Hint, Line, MakeLineFault, Node, ProofTree};
 use semantics::Step;
 
 /// What is written as a word, or as a part of a text.

@@ -3,11 +3,11 @@
 ghost use Rattle.std.specs.Prelude.{◌≡◌, IfOk, length};
 ghost use Rattle.waits.specs.Misses.{misses_in, is_unmatched_fit, is_near_miss, has_unmatched_fit, near_misses, unmatched_misses};
 
+use crate::fits_with;
 use crate::parts::{Mismatch, missed_by};
 use callorder::LongProgram;
 use semantics::State;
 use std::alloc::{AllocError, Global};
-use crate::fits_with;
 
 /// The one part in which the calls at two places miss each other, if one is a send, the other a
 /// receive or a matched probe, or, where the first call is that, a probe, and all other parts hold.

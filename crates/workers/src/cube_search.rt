@@ -9,10 +9,10 @@ use crate::numbers::number_of;
 use crate::source::Cubes;
 use crate::stop::Stop;
 use crate::worker::Worker;
-use refutations::{Batch, Hint};
 use cdcl::Found;
 use clauses::Lit;
 use pool::{Share, SplitFault, Why};
+use refutations::{Batch, Hint};
 use std::sync::Wait;
 
 /// How many conflicts one search counts at most, since what others find meanwhile is seen after

@@ -1,7 +1,6 @@
 //! A pool under a lock, which may lie, and which notes what it is asked and what its gate is told.
 
 use crate::searches::trail::Trail;
-use refutations::{Batch, Line};
 use clauses::{LARGEST_VARIABLE, Lit};
 use pages::Lines;
 use pool::{
@@ -9,6 +8,7 @@ use pool::{
     SplitFault, Status, Why,
 };
 use prooflog::Evidence;
+use refutations::{Batch, Line};
 use semantics::Step;
 use std::alloc::{AllocError, Global};
 use std::sync::{Mutex, Wait};

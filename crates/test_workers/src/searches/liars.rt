@@ -6,11 +6,11 @@ ghost use Rattle.crossbeam_utils.specs.Seq.{cell_view};
 ghost use Rattle.sharedpool.specs.Views.{knower};
 
 use crate::searches::{ENOUGH, MANNERS, RELAY, encoded, shown_by, tree_of};
-use refutations::{Batch, BatchLine, Hint};
 use clauses::{Clause, Lit};
 use encode::Encoded;
 use pool::{CloseFault, Entry, FoundFault, Operation, Pool, PublishFault, Share};
 use prooflog::{Evidence, write_evidence};
+use refutations::{Batch, BatchLine, Hint};
 use sharedpool::{Cell, PoolName, Seat, SharedPool, Token, open_room};
 use std::alloc::Global;
 use std::marker::Brand;
