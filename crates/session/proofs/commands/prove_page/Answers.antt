@@ -53,14 +53,14 @@ pub returns-clause-page : goal.returns-clause-page
 returns-clause-page g c =
     let held = g.F.FileSet.held c.args.files.now in
     page_told g.F.FileSet.tells_written held (g.F.FileSet.held c.read_program.new.files) (g.F.FileSet.held c.answer_page.new.files) c.args.asked.program.now
-    (option_map (λ path. path.now) c.args.asked.out) c.args.asked.options.budget c.args.asked.json c.deref.result.now c.searched-answer.result c.answer_page.result
+    (option_map (λ path. path.now) c.args.asked.out) c.args.asked.options.budget c.args.asked.json c.deref.result.now c.search-answer.result c.answer_page.result
     c.in_ok-text.ensures.same (subst (StandsFor AreAlikePrograms (held c.args.asked.program.now)) (sym c.deref.ensures.value) c.in_ok-text.ensures.bytes)
-    c.searched-answer.ensures.answers c.searched-answer.ensures.finishes c.answer_page.ensures.handed c.answer_page.ensures.line
+    c.search-answer.ensures.answers c.search-answer.ensures.finishes c.answer_page.ensures.handed c.answer_page.ensures.line
 
 pub returns-clause-stop : goal.returns-clause-stop
 returns-clause-stop g c =
     let held = g.F.FileSet.held c.args.files.now in
     stops_told (g.F.FileSet.reads c.args.files.now) held (g.F.FileSet.held c.read_program.new.files) (g.F.FileSet.held c.answer_page.new.files) c.args.asked.program.now
-    (option_map (λ path. path.now) c.args.asked.out) c.deref.result.now c.searched-answer.result c.answer_page.result
+    (option_map (λ path. path.now) c.args.asked.out) c.deref.result.now c.search-answer.result c.answer_page.result
     c.in_ok-text.ensures.same (subst (StandsFor AreAlikePrograms (held c.args.asked.program.now)) (sym c.deref.ensures.value) c.in_ok-text.ensures.bytes)
-    c.searched-answer.ensures.answers c.answer_page.ensures.stop
+    c.search-answer.ensures.answers c.answer_page.ensures.stop

@@ -64,7 +64,7 @@ looped-returns-then-depth-eq0-clause-reads t c =
 
 pub begun-returns-in-For-clause-reads : goal.begun-returns-in-For-clause-reads
 begun-returns-in-For-clause-reads t c first =
-    subst (λ (w : Word). Reads (begun_part (scope_of c.args.parser.now) c.args.depth c.args.line w) c.args.parser.now c.for_loop.new.parser (held c.looped.result)) (sym c.in-For.is) c.for_loop.ensures.reads
+    subst (λ (w : Word). Reads (begun_part (scope_of c.args.parser.now) c.args.depth c.args.line w) c.args.parser.now c.for_loop.new.parser (held c.for_loop.result)) (sym c.in-For.is) c.for_loop.ensures.reads
 
 pub begun-returns-in-If-clause-reads : goal.begun-returns-in-If-clause-reads
 begun-returns-in-If-clause-reads t c first =

@@ -25,7 +25,7 @@ behind_prefix-returns-clause-complete t c = λ a p rest ahead may.
     let old : Parser = c.args.parser.now in
     let i = inner c.args.prefix c.args.least c.args.depth old.in_parameter p a old.rest.now rest ahead.spelled ahead.within may in
     let stands = stepped old c.step.new.self i.begin i.first c.step.ensures.left c.step.ensures.fault ahead.sound i.begins in
-    found_then c.expression-inner.new.parser c.put_prefix.new.parser i.behind rest (Alike c.expression-inner.result a) (Alike c.prefixed.result (enclosed c.args.prefix p a))
+    found_then c.expression-inner.new.parser c.put_prefix.new.parser i.behind rest (Alike c.expression-inner.result a) (Alike c.put_prefix.result (enclosed c.args.prefix p a))
     (c.expression-inner.ensures.complete a i.behind
     (ahead_at old c.step.new.self (c.args.depth - 1) a i.first i.behind c.step.ensures.goes stands i.spelled i.within)
     (subst (λ (k : ℕ). MayStand k a i.behind) (sym c.inside.ensures) i.stand))
@@ -113,23 +113,23 @@ joins-loop-joint-preserved t c =
     let s2 : Parser = c.want.new.parser in
     let s3 : Parser = c.step.new.self in
     let s4 : Parser = c.expression-right.new.parser in
-    let s5 : Parser = c.joined-left.new.parser in
+    let s5 : Parser = c.put_joint-left.new.parser in
     let to3 : Goes s s3 = goes_on s s2 s3 c.want.ensures.goes c.step.ensures.goes in
-    let to5 : Goes s s5 = goes_on s s3 s5 to3 (goes_on s3 s4 s5 c.expression-right.ensures.goes c.joined-left.ensures.goes) in
+    let to5 : Goes s s5 = goes_on s s3 s5 to3 (goes_on s3 s4 s5 c.expression-right.ensures.goes c.put_joint-left.ensures.goes) in
     record {
       goes = goes_on c.args.parser.now s s5 c.loop-joint.invariant.goes to5;
-      complete = λ e rest g. so_far s s5 (Growing s c.loop-joint.left c.loop-joint.row c.args.least c.args.depth e rest) (Growing s5 c.joined-left.result c.in-Ok.longer c.args.least c.args.depth e rest) to5.sticks (c.loop-joint.invariant.complete e rest g)
-          (λ at. grown s s2 s3 s4 s5 c.loop-joint.left c.expression-right.result c.joined-left.result c.loop-joint.row c.in-Ok.longer c.in-Some.joint c.args.least c.args.depth c.binding_of.result c.joins_conditions.result c.joint_ahead.result e rest
+      complete = λ e rest g. so_far s s5 (Growing s c.loop-joint.left c.loop-joint.row c.args.least c.args.depth e rest) (Growing s5 c.put_joint-left.result c.in-Ok.longer c.args.least c.args.depth e rest) to5.sticks (c.loop-joint.invariant.complete e rest g)
+          (λ at. grown s s2 s3 s4 s5 c.loop-joint.left c.expression-right.result c.put_joint-left.result c.loop-joint.row c.in-Ok.longer c.in-Some.joint c.args.least c.args.depth c.binding_of.result c.joins_conditions.result c.joint_ahead.result e rest
           (c.joint_ahead.ensures ∙ ap (λ (x : _). joint_ahead (joint_of x) c.loop-joint.row.binding c.args.least) c.piece.ensures) c.in-Some.is
           (row_found c.loop-joint.row c.in-Ok.longer c.in-Some.joint c.longer.result c.longer.ensures.complete c.in-Ok.is) c.joins_conditions.ensures c.want.ensures.right c.step.ensures.left c.step.ensures.fault to3 c.binding_of.ensures.binding
-          c.expression-right.ensures.complete c.expression-right.ensures.goes c.joined-left.ensures.joined c.joined-left.ensures.goes at);
+          c.expression-right.ensures.complete c.expression-right.ensures.goes c.put_joint-left.ensures.joined c.put_joint-left.ensures.goes at);
       sound = λ here sound so.
           let before = sound_before s s5 to5 sound in
-          one_more here s s2 s3 s4 s5 c.loop-joint.left c.expression-right.result c.joined-left.result c.loop-joint.row c.in-Ok.longer c.in-Some.joint c.args.least c.args.depth c.binding_of.result c.joins_conditions.result c.joint_ahead.result
+          one_more here s s2 s3 s4 s5 c.loop-joint.left c.expression-right.result c.put_joint-left.result c.loop-joint.row c.in-Ok.longer c.in-Some.joint c.args.least c.args.depth c.binding_of.result c.joins_conditions.result c.joint_ahead.result
           sound (c.joint_ahead.ensures ∙ ap (λ (x : _). joint_ahead (joint_of x) c.loop-joint.row.binding c.args.least) c.piece.ensures) c.in-Some.is
           (λ a b p q row_so. c.longer.ensures.sound c.in-Ok.longer a b p q c.in-Ok.is row_so)
           c.joins_conditions.ensures c.want.ensures.goes c.want.ensures.sound c.step.ensures.left c.step.ensures.goes c.binding_of.ensures.binding c.binding_of.ensures.most
-          c.expression-right.ensures.sound c.expression-right.ensures.goes c.joined-left.ensures.sound c.joined-left.ensures.goes
+          c.expression-right.ensures.sound c.expression-right.ensures.goes c.put_joint-left.ensures.sound c.put_joint-left.ensures.goes
           (c.loop-joint.invariant.sound here before so);
     }
 
@@ -195,7 +195,7 @@ expression-returns-clause-sound t c = λ sound most.
 
 pub behind_prefix-returns-clause-sound : goal.behind_prefix-returns-clause-sound
 behind_prefix-returns-clause-sound t c = λ sound begins.
-    prefix_begun c.args.parser.now c.step.new.self c.expression-inner.new.parser c.put_prefix.new.parser c.args.prefix c.args.least c.args.depth c.inside.result c.expression-inner.result c.prefixed.result
+    prefix_begun c.args.parser.now c.step.new.self c.expression-inner.new.parser c.put_prefix.new.parser c.args.prefix c.args.least c.args.depth c.inside.result c.expression-inner.result c.put_prefix.result
     sound begins (omega (arith, c.if-depth-eq0.false)) c.step.ensures.left c.step.ensures.goes c.inside.ensures c.expression-inner.ensures.sound c.put_prefix.ensures.sound c.put_prefix.ensures.goes
 
 pub choice_at-returns-clause-sound : goal.choice_at-returns-clause-sound

@@ -22,5 +22,5 @@ returns-clause-sound c = λ sound.
     let after = sound_before c.want-2.new.parser c.keep_made.new.parser c.keep_made.ensures.goes sound in
     let second = c.want-2.ensures.sound after in
     let first = c.want.ensures.sound (sound_before c.want.new.parser c.want-2.new.parser c.want-2.ensures.goes after) in
-    let made = ok_so c.choice.result c.kept.result (λ (made : Expression). (p : Place) × (q : Place) × (s : Place) × (made ≡ form.Choice' p c.args.condition q c.args.yes s c.args.no)) k.0 c.choice.ensures in
+    let made = ok_so c.choice.result c.keep_made.result (λ (made : Expression). (p : Place) × (q : Place) × (s : Place) × (made ≡ form.Choice' p c.args.condition q c.args.yes s c.args.no)) k.0 c.choice.ensures in
     record { p = made.0; q = made.1; s = made.2; is = made.3; same = k.1 ∙ (second.0 ∙ first.0); yes_number = first.1; no_number = second.1 }

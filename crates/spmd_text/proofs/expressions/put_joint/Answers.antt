@@ -20,5 +20,5 @@ pub returns-clause-sound : goal.returns-clause-sound
 returns-clause-sound c = λ sound.
     let k = c.keep_made.ensures.sound sound in
     let w = c.want.ensures.sound (sound_before c.want.new.parser c.keep_made.new.parser c.keep_made.ensures.goes sound) in
-    let made = ok_so c.pair.result c.kept.result (λ (made : Expression). (p : Place) × (q : Place) × (made ≡ joined c.args.joint p c.args.left q c.args.right)) k.0 c.pair.ensures in
+    let made = ok_so c.pair.result c.keep_made.result (λ (made : Expression). (p : Place) × (q : Place) × (made ≡ joined c.args.joint p c.args.left q c.args.right)) k.0 c.pair.ensures in
     record { p = made.0; q = made.1; is = made.2; same = k.1 ∙ w.0; kind = w.1 ∙ c.joins_conditions.ensures }

@@ -20,5 +20,5 @@ pub returns-clause-sound : goal.returns-clause-sound
 returns-clause-sound c = λ sound.
     let k = c.keep_made.ensures.sound sound in
     let e = c.end_prefix.ensures.sound (sound_before c.end_prefix.new.parser c.keep_made.new.parser c.keep_made.ensures.goes sound) in
-    let made = ok_so c.enclosed.result c.kept.result (λ (made : Expression). (p : Place) × (made ≡ enclosed c.args.prefix p c.args.inner)) k.0 c.enclosed.ensures in
+    let made = ok_so c.enclosed.result c.keep_made.result (λ (made : Expression). (p : Place) × (made ≡ enclosed c.args.prefix p c.args.inner)) k.0 c.enclosed.ensures in
     record { p = made.0; is = made.1; ends = subst (λ (s : Parser). ends_prefix c.args.prefix c.args.inner c.args.parser.now.rest.now s.rest.now) (sym k.1) e }

@@ -22,13 +22,13 @@ returns-in-Waitall c depth simple =
 
 pub returns-in-Param : goal.returns-in-Param
 returns-in-Param c depth simple =
-    subst (λ (w : Word). Reads (begun_part (scope_of c.args.parser.now) depth c.args.line w) c.args.parser.now c.refuse.new.parser (held c.refused.result)) (sym c.in-Param.is)
+    subst (λ (w : Word). Reads (begun_part (scope_of c.args.parser.now) depth c.args.line w) c.args.parser.now c.refuse.new.parser (held c.refuse.result)) (sym c.in-Param.is)
     (refused_read _ c.refuse.ensures (λ x rest sound e may ends. no_form c.args.parser.now depth c.args.line word.Param x refl refl may))
 
 pub returns-in-Policy : goal.returns-in-Policy
 returns-in-Policy c depth simple =
-    subst (λ (w : Word). Reads (begun_part (scope_of c.args.parser.now) depth c.args.line w) c.args.parser.now c.refused-in-Policy.new.parser (held c.refused-in-Policy.result)) (sym c.in-Policy.is)
-    (refused_read _ c.refused-in-Policy.ensures (λ x rest sound e may ends. no_form c.args.parser.now depth c.args.line word.Policy x refl refl may))
+    subst (λ (w : Word). Reads (begun_part (scope_of c.args.parser.now) depth c.args.line w) c.args.parser.now c.refuse-in-Policy.new.parser (held c.refuse-in-Policy.result)) (sym c.in-Policy.is)
+    (refused_read _ c.refuse-in-Policy.ensures (λ x rest sound e may ends. no_form c.args.parser.now depth c.args.line word.Policy x refl refl may))
 
 pub returns-in_default : goal.returns-in_default
 returns-in_default c depth simple =
