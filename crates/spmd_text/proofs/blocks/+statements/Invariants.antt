@@ -4,14 +4,14 @@ use Rattle.spmd_text.proofs.BlockLines.{SoFar}
 use Rattle.spmd_text.proofs.blocks.+statements.Given as goal
 
 -- the statements of a block are one deeper than it
-abbrev pub decreases-looped : goal.decreases-looped
-decreases-looped l = l.depth * 8
+abbrev pub decreases-for_loop : goal.decreases-for_loop
+decreases-for_loop l = l.depth * 8
 
 abbrev pub decreases-branch : goal.decreases-branch
 decreases-branch l = l.depth * 8
 
-abbrev pub decreases-begun : goal.decreases-begun
-decreases-begun l = l.depth * 8 + 1
+abbrev pub decreases-rest_of_statement : goal.decreases-rest_of_statement
+decreases-rest_of_statement l = l.depth * 8 + 1
 
 abbrev pub decreases-statement : goal.decreases-statement
 decreases-statement l = l.depth * 8 + 2
