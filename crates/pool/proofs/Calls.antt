@@ -20,17 +20,17 @@ use Rattle.pool.specs.Calls.{wants_memory, after_call}
 use Rattle.pool.specs.Replies.{resolved, resolved_lines, DeriveAfter, FailsAt}
 use Rattle.pool.specs.States.{PoolState, PoolWithHistory, noted, next_number, IsReply, IsStep, publish_item, IsPublished, fetch_item, IsFetched, found_item, IsFound}
 
-answered : (h : PoolState) (deed : Operation) (lines : List ProofLine) (steps : List Step) → IsReply h deed lines steps → wants_memory deed ≡ false
+answered : (h : PoolState) (operation : Operation) (lines : List ProofLine) (steps : List Step) → IsReply h operation lines steps → wants_memory operation ≡ false
 answered h (Publish count (Err publish.Memory)) lines steps is = absurd is
 answered h (Fetch from (Err fetch.Memory)) lines steps is = absurd (is.1 refl)
 answered h (Close leaf number (Err close.Memory)) lines steps is = absurd (is.1 refl)
 answered h (Split leaf variable (Err split.Memory)) lines steps is = absurd (is.1 refl)
 answered h (Found count (Err found.Memory)) lines steps is = absurd (is refl)
-answered h deed lines steps is = refl
+answered h operation lines steps is = refl
 
 -- what a step makes of the pool
 pub step_noted : (k : PoolWithHistory) (item : LoggedCall) → IsStep k.held item → after_call k item ≡ noted k item
-step_noted k item step = ap (λ b. if b then k else noted k item) (answered k.held item.entry.deed item.lines item.steps step)
+step_noted k item step = ap (λ b. if b then k else noted k item) (answered k.held item.entry.operation item.lines item.steps step)
 
 fails_within : (h : PoolState) (batch : List BatchLine) (base place : ℕ) → FailsAt h.formula h.log (resolved_lines base batch) place → place < length batch
 fails_within h batch base place fails = subst (λ n. place < n) (length-map batch (resolved base)) (slice_get_within (resolved_lines base batch) place fails.line fails.there)

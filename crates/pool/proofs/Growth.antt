@@ -12,7 +12,7 @@ use Rattle.pool.specs.declared.entry.Operation.TheVariants.{Publish, Fetch, Clos
 use Rattle.pool.specs.declared.entry.LoggedCall.{LoggedCall}
 use Rattle.pool.specs.Moves.{ToldStands}
 use Rattle.pool.specs.Growth.{first_place, Tells, IsFetchAfter, LogsGrow, BasesRise, RunsLoseNothing}
-use Rattle.pool.specs.States.{PoolState, IsReply, IsStep, IsRun, next_number, after, after_deed, after_all}
+use Rattle.pool.specs.States.{PoolState, IsReply, IsStep, IsRun, next_number, after, after_operation, after_all}
 
 abbrev pub Grows : PoolState → PoolState → Type 0
 Grows h k = (k.program ≡ h.program) × (k.formula ≡ h.formula) × (more : List ProofLine) × (k.log ≡ h.log ++ more)
@@ -20,17 +20,17 @@ Grows h k = (k.program ≡ h.program) × (k.formula ≡ h.formula) × (more : Li
 same_held : (h : PoolState) → Grows h h
 same_held h = (refl, refl, [], sym (append-nil h.log))
 
-pub grows_once : (h : PoolState) (deed : Operation) (lines : List ProofLine) (steps : List Step) → Grows h (after_deed h deed lines steps)
+pub grows_once : (h : PoolState) (operation : Operation) (lines : List ProofLine) (steps : List Step) → Grows h (after_operation h operation lines steps)
 grows_once h (Publish count (Ok base)) lines steps = (refl, refl, lines, refl)
 grows_once h (Close leaf number (Ok _)) lines steps = same_held h
 grows_once h (Split leaf variable (Ok nodes)) lines steps = same_held h
 grows_once h (Found count (Ok _)) lines steps = same_held h
-grows_once h deed lines steps = same_held h
+grows_once h operation lines steps = same_held h
 
 pub grows : (h : PoolState) (items : List LoggedCall) → Grows h (after_all h items)
 grows h [] = same_held h
 grows h (item ∷ items) =
-    let once = grows_once h item.entry.deed item.lines item.steps in
+    let once = grows_once h item.entry.operation item.lines item.steps in
     let rest = grows (after h item) items in
     (rest.0 ∙ once.0, rest.1 ∙ once.1, once.2 ++ rest.2, rest.3 ∙ ap (λ l. l ++ rest.2) once.3 ∙ append_assoc h.log once.2 rest.2)
 
@@ -51,21 +51,21 @@ next_grows h k grown =
     let lines : length k.log ≡ length h.log + length grown.2 = ap length grown.3 ∙ length-append h.log grown.2 in
     omega arith
 
-base_now : (h : PoolState) (item : LoggedCall) (count base : ℕ) → IsStep h item → item.entry.deed ≡ Publish count (Ok base) → (base ≡ next_number h) × (next_number (after h item) ≡ base + count)
+base_now : (h : PoolState) (item : LoggedCall) (count base : ℕ) → IsStep h item → item.entry.operation ≡ Publish count (Ok base) → (base ≡ next_number h) × (next_number (after h item) ≡ base + count)
 base_now h item count base step is =
     let reply = subst (λ (d : Operation). IsReply h d item.lines item.steps) is step in
     let lines : length (h.log ++ item.lines) ≡ length h.log + length item.lines = length-append h.log item.lines in
-    let past : next_number (after_deed h (Publish count (Ok base)) item.lines item.steps) ≡ base + count = omega (arith, reply.0, reply.1, lines) in
-    (reply.1, ap (λ (d : Operation). next_number (after_deed h d item.lines item.steps)) is ∙ past)
+    let past : next_number (after_operation h (Publish count (Ok base)) item.lines item.steps) ≡ base + count = omega (arith, reply.0, reply.1, lines) in
+    (reply.1, ap (λ (d : Operation). next_number (after_operation h d item.lines item.steps)) is ∙ past)
 
-base_later : (h : PoolState) (items : List LoggedCall) (j : ℕ) (later : LoggedCall) (count base : ℕ) → IsRun h items → slice_get items j ≡ Some later → later.entry.deed ≡ Publish count (Ok base) → next_number h ≤ base
+base_later : (h : PoolState) (items : List LoggedCall) (j : ℕ) (later : LoggedCall) (count base : ℕ) → IsRun h items → slice_get items j ≡ Some later → later.entry.operation ≡ Publish count (Ok base) → next_number h ≤ base
 base_later h [] j later count base run there is = absurd (let told : ◌≡◌ {A = Option LoggedCall} None (Some later) = there in cc)
 base_later h (item ∷ items) zero later count base run there is =
     let same : item ≡ later = cc in
-    let now = base_now h item count base run.0 (ap (λ (i : LoggedCall). i.entry.deed) same ∙ is) in
+    let now = base_now h item count base run.0 (ap (λ (i : LoggedCall). i.entry.operation) same ∙ is) in
     omega (arith, now.0)
 base_later h (item ∷ items) (suc j) later count base run there is =
-    let grown = next_grows h (after h item) (grows_once h item.entry.deed item.lines item.steps) in
+    let grown = next_grows h (after h item) (grows_once h item.entry.operation item.lines item.steps) in
     let rest = base_later (after h item) items j later count base run.1 there is in
     omega (arith, grown, rest)
 
@@ -74,7 +74,7 @@ bases_rise h [] i j one later count next_count base next run low first second is
 bases_rise h (item ∷ items) i zero one later count next_count base next run low first second is next_is = absurd (omega arith)
 bases_rise h (item ∷ items) zero (suc j) one later count next_count base next run low first second is next_is =
     let same : item ≡ one = cc in
-    let now = base_now h item count base run.0 (ap (λ (i : LoggedCall). i.entry.deed) same ∙ is) in
+    let now = base_now h item count base run.0 (ap (λ (i : LoggedCall). i.entry.operation) same ∙ is) in
     let rest = base_later (after h item) items j later next_count next run.1 second next_is in
     omega (arith, now.1, rest)
 bases_rise h (item ∷ items) (suc i) (suc j) one later count next_count base next run low first second is next_is =
@@ -101,8 +101,8 @@ no_place : (first : ℕ) {A : Type 0} → ◌≡◌ {A = Option ℕ} None (Some 
 no_place first e = absurd (cc)
 
 -- what a call tells stands in the log after it
-stands_after : (formula : Conjunction) (h : PoolState) (deed : Operation) (lines : List ProofLine) (steps : List Step) (first place : ℕ) (line : ProofLine) → h.formula ≡ formula → IsReply h deed lines steps
-    → first_place formula deed ≡ Some first → first ≤ place → slice_get lines (place - first) ≡ Some line → slice_get (after_deed h deed lines steps).log place ≡ Some line
+stands_after : (formula : Conjunction) (h : PoolState) (operation : Operation) (lines : List ProofLine) (steps : List Step) (first place : ℕ) (line : ProofLine) → h.formula ≡ formula → IsReply h operation lines steps
+    → first_place formula operation ≡ Some first → first ≤ place → slice_get lines (place - first) ≡ Some line → slice_get (after_operation h operation lines steps).log place ≡ Some line
 stands_after formula h (Publish count (Ok base)) lines steps first place line same reply begins past there =
     let clauses : length h.formula.clauses ≡ length formula.clauses = ap (λ (f : Conjunction). length f.clauses) same in
     let told : base - (length formula.clauses + 1) ≡ first = cc in
@@ -112,7 +112,7 @@ stands_after formula h (Fetch from (Ok count)) lines steps first place line same
     let told : first ≡ from = cc in
     let lines_are : lines ≡ drop first h.log = reply.0.1 ∙ ap (λ n. drop n h.log) (sym told) in
     sym (drop_at first place h.log past) ∙ ap (λ (l : List ProofLine). slice_get l (place - first)) (sym lines_are) ∙ there
-stands_after formula h deed lines steps first place line same reply begins past there = no_place first begins
+stands_after formula h operation lines steps first place line same reply begins past there = no_place first begins
 
 -- what stands in the log a fetch from there or before tells
 pub told_now : (formula : Conjunction) (h : PoolState) (item : LoggedCall) (place from : ℕ) (line : ProofLine) → IsStep h item → slice_get h.log place ≡ Some line → IsFetchAfter from item → from ≤ place → Tells formula item place line
@@ -132,7 +132,7 @@ told_later formula h (item ∷ items) zero later place from line run there stand
     let same : item ≡ later = cc in
     told_now formula h later place from line (subst (IsStep h) same run.0) stands is past
 told_later formula h (item ∷ items) (suc j) later place from line run there stands is past =
-    let grown = grows_once h item.entry.deed item.lines item.steps in
+    let grown = grows_once h item.entry.operation item.lines item.steps in
     told_later formula (after h item) items j later place from line run.1 there (stays h (after h item) place line grown stands) is past
 
 nothing_lost : (formula : Conjunction) (h : PoolState) (items : List LoggedCall) (i j : ℕ) (one later : LoggedCall) (place from : ℕ) (line : ProofLine) → h.formula ≡ formula → IsRun h items → i < j
@@ -142,10 +142,10 @@ nothing_lost formula h (item ∷ items) i zero one later place from line same ru
 nothing_lost formula h (item ∷ items) zero (suc j) one later place from line same run low first second tells is past =
     let here : item ≡ one = cc in
     let t : Tells formula item place line = subst (λ (x : LoggedCall). Tells formula x place line) (sym here) tells in
-    let stands = stands_after formula h item.entry.deed item.lines item.steps t.first place line same run.0 t.begins t.past t.there in
+    let stands = stands_after formula h item.entry.operation item.lines item.steps t.first place line same run.0 t.begins t.past t.there in
     told_later formula (after h item) items j later place from line run.1 second stands is past
 nothing_lost formula h (item ∷ items) (suc i) (suc j) one later place from line same run low first second tells is past =
-    let kept = (grows_once h item.entry.deed item.lines item.steps).1 in
+    let kept = (grows_once h item.entry.operation item.lines item.steps).1 in
     nothing_lost formula (after h item) items i j one later place from line (kept ∙ same) run.1 (omega arith) first second tells is past
 
 pub lose_nothing : RunsLoseNothing
@@ -156,10 +156,10 @@ told_stands_in formula h [] one i place line same run there tells = absurd (let 
 told_stands_in formula h (item ∷ items) one zero place line same run there tells =
     let here : item ≡ one = cc in
     let t : Tells formula item place line = subst (λ (x : LoggedCall). Tells formula x place line) (sym here) tells in
-    let stands = stands_after formula h item.entry.deed item.lines item.steps t.first place line same run.0 t.begins t.past t.there in
+    let stands = stands_after formula h item.entry.operation item.lines item.steps t.first place line same run.0 t.begins t.past t.there in
     stays (after h item) (after_all (after h item) items) place line (grows (after h item) items) stands
 told_stands_in formula h (item ∷ items) one (suc i) place line same run there tells =
-    let kept = (grows_once h item.entry.deed item.lines item.steps).1 in
+    let kept = (grows_once h item.entry.operation item.lines item.steps).1 in
     told_stands_in formula (after h item) items one i place line (kept ∙ same) run.1 there tells
 
 pub told_stands : ToldStands

@@ -12,7 +12,7 @@ use Rattle.trees.proofs.Written.{root_hangs}
 use Rattle.pool.specs.declared.entry.Operation.{Operation}
 use Rattle.pool.specs.declared.entry.Operation.TheVariants.{Publish, Close, Split, Found, Leave}
 use Rattle.pool.specs.Laws.{LeavesCover, ClosedPoolsRefute, RunsStaySound}
-use Rattle.pool.specs.States.{PoolState, IsSound, IsReply, after_deed, after}
+use Rattle.pool.specs.States.{PoolState, IsSound, IsReply, after_operation, after}
 use Rattle.pool.proofs.Assembling.{accepts, all_refuted}
 use Rattle.pool.proofs.Soundness.{sound_with, sound_publish, sound_close, sound_split}
 
@@ -20,7 +20,7 @@ first_stuck : (program : MpiProgram) (schedule : Option (List Step)) (steps : Li
 first_stuck program None steps kept stuck = stuck
 first_stuck program (Some first) steps kept stuck = kept
 
-sound_after : (h : PoolState) (deed : Operation) (lines : List ProofLine) (steps : List Step) → IsSound h → IsReply h deed lines steps → IsSound (after_deed h deed lines steps)
+sound_after : (h : PoolState) (operation : Operation) (lines : List ProofLine) (steps : List Step) → IsSound h → IsReply h operation lines steps → IsSound (after_operation h operation lines steps)
 sound_after h (Publish count (Ok base)) lines steps s r = sound_publish h lines _ refl s r.2 (omega (arith, r.0, r.3))
 sound_after h (Close leaf number (Ok _)) lines steps s r = sound_close h leaf number s r.0.1
 sound_after h (Split leaf variable (Ok nodes)) lines steps s r = sound_split h leaf variable s r.0.0.0 r.0.3.0 r.0.3.1 r.0.2
@@ -36,11 +36,11 @@ sound_after h (Found count (Ok _)) lines steps s r =
       stuck = first_stuck h.program h.schedule steps s.stuck r.0;
     }
 sound_after h (Leave why) lines steps s r = sound_with h _ s
-sound_after h deed lines steps s r = s
+sound_after h operation lines steps s r = s
 
 pub stay_sound : RunsStaySound
 stay_sound h [] s run = s
-stay_sound h (item ∷ items) s run = stay_sound (after h item) items (sound_after h item.entry.deed item.lines item.steps s run.0) run.1
+stay_sound h (item ∷ items) s run = stay_sound (after h item) items (sound_after h item.entry.operation item.lines item.steps s run.0) run.1
 
 pub cover : LeavesCover
 cover h a s = one_leaf_for_each h.tree.variables h.tree.nodes a s.grown.grows

@@ -25,11 +25,11 @@ wants_memory (Fetch from (Err fetch.Memory)) = true
 wants_memory (Close leaf number (Err close.Memory)) = true
 wants_memory (Split leaf variable (Err split.Memory)) = true
 wants_memory (Found count (Err found.Memory)) = true
-wants_memory deed = false
+wants_memory operation = false
 
 -- want of memory changes nothing and is not in the history, and all else is noted
 abbrev pub after_call : PoolWithHistory → LoggedCall → PoolWithHistory
-after_call k item = if wants_memory item.entry.deed then k else noted k item
+after_call k item = if wants_memory item.entry.operation then k else noted k item
 
 abbrev pub published : PoolWithHistory → ℕ → List BatchLine → Result ℕ PublishFault → PoolWithHistory
 published k worker batch reply = after_call k (publish_item worker batch reply)

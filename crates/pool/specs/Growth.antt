@@ -12,18 +12,18 @@ use Rattle.pool.specs.States.{PoolState, IsRun, after_all}
 abbrev pub first_place : Conjunction → Operation → Option ℕ
 first_place formula (Publish count (Ok base)) = Some (base - (length formula.clauses + 1))
 first_place formula (Fetch from (Ok count)) = Some from
-first_place formula deed = None
+first_place formula operation = None
 
 -- by this call the line with this place in the log was published or told
 pub record Tells (formula : Conjunction) (item : LoggedCall) (place : ℕ) (line : ProofLine) : Type 0 where
   pub first : ℕ
-  pub begins : first_place formula item.entry.deed ≡ Some first
+  pub begins : first_place formula item.entry.operation ≡ Some first
   pub past : first ≤ place
   pub there : slice_get item.lines (place - first) ≡ Some line
 
 -- a fetch of the log after this many lines, which was accepted
 abbrev pub IsFetchAfter : ℕ → LoggedCall → Type 0
-IsFetchAfter from item = (count : ℕ) × (item.entry.deed ≡ Fetch from (Ok count))
+IsFetchAfter from item = (count : ℕ) × (item.entry.operation ≡ Fetch from (Ok count))
 
 -- each accepted fetch tells every line past its start that was published or told by an earlier call
 abbrev pub LosesNothing : Conjunction → List LoggedCall → Type 0
@@ -41,7 +41,7 @@ LogsGrow = (h : PoolState) (items : List LoggedCall) → (more : List ProofLine)
 abbrev pub BasesRise : Type 0
 BasesRise =
     (h : PoolState) (items : List LoggedCall) (i j : ℕ) (one later : LoggedCall) (count next_count base next : ℕ) → IsRun h items → i < j
-    → slice_get items i ≡ Some one → slice_get items j ≡ Some later → one.entry.deed ≡ Publish count (Ok base) → later.entry.deed ≡ Publish next_count (Ok next)
+    → slice_get items i ≡ Some one → slice_get items j ≡ Some later → one.entry.operation ≡ Publish count (Ok base) → later.entry.operation ≡ Publish next_count (Ok next)
     → base + count ≤ next
 
 -- in a run of calls no fetch lacks what was published or told before it

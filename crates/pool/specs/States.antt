@@ -97,17 +97,17 @@ with_reason reasons None = reasons
 with_reason reasons (Some why) = reasons ++ why ∷ []
 
 -- What one call makes of a pool: a refused one and a fetch nothing. Of schedules the first stays
-abbrev pub after_deed : PoolState → Operation → List ProofLine → List Step → PoolState
-after_deed h (Publish count (Ok base)) lines steps = record h { log = h.log ++ lines }
-after_deed h (Close leaf number (Ok _)) lines steps = record h { closed = slice_set h.closed leaf number }
-after_deed h (Split leaf variable (Ok nodes)) lines steps =
+abbrev pub after_operation : PoolState → Operation → List ProofLine → List Step → PoolState
+after_operation h (Publish count (Ok base)) lines steps = record h { log = h.log ++ lines }
+after_operation h (Close leaf number (Ok _)) lines steps = record h { closed = slice_set h.closed leaf number }
+after_operation h (Split leaf variable (Ok nodes)) lines steps =
     record h { tree = record h.tree { nodes = split_at h.tree.nodes leaf variable }; closed = h.closed ++ 0 ∷ 0 ∷ [] }
-after_deed h (Found count (Ok _)) lines steps = record h { schedule = Some (unwrap_or h.schedule steps) }
-after_deed h (Leave why) lines steps = record h { reasons = with_reason h.reasons why }
-after_deed h deed lines steps = h
+after_operation h (Found count (Ok _)) lines steps = record h { schedule = Some (unwrap_or h.schedule steps) }
+after_operation h (Leave why) lines steps = record h { reasons = with_reason h.reasons why }
+after_operation h operation lines steps = h
 
 abbrev pub after : PoolState → LoggedCall → PoolState
-after h item = after_deed h item.entry.deed item.lines item.steps
+after h item = after_operation h item.entry.operation item.lines item.steps
 
 abbrev pub noted : PoolWithHistory → LoggedCall → PoolWithHistory
 noted k item = record { held = after k.held item; history = k.history ++ item.entry ∷ []; places = k.places }
@@ -168,7 +168,7 @@ IsReply h (Found count (Err fault)) lines steps = fault ≢ found.Memory
 IsReply h (Leave why) lines steps = Unit {0}
 
 abbrev pub IsStep : PoolState → LoggedCall → Type 0
-IsStep h item = IsReply h item.entry.deed item.lines item.steps
+IsStep h item = IsReply h item.entry.operation item.lines item.steps
 
 -- the items' calls, in order, may be given these replies
 abbrev pub IsRun : PoolState → List LoggedCall → Type 0
@@ -189,7 +189,7 @@ pub record IsLegal (opening : PoolState) (items : List LoggedCall) (k : PoolWith
 -- ---- the six calls, with their lines and schedules
 
 abbrev pub item_of : ℕ → Operation → List ProofLine → List Step → LoggedCall
-item_of worker deed lines steps = record { entry = record { worker = worker; deed = deed }; lines = lines; steps = steps }
+item_of worker operation lines steps = record { entry = record { worker = worker; operation = operation }; lines = lines; steps = steps }
 
 -- what stands in the item of an accepted call; nothing does in that of a refused one
 abbrev pub if_accepted : {A E X : Type 0} → Result A E → (A → List X) → List X

@@ -110,7 +110,7 @@ pub struct Entry {
     /// Who called, counted from 0.
     pub worker: u32,
     /// The call and its answer.
-    pub deed: Operation,
+    pub operation: Operation,
 }
 
 /// An entry with the lines that were appended or handed out and the steps of the schedule that was

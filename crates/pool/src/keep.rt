@@ -241,19 +241,19 @@ impl Pool {
             derived,
         ) {
             Ok(()) => {
-                let deed = Operation::Publish(count, Ok(base));
-                self.ledger.answer(worker, deed, Ok(base))
+                let operation = Operation::Publish(count, Ok(base));
+                self.ledger.answer(worker, operation, Ok(base))
             }
             Err(PublishFault::Memory) => Err(PublishFault::Memory),
             Err(PublishFault::NotDerived(place)) => {
                 let reply = Err(PublishFault::NotDerived(place));
-                let deed = Operation::Publish(count, reply);
-                self.ledger.answer(worker, deed, reply)
+                let operation = Operation::Publish(count, reply);
+                self.ledger.answer(worker, operation, reply)
             }
             Err(PublishFault::Full) => {
                 let reply = Err(PublishFault::Full);
-                let deed = Operation::Publish(count, reply);
-                self.ledger.answer(worker, deed, reply)
+                let operation = Operation::Publish(count, reply);
+                self.ledger.answer(worker, operation, reply)
             }
         }
     }
@@ -269,14 +269,14 @@ impl Pool {
         }
         if self.log.len() < from {
             let fault = FetchFault::PastEnd;
-            let deed = Operation::Fetch(from, Err(fault));
-            return self.ledger.answer(worker, deed, Err(fault));
+            let operation = Operation::Fetch(from, Err(fault));
+            return self.ledger.answer(worker, operation, Err(fault));
         }
         let Ok(lines) = self.log.after(alloc, from) else {
             return Err(FetchFault::Memory);
         };
-        let deed = Operation::Fetch(from, Ok(lines.len()));
-        self.ledger.answer(worker, deed, Ok(lines))
+        let operation = Operation::Fetch(from, Ok(lines.len()));
+        self.ledger.answer(worker, operation, Ok(lines))
     }
 
     /// Closes an open leaf by the clause or line of this number, all of whose literals are
@@ -292,18 +292,18 @@ impl Pool {
         }
         if !self.is_open(leaf) {
             let reply = Err(CloseFault::NotOpen);
-            let deed = Operation::Close(leaf, number, reply);
-            return self.ledger.answer(worker, deed, reply);
+            let operation = Operation::Close(leaf, number, reply);
+            return self.ledger.answer(worker, operation, reply);
         }
         if !self.is_closed_by(leaf, number) {
             let reply = Err(CloseFault::NotRefuted);
-            let deed = Operation::Close(leaf, number, reply);
-            return self.ledger.answer(worker, deed, reply);
+            let operation = Operation::Close(leaf, number, reply);
+            return self.ledger.answer(worker, operation, reply);
         }
         self.closed[leaf as usize] = number;
         self.open_leaves -= 1;
-        let deed = Operation::Close(leaf, number, Ok(()));
-        self.ledger.answer(worker, deed, Ok(()))
+        let operation = Operation::Close(leaf, number, Ok(()));
+        self.ledger.answer(worker, operation, Ok(()))
     }
 
     /// Splits an open leaf on a variable of the formula, from 1, and answers the numbers of the two
@@ -326,16 +326,16 @@ impl Pool {
         match self.split_fault(leaf, variable) {
             None => {}
             Some(fault) => {
-                let deed = Operation::Split(leaf, variable, Err(fault));
-                return self.ledger.answer(worker, deed, Err(fault));
+                let operation = Operation::Split(leaf, variable, Err(fault));
+                return self.ledger.answer(worker, operation, Err(fault));
             }
         }
         let Ok(below) = split_open(alloc, &mut self.tree, &mut self.closed, leaf, variable) else {
             return Err(SplitFault::Memory);
         };
         self.open_leaves += 1;
-        let deed = Operation::Split(leaf, variable, Ok(below));
-        self.ledger.answer(worker, deed, Ok(below))
+        let operation = Operation::Split(leaf, variable, Ok(below));
+        self.ledger.answer(worker, operation, Ok(below))
     }
 
     /// Notes why a worker leaves, which is `None` where it is done. May want memory, as each call
@@ -379,13 +379,13 @@ impl Pool {
         match ends_stuck(alloc, self.encoded.program(), &steps) {
             Ok(true) => {
                 keep_first(&mut self.schedule, steps);
-                let deed = Operation::Found(count, Ok(()));
-                self.ledger.answer(worker, deed, Ok(()))
+                let operation = Operation::Found(count, Ok(()));
+                self.ledger.answer(worker, operation, Ok(()))
             }
             Ok(false) => {
                 let reply = Err(FoundFault::NotStuck);
-                let deed = Operation::Found(count, reply);
-                self.ledger.answer(worker, deed, reply)
+                let operation = Operation::Found(count, reply);
+                self.ledger.answer(worker, operation, reply)
             }
             Err(AllocError) => Err(FoundFault::Memory),
         }

@@ -74,24 +74,24 @@ impl Ledger {
     }
 
     /// Notes a call, for which there is room.
-    fn note(&mut self, worker: u32, deed: Operation)
+    fn note(&mut self, worker: u32, operation: Operation)
         requires { FitsCall self.old }
-        ensures history { self.new.history ≡ self.old.history ++ (record { worker = worker; deed = deed }) ∷ [] }
+        ensures history { self.new.history ≡ self.old.history ++ (record { worker = worker; operation = operation }) ∷ [] }
         ensures reasons { self.new.reasons ≡ self.old.reasons }
         ensures places { self.new.places ≡ self.old.places }
     {
-        self.history.push_reserved(Entry { worker, deed });
+        self.history.push_reserved(Entry { worker, operation });
     }
 
     /// Notes a call, for which there is room, and hands back its reply.
-    pub(crate) fn answer<A>(&mut self, worker: u32, deed: Operation, reply: A) -> A
+    pub(crate) fn answer<A>(&mut self, worker: u32, operation: Operation, reply: A) -> A
         requires { FitsCall self.old }
         ensures reply { result ≡ reply }
-        ensures history { self.new.history ≡ self.old.history ++ (record { worker = worker; deed = deed }) ∷ [] }
+        ensures history { self.new.history ≡ self.old.history ++ (record { worker = worker; operation = operation }) ∷ [] }
         ensures reasons { self.new.reasons ≡ self.old.reasons }
         ensures places { self.new.places ≡ self.old.places }
     {
-        self.note(worker, deed);
+        self.note(worker, operation);
         reply
     }
 
@@ -114,7 +114,7 @@ impl Ledger {
     /// Notes a leave with its reason, so that the places that are kept stay free.
     pub(crate) fn leave(&mut self, worker: u32, why: Option<Why>) -> Result<(), AllocError>
         ensures history { OnOk result (self.new.history ≡
-            self.old.history ++ (record { worker = worker; deed = Operation.Leave why }) ∷ []) }
+            self.old.history ++ (record { worker = worker; operation = Operation.Leave why }) ∷ []) }
         ensures reasons { OnOk result (self.new.reasons ≡ with_reason self.old.reasons why) }
         ensures places { OnOk result (self.new.places ≡ self.old.places) }
         ensures err { OnErr result (IsSameLedger self.old self.new) }
@@ -129,7 +129,7 @@ impl Ledger {
     /// The same by a place that is kept, if one is.
     pub(crate) fn leave_kept(&mut self, worker: u32, why: Option<Why>) -> Result<(), AllocError>
         ensures history { OnOk result (self.new.history ≡
-            self.old.history ++ (record { worker = worker; deed = Operation.Leave why }) ∷ []) }
+            self.old.history ++ (record { worker = worker; operation = Operation.Leave why }) ∷ []) }
         ensures reasons { OnOk result (self.new.reasons ≡ with_reason self.old.reasons why) }
         ensures places { OnOk result (self.new.places ≡ self.old.places - 1) }
         ensures err { OnErr result (IsSameLedger self.old self.new) }

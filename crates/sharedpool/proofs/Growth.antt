@@ -22,7 +22,7 @@ use Rattle.pool.specs.declared.entry.FoundFault.{FoundFault}
 use Rattle.pool.specs.declared.entry.FoundFault.TheVariants.{Memory, NotStuck}
 use Rattle.pool.specs.Growth.{LosesNothing}
 use Rattle.pool.specs.Replies.{resolved_lines, FailsAt}
-use Rattle.pool.specs.States.{PoolState, PoolWithHistory, IsSound, IsReply, IsRun, IsPublished, IsFound, after, after_deed, after_all}
+use Rattle.pool.specs.States.{PoolState, PoolWithHistory, IsSound, IsReply, IsRun, IsPublished, IsFound, after, after_operation, after_all}
 use Rattle.pool.proofs.Growth.{grows, grows_once, same_program, same_formula, lose_nothing}
 use Rattle.pool.proofs.Histories.{stay_sound}
 use Rattle.sharedpool.specs.Laws.{NothingSeenIsLost}
@@ -31,21 +31,21 @@ use Rattle.sharedpool.specs.parts.Seats.{Token, IsSeat, IsLocked, AreNoted}
 use Rattle.sharedpool.specs.Seats.{Chair, HoldsAt, AllHeld, HoldsOver, IsRefusedOver}
 use Rattle.sharedpool.proofs.Legal.{chair, holds_over}
 
-held_now : (h : PoolState) (deed : Operation) (lines more log : List ProofLine) (steps : List Step) → IsReply h deed lines steps → log ≡ (after_deed h deed lines steps).log ++ more → HoldsAt h.formula log deed lines
+held_now : (h : PoolState) (operation : Operation) (lines more log : List ProofLine) (steps : List Step) → IsReply h operation lines steps → log ≡ (after_operation h operation lines steps).log ++ more → HoldsAt h.formula log operation lines
 held_now h (Publish count (Ok base)) lines more log steps reply is = (h.log, more, is ∙ append_assoc h.log lines more, reply.1)
 held_now h (Fetch from (Ok count)) lines more log steps reply is = (more, ap (drop from) is ∙ drop-append-le from h.log more reply.0.0 ∙ ap (λ l. l ++ more) (sym reply.0.1))
-held_now h deed lines more log steps reply is = tt
+held_now h operation lines more log steps reply is = tt
 
 all_held : (h : PoolState) (items : List LoggedCall) → IsRun h items → AllHeld h.formula (after_all h items).log items
 all_held h [] run = tt
 all_held h (item ∷ items) run =
     let rest = grows (after h item) items in
-    let once = grows_once h item.entry.deed item.lines item.steps in (
-      held_now h item.entry.deed item.lines rest.2 (after_all (after h item) items).log item.steps run.0 rest.3,
+    let once = grows_once h item.entry.operation item.lines item.steps in (
+      held_now h item.entry.operation item.lines rest.2 (after_all (after h item) items).log item.steps run.0 rest.3,
       subst (λ formula. AllHeld formula (after_all (after h item) items).log items) once.1 (all_held (after h item) items run.1),
     )
 
-held_if : (b : Bool) (formula : Conjunction) (log : List ProofLine) (item : LoggedCall) (items : List LoggedCall) → HoldsAt formula log item.entry.deed item.lines → AllHeld formula log items → AllHeld formula log (if b then item ∷ items else items)
+held_if : (b : Bool) (formula : Conjunction) (log : List ProofLine) (item : LoggedCall) (items : List LoggedCall) → HoldsAt formula log item.entry.operation item.lines → AllHeld formula log items → AllHeld formula log (if b then item ∷ items else items)
 held_if true formula log item items one rest = (one, rest)
 held_if false formula log item items one rest = rest
 

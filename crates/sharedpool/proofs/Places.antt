@@ -22,12 +22,12 @@ bits_more true false more = absurd (true≢false (sym (more refl)))
 
 left_more : (items : List LoggedCall) (item : LoggedCall) → has_left items ≡ true → has_left (items ++ item ∷ []) ≡ true
 left_more items item is =
-    list_any-append (λ (i : LoggedCall). is_leave i.entry.deed) items (item ∷ []) ∙ or_left (has_left items) (has_left (item ∷ [])) is
+    list_any-append (λ (i : LoggedCall). is_leave i.entry.operation) items (item ∷ []) ∙ or_left (has_left items) (has_left (item ∷ [])) is
 
-left_now : (items : List LoggedCall) (item : LoggedCall) → is_leave item.entry.deed ≡ true → has_left (items ++ item ∷ []) ≡ true
+left_now : (items : List LoggedCall) (item : LoggedCall) → is_leave item.entry.operation ≡ true → has_left (items ++ item ∷ []) ≡ true
 left_now items item is =
-    list_any-append (λ (i : LoggedCall). is_leave i.entry.deed) items (item ∷ [])
-    ∙ or_right (has_left items) (has_left (item ∷ [])) (or_left (is_leave item.entry.deed) false is)
+    list_any-append (λ (i : LoggedCall). is_leave i.entry.operation) items (item ∷ [])
+    ∙ or_right (has_left items) (has_left (item ∷ [])) (or_left (is_leave item.entry.operation) false is)
 
 -- who left has left
 still_left : (worker : ℕ) (items : List LoggedCall) (item : LoggedCall) → has_left (items_of worker items) ≡ true → has_left (items_of worker (items ++ item ∷ [])) ≡ true
@@ -59,7 +59,7 @@ leavers_below (suc last) worker items low none =
 
 -- one more of the workers leaves
 leavers_strict : (workers worker : ℕ) (items : List LoggedCall) (item : LoggedCall)
-    → is_leave item.entry.deed ≡ true → item.entry.worker ≡ worker → worker < workers → has_left (items_of worker items) ≡ false
+    → is_leave item.entry.operation ≡ true → item.entry.worker ≡ worker → worker < workers → has_left (items_of worker items) ≡ false
     → leavers workers items + 1 ≤ leavers workers (items ++ item ∷ [])
 leavers_strict zero worker items item leave is low none = absurd (omega (arith, low))
 leavers_strict (suc last) worker items item leave is low none =
@@ -77,14 +77,14 @@ place_kept workers worker places items low kept none = omega (arith, kept, leave
 
 -- and after a leave one for each of the others that did not
 pub places_left : (workers worker places : ℕ) (items : List LoggedCall) (item : LoggedCall) (left : Bool)
-    → is_leave item.entry.deed ≡ true → item.entry.worker ≡ worker → worker < workers → workers ≤ places + leavers workers items → has_left (items_of worker items) ≡ left
+    → is_leave item.entry.operation ≡ true → item.entry.worker ≡ worker → worker < workers → workers ≤ places + leavers workers items → has_left (items_of worker items) ≡ left
     → workers ≤ places_after left places + leavers workers (items ++ item ∷ [])
 places_left workers worker places items item true leave is low kept left = omega (arith, kept, leavers_more workers items item)
 places_left workers worker places items item false leave is low kept left =
     omega (arith, kept, place_kept workers worker places items low kept left, leavers_strict workers worker items item leave is low left)
 
-left_if : (mine : Bool) (item : LoggedCall) (rest : List LoggedCall) (left : Bool) → has_left rest ≡ left → has_left (if mine then item ∷ rest else rest) ≡ ((mine && is_leave item.entry.deed) || left)
-left_if true item rest left is = ap (λ b. is_leave item.entry.deed || b) is
+left_if : (mine : Bool) (item : LoggedCall) (rest : List LoggedCall) (left : Bool) → has_left rest ≡ left → has_left (if mine then item ∷ rest else rest) ≡ ((mine && is_leave item.entry.operation) || left)
+left_if true item rest left is = ap (λ b. is_leave item.entry.operation || b) is
 left_if false item rest left is = is
 
 -- a worker's items tell as much of it as all entries

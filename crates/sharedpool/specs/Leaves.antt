@@ -15,4 +15,4 @@ is_leave (Leave why) = true
 
 -- one of the calls is a leave
 abbrev pub has_left : List LoggedCall → Bool
-has_left items = list_any (λ (item : LoggedCall). is_leave item.entry.deed) items
+has_left items = list_any (λ (item : LoggedCall). is_leave item.entry.operation) items

@@ -90,7 +90,7 @@ HoldsAt formula log (Leave why) lines = Unit {0}
 -- the log holds the lines of all these calls
 abbrev pub AllHeld : Conjunction → List ProofLine → List LoggedCall → Type 0
 AllHeld formula log [] = Unit {0}
-AllHeld formula log (item ∷ items) = HoldsAt formula log item.entry.deed item.lines × AllHeld formula log items
+AllHeld formula log (item ∷ items) = HoldsAt formula log item.entry.operation item.lines × AllHeld formula log items
 
 -- over a derivation from the formula that holds all lines of the seat's list, the batch's line at
 -- this place is the first that doesn't derive

@@ -53,7 +53,7 @@ fn left_before(history: &[Entry], worker: u32) -> bool
     ensures { result ≡ has_entry worker history.now }
 {
     for entry in history {
-        if entry.worker == worker && matches!(entry.deed, Operation::Leave(_)) {
+        if entry.worker == worker && matches!(entry.operation, Operation::Leave(_)) {
             return true;
         }
     }

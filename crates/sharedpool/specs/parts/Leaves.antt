@@ -8,7 +8,7 @@ use Rattle.sharedpool.specs.Leaves.{has_left, is_leave}
 
 -- one of the entries is a leave of this worker
 abbrev pub has_entry : ℕ → List Entry → Bool
-has_entry worker entries = list_any (λ (entry : Entry). (entry.worker == worker) && is_leave entry.deed) entries
+has_entry worker entries = list_any (λ (entry : Entry). (entry.worker == worker) && is_leave entry.operation) entries
 
 -- how many of so many workers left
 abbrev pub leavers : ℕ → List LoggedCall → ℕ

@@ -24,4 +24,4 @@ no_pool = record {
 
 -- the item of no call
 abbrev pub no_item : LoggedCall
-no_item = record { entry = record { worker = 0; deed = Leave None }; lines = []; steps = [] }
+no_item = record { entry = record { worker = 0; operation = Leave None }; lines = []; steps = [] }

@@ -304,8 +304,8 @@ fn opened(rt: &(impl Threads + Sync), alloc: Global) -> Result<Pool, Fail>
 }
 
 /// Whether a liar's call is refused, for the reason that there is.
-fn is_refused(deed: &Operation) -> bool {
-    match deed {
+fn is_refused(operation: &Operation) -> bool {
+    match operation {
         Operation::Publish(2, Err(PublishFault::NotDerived(1))) => true,
         Operation::Close(_, 1, Err(CloseFault::NotRefuted)) => true,
         Operation::Close(_, 1, Err(CloseFault::NotOpen)) => true,
@@ -314,13 +314,16 @@ fn is_refused(deed: &Operation) -> bool {
     }
 }
 
-fn is_at_open(deed: &Operation) -> bool {
-    matches!(deed, Operation::Close(_, _, Err(CloseFault::NotRefuted)))
+fn is_at_open(operation: &Operation) -> bool {
+    matches!(
+        operation,
+        Operation::Close(_, _, Err(CloseFault::NotRefuted))
+    )
 }
 
 /// How many lines this call appended to the log.
-fn lines_of(deed: &Operation) -> usize {
-    match deed {
+fn lines_of(operation: &Operation) -> usize {
+    match operation {
         Operation::Publish(count, Ok(_base)) => *count,
         _ => 0,
     }
@@ -335,16 +338,16 @@ fn tally_of(history: &[Entry], liars: u32) -> Tally {
     };
     for entry in history {
         if entry.worker >= liars {
-            tally.published = tally.published.saturating_add(lines_of(&entry.deed));
+            tally.published = tally.published.saturating_add(lines_of(&entry.operation));
             continue;
         }
         tally.lies = tally.lies.saturating_add(1);
         tally.refused = tally
             .refused
-            .saturating_add(u32::from(is_refused(&entry.deed)));
+            .saturating_add(u32::from(is_refused(&entry.operation)));
         tally.at_open = tally
             .at_open
-            .saturating_add(u32::from(is_at_open(&entry.deed)));
+            .saturating_add(u32::from(is_at_open(&entry.operation)));
     }
     tally
 }
