@@ -17,7 +17,7 @@ same_parts r q (MatchedProbe pattern receive) (MatchedProbe pattern' receive') e
 same_parts r q (Probe pattern) (Probe pattern') e = search rules
 same_parts r q (MatchedReceive blocking) (MatchedReceive blocking') e = search rules
 same_parts r q (Wait operation) (Wait operation') e = search rules
-same_parts r q x y e = absurd (cc)
+same_parts r q x y e = search rules
 
 same_call : (x y : Call) → calls.eq-value.it x y ≡ true → x ≡ y
 same_call x y e =
