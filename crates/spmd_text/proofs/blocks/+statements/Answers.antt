@@ -46,8 +46,8 @@ branch-returns-clause-reads t c =
     reads_made (when_back old c.args.depth c.args.line c.args.chained)
     (when_so old c.args.depth c.args.line c.args.chained c.condition_at-condition.result (held c.statements-yes.result) (held c.tail-no.result) (held c.when.result) (omega (arith, c.if-depth-eq0.false))) five c.when.ensures
 
-pub looped-returns-clause-reads : goal.looped-returns-clause-reads
-looped-returns-clause-reads t c =
+pub for_loop-returns-clause-reads : goal.for_loop-returns-clause-reads
+for_loop-returns-clause-reads t c =
     let old : Parser = c.args.parser.now in
     let one = c.variable-name.ensures in
     let two = reads_then span_strict (λ y here rest may e ends. refl) one (on_flag span_part one.goes c.span_at-span.ensures) in
@@ -58,20 +58,20 @@ looped-returns-clause-reads t c =
     reads_made (repeat_back old c.args.depth c.args.line)
     (repeat_so old c.args.depth c.args.line c.variable-name.result c.span_at-span.result (held c.body_of-body.result) (held c.repeat.result) (omega (arith, c.if-depth-eq0.false))) five c.repeat.ensures
 
-pub looped-returns-then-depth-eq0-clause-reads : goal.looped-returns-then-depth-eq0-clause-reads
-looped-returns-then-depth-eq0-clause-reads t c =
+pub for_loop-returns-then-depth-eq0-clause-reads : goal.for_loop-returns-then-depth-eq0-clause-reads
+for_loop-returns-then-depth-eq0-clause-reads t c =
     refused_behind _ (keeps_on c.variable-name.ensures.goes c.span_at-span.ensures.goes) c.refuse.ensures (λ x may. repeat_none c.args.parser.now c.args.depth x c.if-depth-eq0.true may)
 
-pub begun-returns-in-For-clause-reads : goal.begun-returns-in-For-clause-reads
-begun-returns-in-For-clause-reads t c first =
+pub rest_of_statement-returns-in-For-clause-reads : goal.rest_of_statement-returns-in-For-clause-reads
+rest_of_statement-returns-in-For-clause-reads t c first =
     subst (λ (w : Word). Reads (begun_part (scope_of c.args.parser.now) c.args.depth c.args.line w) c.args.parser.now c.for_loop.new.parser (held c.for_loop.result)) (sym c.in-For.is) c.for_loop.ensures.reads
 
-pub begun-returns-in-If-clause-reads : goal.begun-returns-in-If-clause-reads
-begun-returns-in-If-clause-reads t c first =
+pub rest_of_statement-returns-in-If-clause-reads : goal.rest_of_statement-returns-in-If-clause-reads
+rest_of_statement-returns-in-If-clause-reads t c first =
     subst (λ (w : Word). Reads (begun_part (scope_of c.args.parser.now) c.args.depth c.args.line w) c.args.parser.now c.branch-parser.new.parser (held c.branch-parser.result)) (sym c.in-If.is) c.branch-parser.ensures.reads
 
-pub begun-returns-in_default-clause-reads : goal.begun-returns-in_default-clause-reads
-begun-returns-in_default-clause-reads t c first = c.simple.ensures c.args.depth (first_simple c.args.word first c.in_default.not-For c.in_default.not-If)
+pub rest_of_statement-returns-in_default-clause-reads : goal.rest_of_statement-returns-in_default-clause-reads
+rest_of_statement-returns-in_default-clause-reads t c first = c.simple.ensures c.args.depth (first_simple c.args.word first c.in_default.not-For c.in_default.not-If)
 
 pub statement-returns-clause-reads : goal.statement-returns-clause-reads
 statement-returns-clause-reads t c first is =
@@ -233,20 +233,20 @@ branch-returns-clause-ends t c chained sound =
     let no_sound = sym (ap (λ (p : Parser). p.fault) whole) ∙ sound in
     when_ends (c.tail-no.ensures.ends (c.statements-yes.ensures.ended (sound_before c.tail-no.ensures.reads.goes no_sound)) no_sound) m.1 whole
 
-pub looped-returns-then-depth-eq0-clause-stays : goal.looped-returns-then-depth-eq0-clause-stays
-looped-returns-then-depth-eq0-clause-stays t c why e = refl
+pub for_loop-returns-then-depth-eq0-clause-stays : goal.for_loop-returns-then-depth-eq0-clause-stays
+for_loop-returns-then-depth-eq0-clause-stays t c why e = refl
 
-pub looped-returns-then-depth-eq0-clause-line : goal.looped-returns-then-depth-eq0-clause-line
-looped-returns-then-depth-eq0-clause-line t c block outer is told =
+pub for_loop-returns-then-depth-eq0-clause-line : goal.for_loop-returns-then-depth-eq0-clause-line
+for_loop-returns-then-depth-eq0-clause-line t c block outer is told =
     loop_deep_tells c.args.parser.now c.refuse.new.parser block outer c.args.depth c.args.line c.args.at.now c.if-depth-eq0.true told
 
-pub looped-returns-clause-stays : goal.looped-returns-clause-stays
-looped-returns-clause-stays t c why e =
+pub for_loop-returns-clause-stays : goal.for_loop-returns-clause-stays
+for_loop-returns-clause-stays t c why e =
     let one = c.end_line.ensures.goes.sticks why (c.span_at-span.ensures.goes.sticks why (c.variable-name.ensures.goes.sticks why e)) in
     c.end_block.ensures.stays why (c.body_of-body.ensures.reads.goes.sticks why one) ∙ c.body_of-body.ensures.stays why one
 
-pub looped-returns-clause-line : goal.looped-returns-clause-line
-looped-returns-clause-line t c block outer is told =
+pub for_loop-returns-clause-line : goal.for_loop-returns-clause-line
+for_loop-returns-clause-line t c block outer is told =
     let two = reads_then span_strict (λ y here rest may e ends. refl) c.variable-name.ensures (on_flag span_part c.variable-name.ensures.goes c.span_at-span.ensures) in
     let head = reads_then (λ y. refl) (λ y here rest may e ends. line_end_begins here rest e) two c.end_line.ensures in
     let body = on_scope (λ scope. statements_part (within_loop c.variable-name.result scope) (c.args.depth - 1)) head.goes c.body_of-body.ensures.reads in
@@ -255,27 +255,27 @@ looped-returns-clause-line t c block outer is told =
     (record { stays = c.body_of-body.ensures.stays; tells = c.body_of-body.ensures.line }) c.body_of-body.ensures.ended
     (record { sticks = c.end_block.ensures.reads.goes.sticks; stays = c.end_block.ensures.stays; tells = c.end_block.ensures.line })) c.repeat.ensures
 
-pub begun-returns-in-For-clause-stays : goal.begun-returns-in-For-clause-stays
-begun-returns-in-For-clause-stays t c = c.for_loop.ensures.stays
+pub rest_of_statement-returns-in-For-clause-stays : goal.rest_of_statement-returns-in-For-clause-stays
+rest_of_statement-returns-in-For-clause-stays t c = c.for_loop.ensures.stays
 
-pub begun-returns-in-If-clause-stays : goal.begun-returns-in-If-clause-stays
-begun-returns-in-If-clause-stays t c = c.branch-parser.ensures.stays
+pub rest_of_statement-returns-in-If-clause-stays : goal.rest_of_statement-returns-in-If-clause-stays
+rest_of_statement-returns-in-If-clause-stays t c = c.branch-parser.ensures.stays
 
-pub begun-returns-in_default-clause-stays : goal.begun-returns-in_default-clause-stays
-begun-returns-in_default-clause-stays t c why e = refl
+pub rest_of_statement-returns-in_default-clause-stays : goal.rest_of_statement-returns-in_default-clause-stays
+rest_of_statement-returns-in_default-clause-stays t c why e = refl
 
-pub begun-returns-in-For-clause-line : goal.begun-returns-in-For-clause-line
-begun-returns-in-For-clause-line t c block outer is w told =
+pub rest_of_statement-returns-in-For-clause-line : goal.rest_of_statement-returns-in-For-clause-line
+rest_of_statement-returns-in-For-clause-line t c block outer is w told =
     subst (λ (v : Word). Tells (level_at block c.args.parser.now c.args.depth ∷ outer) c.args.parser.now c.for_loop.new.parser (from_word c.args.line v c.args.parser.now) c.for_loop.new.at) (sym c.in-For.is)
     (c.for_loop.ensures.line block outer is told)
 
-pub begun-returns-in-If-clause-line : goal.begun-returns-in-If-clause-line
-begun-returns-in-If-clause-line t c block outer is w told =
+pub rest_of_statement-returns-in-If-clause-line : goal.rest_of_statement-returns-in-If-clause-line
+rest_of_statement-returns-in-If-clause-line t c block outer is w told =
     subst (λ (v : Word). Tells (level_at block c.args.parser.now c.args.depth ∷ outer) c.args.parser.now c.branch-parser.new.parser (from_word c.args.line v c.args.parser.now) c.branch-parser.new.at) (sym c.in-If.is)
     (c.branch-parser.ensures.line block outer is told)
 
-pub begun-returns-in_default-clause-line : goal.begun-returns-in_default-clause-line
-begun-returns-in_default-clause-line t c block outer is w told =
+pub rest_of_statement-returns-in_default-clause-line : goal.rest_of_statement-returns-in_default-clause-line
+rest_of_statement-returns-in_default-clause-line t c block outer is w told =
     let plain = first_simple c.args.word (word_of_is (piece.Word c.args.word) c.args.word w).1 c.in_default.not-For c.in_default.not-If in
     simple_tells block outer c.args.depth c.args.line c.args.at.now c.args.word is w plain (c.simple.ensures c.args.depth plain) told
 
