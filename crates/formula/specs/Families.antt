@@ -334,11 +334,7 @@ family_of TakerOrder =
 family_of NoPairWaits = without_order (by_pair pair_does_not_wait)
 family_of NoIssueWaits = without_order (by_call (λ p c. issue_does_not_wait p c (previous p c)))
 family_of SomeUnfinished =
-    without_order (
-        by_last_call
-            (λ p c. where_returned p c (is_false (unfinished (rank_of p c))))
-            (λ p. map (λ c. is_true (unfinished (rank_of p c))) (last_calls p))
-    )
+    without_order (by_last_call (λ p c. where_returned p c (is_false (unfinished (rank_of p c)))) (λ p. map (λ c. is_true (unfinished (rank_of p c))) (last_calls p)))
 family_of Buffering = without_order (by_standard_send (λ p send. buffered_under p.policy send))
 family_of Sees = with_order (by_see see_clauses)
 
