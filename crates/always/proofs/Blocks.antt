@@ -5,74 +5,37 @@ use Rattle.std.proofs.lemmas.Bool.{cases_eq, cases_lt, eqb-true, eq-eqb}
 use Rattle.std.proofs.lemmas.List.{get_or_past}
 use Rattle.std.proofs.lemmas.Option.{slice_get_within, slice_get-get_or}
 use Rattle.calltext.proofs.Conjunctions.{and_true, and_both}
-use Rattle.calltext.specs.declared.call.Mode.TheVariants.{Standard, Synchronous, Buffered}
-use Rattle.calltext.specs.declared.call.Policy.{Policy}
-use Rattle.calltext.specs.declared.call.Policy.TheVariants.{Any, Never, Always}
 use Rattle.callorder.proofs.Lookups.{slice_get-none_past}
 use Rattle.callorder.specs.declared.calls.Call.{Call}
 use Rattle.callorder.specs.declared.calls.Kind.{Kind}
-use Rattle.callorder.specs.declared.calls.Kind.TheVariants.{Send, Receive, MatchedProbe, Probe, MatchedReceive, Wait}
+use Rattle.callorder.specs.declared.calls.Kind.TheVariants.{Receive, MatchedProbe, Probe}
 use Rattle.callorder.specs.Programs.{MpiProgram, call_at, is_of_rank, are_fit, is_probe, takes, are_of_one_rank, kind_holds}
 use Rattle.callorder.specs.declared.calls.Pattern.{Pattern}
 use Rattle.callorder.specs.Calls.{pattern_of, receive_of, is_probe_kind, holds_of, fits}
 use Rattle.semantics.specs.declared.state.Step.{Step}
 use Rattle.semantics.specs.declared.state.Step.TheVariants.{Issue, Match, See}
-use Rattle.semantics.specs.Machine.{is_returned_kind, is_done_kind, Configuration, opening, after, after_all, IsEnabled, IsRun, IsStuckRun, CanFind, is_issued, is_matched, partner_of, fetches, fetches_partner, is_fetched, is_returned, may_be, can_issue_next, can_issue_call, has_returned_before}
+use Rattle.semantics.specs.Machine.{Configuration, opening, after, after_all, IsEnabled, IsRun, IsStuckRun, CanFind, is_issued, is_matched, partner_of, fetches, fetches_partner, is_fetched, is_returned, may_be, can_issue_next, can_issue_call, has_returned_before}
 use Rattle.run_laws.specs.Laws.{IsInRankOrder}
 use Rattle.run_laws.proofs.Matched.{no_send_is_taker}
 use Rattle.races.specs.Tells.{Table, IsJustified}
-use Rattle.races.specs.Blocks.{IsSure, HasFellow, IsPrompt, Blocks, is_finder, is_finder_call, AreBlocks, IsLike, IsLooseCut, HasNoRaceOfBlocks}
+use Rattle.races.specs.Blocks.{IsSure, HasFellow, IsPrompt, Blocks, is_finder, is_finder_call, AreBlocks, IsLike, HasNoRaceOfBlocks}
 use Rattle.always.specs.Always.{ShowsNoRaceOfBlocksBefore, HasEnded, BuffersAllItMay, IsEndedRun, SticksInEveryRun}
 use Rattle.always.specs.Laws.{BlocksAreGreatest, BlocksStickAlways, TableOfBlocksIsGreatest, TableOfBlocksSticksAlways}
 use Rattle.races.proofs.Steps.{is_or_not, some_or_none, same_some, matched_from, partner_from, none_open, issued_within, within_issued, one_rank, one_rank_made}
-use Rattle.races.proofs.Kept.{Kept, new_or_old, finders_of_one_rank, takes_fit, takes_no_probe, takes_made, probe_returned}
+use Rattle.races.proofs.Kept.{Kept, new_or_old, finders_of_one_rank, takes_fit, takes_no_probe, takes_made}
 use Rattle.races.proofs.Passing.{none_issued, kept_after, kept_opening, kept_run, no_partner, part_all}
 use Rattle.races.proofs.Climb.{issued_by_next}
-use Rattle.races.proofs.Telling.{Agrees, Told, told_step, no_send_fetches_call, fetching}
+use Rattle.races.proofs.Telling.{Told, told_step, no_send_fetches_call, fetching}
 use Rattle.races.proofs.Pigeons.{no_pigeon}
-use Rattle.races.proofs.Alike.{Has, returned_before_has, fellows, apart_before, full_block, fit_finder, finder_no_send, partner_or, partner_or_is}
-use Rattle.races.proofs.ClimbBlocks.{Weak}
+use Rattle.races.proofs.Alike.{Has, returned_before_has, fellows, full_block, fit_finder, finder_no_send, partner_or, partner_or_is}
+use Rattle.races.proofs.ClimbBlocks.{Weak, fetches_next, probe_back, some_choice}
+use Rattle.races.proofs.LikeRuns.{behind_probe, loose_cut, sure_agrees}
 use Rattle.always.proofs.Buffering.{AllBuffered, buffered_all}
 use Rattle.always.proofs.Behind.{Behind, next_there, sticks_always, ended_of}
 use Rattle.always.proofs.Greatest.{all_buffered_opening, buffered_there}
 use Rattle.always.proofs.Ordered.{no_open_pair, earlier_taker}
 
 -- ---- what is fetched
-
-fetches_next : (p : MpiProgram) (m n : Configuration) (o : Option Call) → ((r : ℕ) → slice_index m.next r ≤ slice_index n.next r) → kind_holds (fetches p m) o ≡ true → kind_holds (fetches p n) o ≡ true
-fetches_next p m n None next h = absurd (cc)
-fetches_next p m n (Some call) next h = by call.kind h
-  where
-    by : (k : Kind ℕ) → fetches p m k ≡ true → fetches p n k ≡ true
-    by (Receive blocking pattern) h = refl
-    by (MatchedProbe pattern receive) h = issued_by_next p m n receive next h
-    by kind h = absurd (cc)
-
-some_choice : (q : Policy) (k : Kind ℕ) → (b : Bool) × (may_be q k b ≡ true)
-some_choice Any (Send Standard blocking message) = (true, refl)
-some_choice Never (Send Standard blocking message) = (false, refl)
-some_choice Always (Send Standard blocking message) = (true, refl)
-some_choice Any (Send Synchronous blocking message) = (false, refl)
-some_choice Never (Send Synchronous blocking message) = (false, refl)
-some_choice Always (Send Synchronous blocking message) = (false, refl)
-some_choice Any (Send Buffered blocking message) = (false, refl)
-some_choice Never (Send Buffered blocking message) = (false, refl)
-some_choice Always (Send Buffered blocking message) = (false, refl)
-some_choice Any (Receive blocking pattern) = (false, refl)
-some_choice Never (Receive blocking pattern) = (false, refl)
-some_choice Always (Receive blocking pattern) = (false, refl)
-some_choice Any (MatchedProbe pattern receive) = (false, refl)
-some_choice Never (MatchedProbe pattern receive) = (false, refl)
-some_choice Always (MatchedProbe pattern receive) = (false, refl)
-some_choice Any (Probe pattern) = (false, refl)
-some_choice Never (Probe pattern) = (false, refl)
-some_choice Always (Probe pattern) = (false, refl)
-some_choice Any (MatchedReceive blocking) = (false, refl)
-some_choice Never (MatchedReceive blocking) = (false, refl)
-some_choice Always (MatchedReceive blocking) = (false, refl)
-some_choice Any (Wait operation) = (false, refl)
-some_choice Never (Wait operation) = (false, refl)
-some_choice Always (Wait operation) = (false, refl)
 
 or_true_right : (a b : Bool) → b ≡ true → (a || b) ≡ true
 or_true_right true b h = refl
@@ -92,11 +55,6 @@ no_next p n r c call stuck next there own returned =
     and_both (call.rank == r && has_returned_before p n r (suc c)) (may_be p.policy call.kind choice.0) (and_both (call.rank == r) (has_returned_before p n r (suc c)) (eq-eqb call.rank r own) back) choice.1 in
     stuck (Issue r choice.0)
     (subst (λ (z : Option ℕ). holds_of (can_issue_next p n r choice.0) z ≡ true) (sym place) (subst (λ (z : Option Call). holds_of (can_issue_call p n r choice.0 (suc c)) z ≡ true) (sym there) all))
-
--- a matched probe that has found has returned
-probe_back : (p : MpiProgram) (n : Configuration) (y q : ℕ) (call : Call) (pattern : Pattern) → call_at p y ≡ Some call → call.kind ≡ MatchedProbe pattern q → is_matched n y ≡ true → is_returned p n y ≡ true
-probe_back p n y q call pattern is kind matched =
-    ap (kind_holds (is_returned_kind p n y)) is ∙ ap (is_returned_kind p n y) kind ∙ ap (kind_holds (is_done_kind p n y)) is ∙ ap (is_done_kind p n y) kind ∙ matched
 
 -- where all is stuck, what a prompt finder has found is fetched
 prompt_fetches : (p : MpiProgram) (n : Configuration) (y : ℕ) → IsInRankOrder p → HasEnded p n → IsPrompt p y → is_finder p y ≡ true → is_issued p n y ≡ true → is_matched n y ≡ true → kind_holds (fetches p n) (call_at p y) ≡ true
@@ -185,30 +143,6 @@ behind_of : (p : MpiProgram) (m e : Configuration) → Has p m e → Behind p m 
 behind_of p m e has = record { next = has.next; returned = λ rank c h. returned_before_has p m e rank c has h }
 
 -- ---- what a finder finds
-
-behind_probe : (p : MpiProgram) (block : Blocks) (m e : Configuration) (s f t : ℕ) → Kept p m → Kept p e → IsLike p block e m → AreBlocks p block → is_probe p f ≡ true → are_fit p s f ≡ true → partner_of e f ≡ Some s → partner_of m s ≡ Some t → is_matched m f ≡ false → ⊥
-behind_probe p block m e s f t kept kept_e like are probe fit found sent_m free =
-    elim (kept.fit s t sent_m) [
-      | inr other ↦ no_send_is_taker p s f t fit other
-      | inl taken ↦
-          let u = like.taken s t taken sent_m in
-          elim (kept_e.fit s u.0 u.1) [
-            | inr other ↦ no_send_is_taker p s f u.0 fit other
-            | inl taken_u ↦
-                let finder_f = fit_finder p s f fit in
-                let finder_t = fit_finder p s t (takes_fit p s t taken) in
-                let finder_u = fit_finder p s u.0 (takes_fit p s u.0 taken_u) in
-                let not_t : f ≢ t = λ is. absurd (let off : is_probe p f ≡ false = ap (is_probe p) is ∙ takes_no_probe p s t taken in cc) in
-                let not_u : f ≢ u.0 = λ is. absurd (let off : is_probe p f ≡ false = ap (is_probe p) is ∙ takes_no_probe p s u.0 taken_u in cc) in
-                let upto : f ≤ u.0 = kept_e.seen s f u.0 found fit u.1 in
-                let below : f < t = apart_before p block f t u.0 are finder_f finder_t finder_u u.2 (λ same. absurd (let off : is_probe p f ≡ false = (fellows p block f t are finder_f finder_t same not_t).first_taker in cc)) (omega (arith, upto, not_u)) not_t in
-                let calls = one_rank p f t (finders_of_one_rank p s f t fit (takes_fit p s t taken)) in
-                let below_next : t < slice_index m.next calls.1.rank = issued_within p m t calls.1 calls.3 (kept.issued s t sent_m).1 in
-                let same_next : slice_index m.next calls.0.rank ≡ slice_index m.next calls.1.rank = ap (slice_index m.next) calls.4 in
-                let on : is_matched m f ≡ true = probe_returned p m f calls.0 calls.2 probe (kept.returned f calls.0 calls.2 (omega (arith, below, below_next, same_next))) in
-                cc
-          ]
-    ]
 
 -- what a finder may find is its block's, or, of a probe, what it has seen at the end
 find_alike : (p : MpiProgram) (block : Blocks) (e : Configuration) (Q : Configuration → Type 0) (m : Configuration) (s f : ℕ) → Backdrop p block e Q → Q m → Kept p m → IsLike p block e m → ((k : ℕ) → slice_index m.next k ≤ slice_index e.next k) → CanFind p m s f → ((is_probe p f ≡ true) × (partner_of e f ≡ Some s)) ⊎ ((u : ℕ) × (partner_of e s ≡ Some u) × (block f ≡ block u))
@@ -559,19 +493,6 @@ from_opening p steps other block Q order ended b q run =
 
 -- ---- by loose cuts
 
-loose_cut : (p : MpiProgram) (block : Blocks) (e m : Configuration) → Kept p m → IsLike p block e m → IsLooseCut p block e m
-loose_cut p block e m kept like =
-    record {
-      like = like;
-      issued = kept.issued;
-      both = kept.both;
-      back = kept.back;
-      returned = kept.returned;
-      unbuffered = kept.never;
-      sends = kept.sends;
-      takers = kept.takers;
-    }
-
 backdrop : (p : MpiProgram) (steps : List Step) (block : Blocks) → IsInRankOrder p → IsEndedRun p steps → BuffersAllItMay p steps → AreBlocks p block → HasNoRaceOfBlocks p block (after_all (opening p) steps) → Backdrop p block (after_all (opening p) steps) (λ m. Unit {0})
 backdrop p steps block order ended choice are none =
     record {
@@ -604,48 +525,6 @@ blocks_stick_always p steps block order stuck choice are none =
     always_stuck p steps block (λ m. Unit {0}) order stuck (backdrop p steps block order (ended_of p steps stuck) choice are none) tt
 
 -- ---- by a table
-
--- what is sure of the partners is so wherever a run passes
-sure_agrees : (p : MpiProgram) (block : Blocks) (e sure m : Configuration) → Kept p e → Kept p m → IsLike p block e m → IsSure p block e sure → Agrees m sure
-sure_agrees p block e sure m kept_e kept like is c x y here there =
-    elim (kept.fit c x here) [
-      | inl taken ↦ sent_to taken
-      | inr fit ↦ found_by fit
-    ]
-  where
-    own : partner_of e c ≡ Some y
-    own = is.within c y there
-
-    sent_to : takes p c x ≡ true → x ≡ y
-    sent_to taken =
-        let u = like.taken c x taken here in
-        let same : block x ≡ block y = u.2 ∙ ap block (same_some u.0 y (sym u.1 ∙ own)) in
-        elim (kept_e.fit c y own) [
-          | inr other ↦ absurd (no_send_is_taker p c x y (takes_fit p c x taken) other)
-          | inl taken_y ↦
-              elim (cases_eq x y) [
-                | inl e ↦ e
-                | inr differ ↦ absurd (is.taker c y there (fit_finder p c y (takes_fit p c y taken_y)) (record { fellow = x; finder = fit_finder p c x (takes_fit p c x taken); same = same; other = differ }))
-              ]
-        ]
-
-    found_by : are_fit p x c ≡ true → x ≡ y
-    found_by fit =
-        elim (is_or_not (is_probe p c)) [
-          | inl probe ↦ same_some x y (sym (like.seen x c probe fit here) ∙ own)
-          | inr taker ↦
-              let taken : takes p x c ≡ true = takes_made p x c fit taker in
-              let u = like.taken x c taken (kept.back x c taken here) in
-              elim (kept_e.fit x u.0 u.1) [
-                | inr other ↦ absurd (no_send_is_taker p x c u.0 fit other)
-                | inl taken_u ↦
-                    let fit_u = takes_fit p x u.0 taken_u in
-                    elim (cases_eq u.0 c) [
-                      | inl same ↦ same_some x y (sym (ap (partner_of e) (sym same) ∙ kept_e.both x u.0 fit_u u.1) ∙ own)
-                      | inr differ ↦ absurd (is.finder c y there (fit_finder p x c fit) (record { fellow = u.0; finder = fit_finder p x u.0 fit_u; same = sym u.2; other = differ }))
-                    ]
-              ]
-        ]
 
 table_backdrop : (p : MpiProgram) (steps : List Step) (block : Blocks) (sure : Configuration) (knows : Table) → IsInRankOrder p → IsEndedRun p steps → BuffersAllItMay p steps → AreBlocks p block → IsSure p block (after_all (opening p) steps) sure → IsJustified p sure knows → ShowsNoRaceOfBlocksBefore p block (after_all (opening p) steps) knows → Backdrop p block (after_all (opening p) steps) (Told p knows)
 table_backdrop p steps block sure knows order ended choice are is justified shows =

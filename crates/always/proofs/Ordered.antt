@@ -1,22 +1,18 @@
 -- Where no send races for a finder that has found one, a run that buffers all it may and can't go
 -- on is the greatest.
-use Rattle.std.proofs.Common.{◌≡◌, ℕ, ◌<◌, ◌⊎◌, inl, inr, true, false, ◌&&◌, ◌==◌, List, [], ◌∷◌, Option, Some, None, is_some, slice_index, refl, sym, ap, ◌∙◌, subst, arith}
-use Rattle.std.proofs.lemmas.Bool.{cases_eq, cases_lt, eqb-true, eq-eqb}
-use Rattle.calltext.proofs.Conjunctions.{and_true}
+use Rattle.std.proofs.Common.{◌≡◌, ℕ, ◌<◌, ◌⊎◌, inl, inr, true, false, List, [], ◌∷◌, Some, slice_index, refl, sym, ap, ◌∙◌, subst, arith}
+use Rattle.std.proofs.lemmas.Bool.{cases_eq, cases_lt}
 use Rattle.calltext.specs.declared.call.Policy.{Policy}
 use Rattle.calltext.specs.declared.call.Policy.TheVariants.{Any, Never, Always}
-use Rattle.callorder.specs.declared.calls.Call.{Call}
-use Rattle.callorder.specs.declared.calls.Message.{Message}
-use Rattle.callorder.specs.declared.calls.Pattern.{Pattern}
-use Rattle.callorder.specs.Calls.{message_of, pattern_of, fits_between, covers, both_hold, fits}
-use Rattle.callorder.specs.Programs.{MpiProgram, call_at, are_fit, is_probe, are_of_one_rank, have_one_rank}
+use Rattle.callorder.specs.Calls.{fits}
+use Rattle.callorder.specs.Programs.{MpiProgram, are_fit, is_probe, are_of_one_rank}
 use Rattle.semantics.specs.declared.state.Step.{Step}
 use Rattle.semantics.specs.Machine.{Configuration, opening, after, after_all, IsEnabled, IsRun, CanFind, is_issued, is_matched, partner_of}
 use Rattle.run_laws.specs.Laws.{IsInRankOrder}
 use Rattle.run_laws.specs.Places.{find_step}
 use Rattle.run_laws.proofs.Matched.{no_send_is_taker}
 use Rattle.run_laws.proofs.Descent.{some_match_or_see_is_enabled}
-use Rattle.races.specs.Races.{IsCut, MatchesWithin, NamesSources, names_source}
+use Rattle.races.specs.Races.{MatchesWithin, NamesSources}
 use Rattle.races.specs.Tells.{Table, IsJustified}
 use Rattle.always.specs.Always.{HasNoRaceBefore, ShowsNoRaceBefore, HasEnded, BuffersAllItMay, IsEndedRun}
 use Rattle.always.specs.Laws.{OrderedIsGreatest, OrderedSticksAlways, TableIsGreatest, TableSticksAlways, NamedSourcesAreGreatest, NamedSourcesStickAlways, OnlyChoiceMixes, TwoRunsDecide}
@@ -24,7 +20,7 @@ use Rattle.races.proofs.Steps.{is_or_not, some_or_none, same_some, matched_from,
 use Rattle.races.proofs.Kept.{Part, Kept, new_or_old, issued_more, finders_of_one_rank, takes_fit, takes_made, probe_returned}
 use Rattle.races.proofs.Passing.{kept_after, kept_opening, kept_run, part_all, none_issued}
 use Rattle.races.proofs.Climb.{no_later_taker}
-use Rattle.races.proofs.OneWay.{named_sources_never_stick}
+use Rattle.races.proofs.OneWay.{named_sources_never_stick, cut_of, no_earlier_taker, one_source}
 use Rattle.races.proofs.Telling.{Agrees, Told, told_step}
 use Rattle.always.proofs.Buffering.{AllBuffered, buffered_all, no_choice}
 use Rattle.always.proofs.Behind.{ended_of}
@@ -35,20 +31,6 @@ use Rattle.always.proofs.Greatest.{is_part_of, rise, all_buffered_opening, great
 record HoldsBack (p : MpiProgram) (e : Configuration) (Q : Configuration → Type 0) : Type 0 where
   step : (m : Configuration) (x : Step) → Kept p m → Part p m e → IsEnabled p m x → Q m → Q (after m x)
   held : (m : Configuration) (f own other : ℕ) → Kept p m → Part p m e → Q m → partner_of e f ≡ Some own → are_fit p own f ≡ true → are_fit p other f ≡ true → are_of_one_rank p own other ≡ false → ((t : ℕ) → partner_of e other ≡ Some t → t < f → ⊥) → is_issued p m other ≡ true → is_matched m f ≡ true
-
--- a send isn't found past an earlier taker with which it is matched at the end
-no_earlier_taker : (p : MpiProgram) (m e : Configuration) (s f t : ℕ) → Kept p m → Kept p e → MatchesWithin m e → CanFind p m s f → partner_of e s ≡ Some t → t < f → ⊥
-no_earlier_taker p m e s f t kept kept_e within can sent below =
-    elim (kept_e.fit s t sent) [
-      | inr other ↦ no_send_is_taker p s f t can.fit other
-      | inl taken ↦
-          let fits : are_fit p s t ≡ true = takes_fit p s t taken in
-          let w = partner_from m t (can.takers t below (finders_of_one_rank p s t f fits can.fit) taken) in
-          let same : w.0 ≡ s = same_some w.0 s (sym (within t w.0 w.1) ∙ kept_e.both s t fits sent) in
-          let on : is_matched m s ≡ true = matched_from m s t (kept.back s t taken (w.1 ∙ ap Some same)) in
-          let off : is_matched m s ≡ false = can.send_open in
-          cc
-    ]
 
 -- where a finder is open, a send that fits it has an earlier taker, if any
 pub earlier_taker : (p : MpiProgram) (e : Configuration) (s f t : ℕ) → Kept p e → is_matched e f ≡ false → are_fit p s f ≡ true → partner_of e s ≡ Some t → t < f
@@ -159,18 +141,6 @@ greatest p steps other Q order ended choice holds q run =
 
 -- ---- by cuts
 
-cut_of : (p : MpiProgram) (e m : Configuration) → Kept p m → MatchesWithin m e → IsCut p e m
-cut_of p e m kept within =
-    record {
-      within = within;
-      issued = kept.issued;
-      both = kept.both;
-      returned = kept.returned;
-      unbuffered = kept.never;
-      sends = kept.sends;
-      takers = kept.takers;
-    }
-
 cuts_hold_back : (p : MpiProgram) (e : Configuration) → HasNoRaceBefore p e → HoldsBack p e (λ m. Unit {0})
 cuts_hold_back p e none =
     record {
@@ -210,34 +180,6 @@ table_sticks_always p steps knows order stuck choice justified shows =
     greatest_sticks_always p steps order stuck (table_is_greatest p steps knows order (ended_of p steps stuck) choice justified shows)
 
 -- ---- where each finder names its source
-
--- a send that fits a finder which names its source is of that rank
-source_is : (r d : ℕ) (a : Option Message) (b : Option Pattern) → names_source b ≡ true → fits_between r a d b ≡ true → (q : ℕ) × ((u v : ℕ) (x : Option Message) → fits_between u x v b ≡ true → u ≡ q)
-source_is r d None b named fit = absurd (cc)
-source_is r d (Some a) None named fit = absurd (cc)
-source_is r d (Some a) (Some b) named fit = of_source b.source refl
-  where
-    is_that : (q u v : ℕ) (x : Option Message) → b.source ≡ Some q → fits_between u x v (Some b) ≡ true → u ≡ q
-    is_that q u v None e h = absurd (cc)
-    is_that q u v (Some x) e h =
-        let covered : covers b.source u ≡ true = (and_true (x.destination == v && x.communicator == b.communicator) (covers b.source u) (and_true (x.destination == v && x.communicator == b.communicator && covers b.source u) (covers b.tag x.tag) h).0).1 in
-        sym (eqb-true q u (subst (λ (z : Option ℕ). covers z u ≡ true) e covered))
-
-    of_source : (o : Option ℕ) → b.source ≡ o → (q : ℕ) × ((u v : ℕ) (x : Option Message) → fits_between u x v (Some b) ≡ true → u ≡ q)
-    of_source None e = absurd (let some : is_some b.source ≡ true = named in cc)
-    of_source (Some q) e = (q, λ u v x h. is_that q u v x e h)
-
-one_source : (p : MpiProgram) (f s x : ℕ) → NamesSources p → are_fit p s f ≡ true → are_fit p x f ≡ true → are_of_one_rank p s x ≡ true
-one_source p f s x named a b = by (call_at p s) (call_at p x) (call_at p f) refl a b
-  where
-    by : (o u v : Option Call) → call_at p f ≡ v → both_hold fits o v ≡ true → both_hold fits u v ≡ true → both_hold have_one_rank o u ≡ true
-    by None u v is a b = absurd (cc)
-    by (Some o) None None is a b = absurd (cc)
-    by (Some o) None (Some v) is a b = absurd (cc)
-    by (Some o) (Some u) None is a b = absurd (cc)
-    by (Some o) (Some u) (Some v) is a b =
-        let w = source_is o.rank v.rank (message_of o.kind) (pattern_of v.kind) (named f v is) a in
-        eq-eqb u.rank o.rank (w.1 u.rank v.rank (message_of u.kind) b ∙ sym (w.1 o.rank v.rank (message_of o.kind) a))
 
 named_no_race : (p : MpiProgram) (e : Configuration) → NamesSources p → HasNoRaceBefore p e
 named_no_race p e named f own other found fit fits apart earlier m cut part issued =

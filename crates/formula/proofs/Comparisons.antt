@@ -108,7 +108,7 @@ then_not : (v : Bool) → (not v || false) ≡ false → v ≡ true
 then_not true e = refl
 then_not false e = absurd cc
 
-neither : (b c : Bool) → b ≡ false → c ≡ false → (b || c) ≡ false
+pub neither : (b c : Bool) → b ≡ false → c ≡ false → (b || c) ≡ false
 neither false c e f = f
 neither true c e f = absurd cc
 

@@ -26,7 +26,7 @@ same_parts a v w false false e f = let same : v ≡ w = grind (arith, nat_tests)
 same_parts a v w true false e f = absurd (grind (arith, nat_tests))
 same_parts a v w false true e f = absurd (grind (arith, nat_tests))
 
-or_swap : (a b c : Bool) → (a || (b || c)) ≡ (b || (a || c))
+pub or_swap : (a b c : Bool) → (a || (b || c)) ≡ (b || (a || c))
 or_swap true true c = refl
 or_swap true false c = refl
 or_swap false true c = refl

@@ -35,7 +35,7 @@ pub position_in : {X : Type 0} (test : X → Bool) (xs ys : List X) → list_any
 position_in test [] ys h = absurd cc
 position_in test (x ∷ xs) ys h = in_step test xs ys (test x) h (position_in test xs ys)
 
-position_map : {X Y : Type 0} (test : Y → Bool) (f : X → Y) (xs : List X) → position_or_len test (map f xs) ≡ position_or_len (λ x. test (f x)) xs
+pub position_map : {X Y : Type 0} (test : Y → Bool) (f : X → Y) (xs : List X) → position_or_len test (map f xs) ≡ position_or_len (λ x. test (f x)) xs
 position_map test f [] = refl
 position_map test f (x ∷ xs) = ap (λ (z : ℕ). cond (not (test (f x))) (1 + z) 0) (position_map test f xs)
 

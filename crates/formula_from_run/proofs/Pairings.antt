@@ -9,7 +9,7 @@ use Rattle.semantics.specs.declared.state.Step.TheVariants.{Issue, Match, See}
 use Rattle.semantics.specs.Machine.{Configuration, opening, after, after_all, IsEnabled, IsRun, CanFind, is_matched, partner_of}
 use Rattle.semantics.proofs.Lengths.{matched_within}
 use Rattle.semantics.proofs.Runs.{IsRun-at}
-use Rattle.run_laws.proofs.Matched.{found_once, no_send_is_taker, send_before, found_before, can_find_at, not_true}
+use Rattle.run_laws.proofs.Matched.{found_once, no_send_is_taker, send_before, found_before, can_find_at, not_true, same_size}
 use Rattle.run_laws.specs.Places.{find_step, IsFoundAt}
 use Rattle.formula.proofs.Elements.{and_both}
 use Rattle.formula.specs.declared.facts.Event.TheVariants.{Match as match_of}
@@ -64,14 +64,9 @@ partner_later p m [] (suc i) c u run e = e
 partner_later p m (x ∷ steps) zero c u run e = keeps_all p m (x ∷ steps) c u run e
 partner_later p m (x ∷ steps) (suc i) c u run e = partner_later p (after m x) steps i c u run.1 e
 
-length_after : (m : Configuration) (x : Step) → length (after m x).partner ≡ length m.partner
-length_after m (Issue r b) = refl
-length_after m (Match s t) = length-set (slice_set m.partner s (Some t)) t (Some s) ∙ length-set m.partner s (Some t)
-length_after m (See s f) = length-set m.partner f (Some s)
-
 length_partner : (m : Configuration) (steps : List Step) → length (after_all m steps).partner ≡ length m.partner
 length_partner m [] = refl
-length_partner m (x ∷ steps) = length_partner (after m x) steps ∙ length_after m x
+length_partner m (x ∷ steps) = length_partner (after m x) steps ∙ same_size m x
 
 one_for_each_call : (p : MpiProgram) (steps : List Step) → length (after_all (opening p) steps).partner ≡ length p.calls
 one_for_each_call p steps = length_partner (opening p) steps ∙ length-replicate (length p.calls) None

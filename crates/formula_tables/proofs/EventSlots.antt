@@ -12,14 +12,11 @@ use Rattle.formula.specs.declared.facts.Event.{Event}
 use Rattle.formula.specs.declared.facts.Event.TheVariants.{Issue as issue_of, Match as match_of}
 use Rattle.formula.specs.Families.{events, place_of, is_finder}
 use Rattle.formula.proofs.Elements.{Each, each_append, each_map, each_filter, each_range, each_mono, all_from_each}
+use Rattle.formula.proofs.Numbers.{position_map}
 use Rattle.formula_tables.specs.Places.{first_place}
 use Rattle.formula_tables.specs.Slots.{event_slot, event_slots}
 
 -- ---- lists
-
-pub position_map : {X Y : Type 0} (test : Y → Bool) (f : X → Y) (xs : List X) → position_or_len test (map f xs) ≡ position_or_len (λ x. test (f x)) xs
-position_map test f [] = refl
-position_map test f (x ∷ xs) = ap (λ (z : ℕ). cond (not (test (f x))) (1 + z) 0) (position_map test f xs)
 
 -- tests that agree on each element find one place
 pub position_each : {X : Type 0} (s t : X → Bool) (xs : List X) → Each (λ x. s x ≡ t x) xs → position_or_len s xs ≡ position_or_len t xs

@@ -15,6 +15,7 @@ use Rattle.formula.specs.Numbering.{facts, meanings, is_same_fact, is_same_meani
 use Rattle.formula.proofs.Elements.{Each, each_mono, each_range, each_from, any_map, any_flat_map, position_within}
 use Rattle.formula.proofs.Numbers.{numbers_of_order, size_positive, clocks_length, any_none, position_in, before_lacks, same_lacks}
 use Rattle.formula.proofs.Used.{is_pair, each_used}
+use Rattle.formula.proofs.Comparisons.{neither}
 use Rattle.formula_tables.proofs.EventSlots.{position_map}
 use Rattle.formula_tables.proofs.Apart.{not_both, unequal}
 
@@ -35,10 +36,6 @@ position_most test (x ∷ xs) = most_step test x xs (test x) (position_most test
     most_step : {X : Type 0} (test : X → Bool) (x : X) (xs : List X) (b : Bool) → position_or_len test xs ≤ length xs → cond (not b) (1 + position_or_len test xs) 0 ≤ suc (length xs)
     most_step test x xs true h = omega (arith, h)
     most_step test x xs false h = omega (arith, h)
-
-neither : (b c : Bool) → b ≡ false → c ≡ false → (b || c) ≡ false
-neither false c e f = f
-neither true c e f = absurd cc
 
 any_both : {X : Type 0} (test : X → Bool) (xs ys : List X) → list_any test xs ≡ false → list_any test ys ≡ false → list_any test (xs ++ ys) ≡ false
 any_both test xs ys h k = list_any-append test xs ys ∙ neither (list_any test xs) (list_any test ys) h k

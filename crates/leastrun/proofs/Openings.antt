@@ -9,6 +9,7 @@ use Rattle.semantics.specs.Machine.{Configuration, is_issued, is_matched, CanFin
 use Rattle.run_laws.specs.Laws.{IsOpenPair}
 use Rattle.run_laws.specs.Places.{find_step}
 use Rattle.races.proofs.Steps.{not_true, is_or_not, issued_within, within_issued, one_rank, same_some}
+use Rattle.races.proofs.Telling.{or_parts}
 use Rattle.leastrun.specs.declared.walk.Buffering.{Buffering}
 use Rattle.leastrun.specs.declared.walk.Buffering.TheVariants.{Least, Most}
 use Rattle.leastrun.specs.parts.Waiting.{is_mate, IsLeastMate, NoMate, step_between, NoOpenPair, IsFresh, IsFind, IsNext}
@@ -30,10 +31,6 @@ or_second : (a b : Bool) → b ≡ true → (a || b) ≡ true
 or_second true b h = refl
 or_second false b h = h
 
-or_cases : (a b : Bool) → (a || b) ≡ true → (a ≡ true) ⊎ (b ≡ true)
-or_cases true b h = inl refl
-or_cases false b h = inr h
-
 pub mate_made : (p : MpiProgram) (m : Configuration) (c y : ℕ) → is_open p m y ≡ true → (are_fit p c y ≡ true) ⊎ (are_fit p y c ≡ true) → is_mate p m c y ≡ true
 mate_made p m c y opened fit =
     and_both (is_open p m y) (are_fit p c y || are_fit p y c) opened
@@ -46,7 +43,7 @@ pub mate_open : (p : MpiProgram) (m : Configuration) (c y : ℕ) → is_mate p m
 mate_open p m c y h = (and_true (is_open p m y) (are_fit p c y || are_fit p y c) h).0
 
 pub mate_fits : (p : MpiProgram) (m : Configuration) (c y : ℕ) → is_mate p m c y ≡ true → (are_fit p c y ≡ true) ⊎ (are_fit p y c ≡ true)
-mate_fits p m c y h = or_cases (are_fit p c y) (are_fit p y c) (and_true (is_open p m y) (are_fit p c y || are_fit p y c) h).1
+mate_fits p m c y h = or_parts (are_fit p c y) (are_fit p y c) (and_true (is_open p m y) (are_fit p c y || are_fit p y c) h).1
 
 -- ---- what may be found
 

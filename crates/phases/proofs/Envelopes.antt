@@ -94,7 +94,7 @@ record Taken (h : Envelope) (x : Call) : Type 0 where
   communicator : pattern.communicator ≡ h.communicator
   taker : is_probe_kind x.kind ≡ false
 
-number_is : (o : Option ℕ) (n : ℕ) → is_number o n ≡ true → o ≡ Some n
+pub number_is : (o : Option ℕ) (n : ℕ) → is_number o n ≡ true → o ≡ Some n
 number_is None n e = absurd (cc)
 number_is (Some k) n e = ap Some (eqb-true k n e)
 

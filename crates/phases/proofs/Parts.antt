@@ -1,6 +1,6 @@
 -- What holds of a part's calls in the whole: where they stand, and when they are issued, done and
 -- returned.
-use Rattle.std.proofs.Common.{◌≡◌, ℕ, zero, suc, ◌+◌, ◌<◌, ◌≤◌, inl, inr, Bool, true, false, not, ◌&&◌, ◌||◌, ◌==◌, List, Option, Some, None, is_some, length, get_or, slice_get, slice_set, slice_index, refl, sym, ap, ◌∙◌, subst, arith, get_or-set_other, get_or-set_same}
+use Rattle.std.proofs.Common.{◌≡◌, ℕ, zero, suc, ◌+◌, ◌<◌, ◌≤◌, inl, inr, Bool, true, false, not, ◌&&◌, ◌||◌, ◌==◌, List, Option, Some, None, is_some, length, get_or, slice_get, slice_set, refl, sym, ap, ◌∙◌, subst, arith, get_or-set_other, get_or-set_same}
 use Rattle.std.proofs.lemmas.Bool.{cases_eq, eqb-true, eq-eqb}
 use Rattle.std.proofs.lemmas.List.{length-set}
 use Rattle.std.proofs.lemmas.Option.{same_Some, slice_get_within, unwrap_or-slice_get}
@@ -14,11 +14,8 @@ use Rattle.callorder.specs.declared.calls.Kind.TheVariants.{Send, Receive, Match
 use Rattle.callorder.specs.declared.calls.Message.{Message}
 use Rattle.callorder.specs.Calls.{message_of, pattern_of, operation_of, receive_of, is_probe_kind, fits_between, both_hold, holds_of, fits}
 use Rattle.callorder.specs.Programs.{MpiProgram, call_at, is_of_rank, are_of_one_rank, are_fit, is_probe, takes, kind_holds, have_one_rank}
-use Rattle.semantics.specs.declared.state.Step.{Step}
-use Rattle.semantics.specs.declared.state.Step.TheVariants.{Issue, Match, See}
 use Rattle.callorder.proofs.Lookups.{slice_get-none_past}
-use Rattle.semantics.specs.Configurations.{IsConfigurationOf}
-use Rattle.semantics.specs.Machine.{Configuration, after, CanFind, is_issued, is_matched, is_buffered, is_fetched, is_done, is_done_kind, is_returned, is_returned_kind, fetches, fetches_partner, has_returned_before, may_be, can_issue, can_issue_next, can_issue_call}
+use Rattle.semantics.specs.Machine.{Configuration, CanFind, is_issued, is_matched, is_buffered, is_fetched, is_done, is_done_kind, is_returned, is_returned_kind, fetches, fetches_partner, has_returned_before, may_be, can_issue, can_issue_next, can_issue_call}
 use Rattle.semantics.proofs.Lengths.{matched_is}
 use Rattle.run_laws.specs.Laws.{IsOpenPair}
 use Rattle.phases.specs.CallPlaces.{IsPart, IsFrom, IsWellFormed, moved_kind, moved_call}
@@ -367,23 +364,3 @@ of_rank_between p is r e k s low high at_e at_s =
     between_as p is r e k s y.0 z.0 low high y.1 y.2 z.1 z.2 (call_at p k) refl
 
 -- ---- sizes
-
-pub configuration_after : (p : MpiProgram) (m : Configuration) (step : Step) → IsConfigurationOf p m → IsConfigurationOf p (after m step)
-configuration_after p m (Issue r b) of =
-    record {
-      next = length-set m.next r (slice_index m.next r + 1) ∙ of.next;
-      buffered = length-set m.buffered (slice_index m.next r) b ∙ of.buffered;
-      partner = of.partner;
-    }
-configuration_after p m (Match s t) of =
-    record {
-      next = of.next;
-      buffered = of.buffered;
-      partner = length-set (slice_set m.partner s (Some t)) t (Some s) ∙ length-set m.partner s (Some t) ∙ of.partner;
-    }
-configuration_after p m (See s f) of =
-    record {
-      next = of.next;
-      buffered = of.buffered;
-      partner = length-set m.partner f (Some s) ∙ of.partner;
-    }

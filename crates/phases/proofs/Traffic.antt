@@ -113,7 +113,7 @@ nothing_here own (Wait operation) a elsewhere = (refl, no_pattern (own == a.rank
 
 -- ---- one more call
 
-one_more : (test : Call → Bool) (calls : List Call) (call : Call) → test call ≡ true → count_by test (calls ++ call ∷ []) ≡ count_by test calls + 1
+pub one_more : (test : Call → Bool) (calls : List Call) (call : Call) → test call ≡ true → count_by test (calls ++ call ∷ []) ≡ count_by test calls + 1
 one_more test calls call on =
     let all = sum_by-append (λ (z : Call). cond (test z) 1 0) calls (call ∷ []) in
     let one = sum_by-cons (λ (z : Call). cond (test z) 1 0) call [] in
@@ -121,7 +121,7 @@ one_more test calls call on =
     let none : count_by test [] ≡ 0 = refl in
     omega (arith, all, one, last, none)
 
-no_more : (test : Call → Bool) (calls : List Call) (call : Call) → test call ≡ false → count_by test (calls ++ call ∷ []) ≡ count_by test calls
+pub no_more : (test : Call → Bool) (calls : List Call) (call : Call) → test call ≡ false → count_by test (calls ++ call ∷ []) ≡ count_by test calls
 no_more test calls call off =
     let all = sum_by-append (λ (z : Call). cond (test z) 1 0) calls (call ∷ []) in
     let one = sum_by-cons (λ (z : Call). cond (test z) 1 0) call [] in

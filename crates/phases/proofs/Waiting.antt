@@ -1,11 +1,8 @@
 -- Where a rank has gone past a call, what the call waits for has found a message; and a rank whose
 -- calls are all over has gone past each.
-use Rattle.std.proofs.Common.{◌≡◌, ◌≢◌, ℕ, zero, suc, ◌+◌, ◌*◌, ◌<◌, ◌≤◌, ◌⊎◌, inl, inr, Bool, true, false, cond, not, ◌||◌, nat_lt, List, [], ◌∷◌, ◌++◌, Some, None, is_some, length, slice_get, slice_set, slice_index, refl, sym, ap, ◌∙◌, subst, arith, get_or-set_other, get_or-set_same}
-use Rattle.std.specs.List.{count_by}
+use Rattle.std.proofs.Common.{◌≡◌, ◌≢◌, ℕ, zero, suc, ◌+◌, ◌*◌, ◌<◌, ◌≤◌, ◌⊎◌, inl, inr, Bool, true, false, not, ◌||◌, List, [], ◌∷◌, ◌++◌, Some, None, is_some, length, slice_set, slice_index, refl, sym, ap, ◌∙◌, subst, arith, get_or-set_other, get_or-set_same}
 use Rattle.std.proofs.lemmas.Bool.{cases_eq, cases_lt}
-use Rattle.std.proofs.lemmas.Bool.Decides.{nat_tests}
 use Rattle.std.proofs.lemmas.List.{length-append}
-use Rattle.std.proofs.lemmas.List.Sums.{sum_by-cons}
 use Rattle.std.proofs.lemmas.List.FromFn.{get_or-map-range_with_len}
 use Rattle.std.proofs.lemmas.Option.{same_Some, slice_get_within, get_or_from_slice_get}
 use Rattle.calltext.proofs.Conjunctions.{and_true}
@@ -21,6 +18,8 @@ use Rattle.semantics.proofs.Lengths.{matched_grows, matched_is, runs_are_short}
 use Rattle.phases.specs.CallPlaces.{IsWellFormed}
 use Rattle.phases.specs.Order.{IsFinder, Needs}
 use Rattle.phases.proofs.Parts.{rank_is, before_to, IssueParts, issue_parts, of_rank_between}
+use Rattle.run_laws.proofs.Issued.{lower_before}
+use Rattle.run_laws.proofs.Matched.{is_matched-other}
 
 -- ---- what a call waits for
 
@@ -83,25 +82,6 @@ waited_step : (p : MpiProgram) (m : Configuration) (step : Step) → IsWaited p 
 waited_step p m (Issue r b) waited enabled = waited_issue p m r b waited (issue_parts p m r b enabled)
 waited_step p m (Match s t) waited enabled = λ c o call there past needs. matched_grows m (Match s t) o (waited c o call there past needs)
 waited_step p m (See s f) waited enabled = λ c o call there past needs. matched_grows m (See s f) o (waited c o call there past needs)
-
--- as many calls as are of a lower rank stand before each call of this one
-pub lower_before : (r : ℕ) (calls : List Call) (c : ℕ) → ((d : ℕ) (x : Call) → c ≤ d → slice_get calls d ≡ Some x → r ≤ x.rank) → count_by (λ call. nat_lt call.rank r) calls ≤ c
-lower_before r [] c from = omega arith
-lower_before r (call ∷ calls) zero from =
-    let first : r ≤ call.rank = from 0 call (omega arith) refl in
-    let off : nat_lt call.rank r ≡ false = grind (arith, nat_tests) in
-    let rest = lower_before r calls 0 (λ d x h there. from (suc d) x (omega arith) there) in
-    rw (sum_by-cons (λ (y : Call). cond (nat_lt y.rank r) 1 0) call calls, off) (none _ rest)
-  where
-    none : (n : ℕ) → n ≤ 0 → cond false 1 0 + n ≤ 0
-    none n h = omega (arith, h)
-lower_before r (call ∷ calls) (suc c) from =
-    let rest = lower_before r calls c (λ d x h there. from (suc d) x (omega (arith, h)) there) in
-    rw (sum_by-cons (λ (y : Call). cond (nat_lt y.rank r) 1 0) call calls) (count_step (nat_lt call.rank r) _ c rest)
-  where
-    count_step : (b : Bool) (n c : ℕ) → n ≤ c → cond b 1 0 + n ≤ suc c
-    count_step true n c h = omega arith
-    count_step false n c h = omega arith
 
 pub opening_low : (p : MpiProgram) → IsWellFormed p → (c : ℕ) (call : Call) → call_at p c ≡ Some call → slice_index (opening p).next call.rank ≤ c
 opening_low p is c call there =
@@ -232,11 +212,6 @@ goes_on p steps run never =
 
 -- ---- what a finder finds later
 
--- a match changes its two calls, and a see its probe
-pub unmatched : (m : Configuration) (s t c : ℕ) → c ≢ s → c ≢ t → is_matched (after m (Match s t)) c ≡ is_matched m c
-unmatched m s t c not_s not_t =
-    matched_is (after m (Match s t)) c ∙ ap is_some (get_or-set_other (slice_set m.partner s (Some t)) t c (Some s) None not_t ∙ get_or-set_other m.partner s c (Some t) None not_s) ∙ sym (matched_is m c)
-
 pub unseen : (m : Configuration) (s f c : ℕ) → c ≢ f → is_matched (after m (See s f)) c ≡ is_matched m c
 unseen m s f c differ =
     matched_is (after m (See s f)) c ∙ ap is_some (get_or-set_other m.partner f c (Some s) None differ) ∙ sym (matched_is m c)
@@ -249,7 +224,7 @@ find_now p m (Match s t) c enabled free found =
       | inl e ↦ inl (s, ap (are_fit p s) e ∙ enabled.1.fit, enabled.1.send_open)
       | inr differ ↦ elim (cases_eq c s) [
         | inl e ↦ inr (t, ap (λ (z : ℕ). are_fit p z t) e ∙ enabled.1.fit)
-        | inr other ↦ absurd (not_both (is_matched m c) free (sym (unmatched m s t c other differ) ∙ found))
+        | inr other ↦ absurd (not_both (is_matched m c) free (sym (is_matched-other m s t c other differ) ∙ found))
       ]
     ]
   where

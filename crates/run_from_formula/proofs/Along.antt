@@ -6,6 +6,7 @@ use Rattle.callorder.specs.Programs.{MpiProgram, are_fit, takes, sees}
 use Rattle.candidates.specs.Pairs.{places, takers_of, matching_pairs, seeing_pairs}
 use Rattle.formula.specs.Families.{SymbolicClause, sends_of}
 use Rattle.formula.proofs.Elements.{Each, and_both, each_parts, each_from, each_mono, each_filter, each_from_all, each_range_at, each_at_test, any_map}
+use Rattle.formula.proofs.Times.{each_of_map}
 
 -- ---- one clause
 
@@ -36,10 +37,6 @@ each_passes test (x ∷ xs) h = let parts = and_parts (test x) (list_all test xs
 pub all_pass : {X : Type 0} (test : X → Bool) (xs : List X) → Each (λ x. test x ≡ true) xs → list_all test xs ≡ true
 all_pass test [] h = refl
 all_pass test (x ∷ xs) h = and_both (test x) (list_all test xs) h.0 (all_pass test xs h.1)
-
-pub each_of_mapped : {X Y : Type 0} (P : Y → Type 0) (f : X → Y) (xs : List X) → Each P (map f xs) → Each (λ x. P (f x)) xs
-each_of_mapped P f [] h = tt
-each_of_mapped P f (x ∷ xs) h = (h.0, each_of_mapped P f xs h.1)
 
 pub each_of_made : {X Y : Type 0} (P : Y → Type 0) (f : X → List Y) (xs : List X) → Each P (flat_map f xs) → Each (λ x. Each P (f x)) xs
 each_of_made P f [] h = tt
@@ -83,7 +80,7 @@ at_pair_of p kind test clauses h s t s_below t_below fit =
     let all = each_from_all test (λ (pair : ℕ × ℕ). clauses pair.0 pair.1) (flat_map (λ send. map (λ finder. (send, finder)) (filter (kind send) (places p))) (places p)) h in
     let rows = each_of_made P (λ send. map (λ finder. (send, finder)) (filter (kind send) (places p))) (places p) all in
     let row = each_range_at (λ send. Each P (map (λ finder. (send, finder)) (filter (kind send) (places p)))) 0 (length p.calls) rows s (omega arith) (omega (arith, s_below)) in
-    kept_at (λ finder. P (s, finder)) (kind s) (length p.calls) (each_of_mapped P (λ (finder : ℕ). (s, finder)) (filter (kind s) (places p)) row) t t_below fit
+    kept_at (λ finder. P (s, finder)) (kind s) (length p.calls) (each_of_map P (λ (finder : ℕ). (s, finder)) (filter (kind s) (places p)) row) t t_below fit
 
 pub at_pair : (p : MpiProgram) (test : SymbolicClause → Bool) (clauses : ℕ → ℕ → List SymbolicClause) → list_all test (flat_map (λ pair. clauses pair.0 pair.1) (matching_pairs p)) ≡ true → (s t : ℕ) → s < length p.calls → t < length p.calls → takes p s t ≡ true → list_all test (clauses s t) ≡ true
 at_pair p test clauses h = at_pair_of p (takes p) test clauses h

@@ -6,16 +6,11 @@ use Rattle.std.proofs.lemmas.Bool.Decides.{nat_tests}
 use Rattle.std.proofs.lemmas.List.Folds.{list_any-append}
 use Rattle.formula.specs.Families.{events}
 use Rattle.formula.proofs.Elements.{Each, each_mono}
+use Rattle.formula.proofs.NormalForms.{or_swap}
 use Rattle.run_from_formula.specs.Schedules.{happens, insert_by, sorted_by}
 use Rattle.run_from_formula.specs.Laws.{SchedulesAreByClock}
 
 -- ---- tests along lists
-
-or_swap : (a b c : Bool) → (a || (b || c)) ≡ (b || (a || c))
-or_swap true true c = refl
-or_swap true false c = refl
-or_swap false true c = refl
-or_swap false false c = refl
 
 pub false_or : (a b : Bool) → a ≡ false → b ≡ false → (a || b) ≡ false
 false_or true b h k = absurd (cc)

@@ -30,7 +30,7 @@ use Rattle.run_laws.specs.Laws.{IsInRankOrder, IssuedBeforeMatched, EarlierCalls
 
 -- where all calls from a place on are of this rank or a higher one, no more than that place are of
 -- a lower rank
-lower_before : (r : ℕ) (calls : List Call) (c : ℕ) → ((d : ℕ) (x : Call) → c ≤ d → slice_get calls d ≡ Some x → r ≤ x.rank) → count_by (λ call. nat_lt call.rank r) calls ≤ c
+pub lower_before : (r : ℕ) (calls : List Call) (c : ℕ) → ((d : ℕ) (x : Call) → c ≤ d → slice_get calls d ≡ Some x → r ≤ x.rank) → count_by (λ call. nat_lt call.rank r) calls ≤ c
 lower_before r [] c from = omega arith
 lower_before r (call ∷ calls) zero from =
     let first : r ≤ call.rank = from 0 call (omega arith) refl in
@@ -171,7 +171,7 @@ earlier_calls_issue_first p steps i c d order run w below same =
     let rank = of_rank (call_at p d) (call_at p c) own.0 w.rank own.1 own.2 same in
     issued_before p steps i d order run (issued_below m d c w.rank (call_at p d) w.next below rank)
 
-or_right : (a b : Bool) → a ≡ true → (not a || b) ≡ true → b ≡ true
+pub or_right : (a b : Bool) → a ≡ true → (not a || b) ≡ true → b ≡ true
 or_right true b e h = h
 or_right false b e h = absurd (cc)
 

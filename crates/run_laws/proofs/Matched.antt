@@ -35,7 +35,7 @@ pub record FitFind (p : MpiProgram) (steps : List Step) (c : ℕ) : Type 0 where
 abbrev some_at : List (Option ℕ) → ℕ → Bool
 some_at partner c = is_some (get_or partner c None)
 
-is_matched-other : (m : Configuration) (s t c : ℕ) → c ≢ s → c ≢ t → is_matched (after m (Match s t)) c ≡ is_matched m c
+pub is_matched-other : (m : Configuration) (s t c : ℕ) → c ≢ s → c ≢ t → is_matched (after m (Match s t)) c ≡ is_matched m c
 is_matched-other m s t c not_s not_t =
     matched_is (after m (Match s t)) c ∙ ap is_some (get_or-set_other (slice_set m.partner s (Some t)) t c (Some s) None not_t ∙ get_or-set_other m.partner s c (Some t) None not_s) ∙ sym (matched_is m c)
 
@@ -192,7 +192,7 @@ all_stay_matched m [] c holds = holds
 all_stay_matched m (x ∷ xs) c holds = all_stay_matched (after m x) xs c (matched_grows m x c holds)
 
 -- a step keeps the number of partners
-same_size : (m : Configuration) (x : Step) → length (after m x).partner ≡ length m.partner
+pub same_size : (m : Configuration) (x : Step) → length (after m x).partner ≡ length m.partner
 same_size m (Issue r b) = refl
 same_size m (Match s t) = length-set (slice_set m.partner s (Some t)) t (Some s) ∙ length-set m.partner s (Some t)
 same_size m (See s f) = length-set m.partner f (Some s)

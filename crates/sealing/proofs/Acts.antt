@@ -10,6 +10,7 @@ use Rattle.callorder.specs.declared.calls.Message.{Message}
 use Rattle.callorder.specs.declared.calls.Pattern.{Pattern}
 use Rattle.callorder.specs.Calls.{message_of, pattern_of, is_probe_kind}
 use Rattle.phases.specs.Order.{Envelope, is_addressed, sends_with, is_number, is_named, takes_with}
+use Rattle.phases.proofs.Envelopes.{number_is}
 use Rattle.sealing.specs.declared.sides.Side.{Side}
 use Rattle.sealing.specs.declared.sides.Wanted.{Wanted}
 use Rattle.sealing.specs.parts.Sides.{wanted_found, wanted_of, side_named, side_taken, side_sent, side_of, envelope_of, acts_for}
@@ -51,10 +52,6 @@ pub record Taken (h : Envelope) (call : Call) : Type 0 where
   pub tag : pattern.tag ≡ Some h.tag
   pub communicator : pattern.communicator ≡ h.communicator
   pub taker : is_probe_kind call.kind ≡ false
-
-number_is : (o : Option ℕ) (n : ℕ) → is_number o n ≡ true → o ≡ Some n
-number_is None n e = absurd (cc)
-number_is (Some k) n e = ap Some (eqb-true k n e)
 
 off : (t : Bool) → not t ≡ true → t ≡ false
 off true n = absurd (cc)

@@ -1,5 +1,5 @@
 -- Where more partners are known, and more of a finder, no less of it is told.
-use Rattle.std.proofs.Common.{◌≡◌, ℕ, zero, suc, Bool, true, false, ◌&&◌, ◌||◌, ◌==◌, Option, Some, None, refl, sym, subst}
+use Rattle.std.proofs.Common.{◌≡◌, ℕ, zero, suc, Bool, true, false, ◌||◌, ◌==◌, Option, Some, None, refl, sym, subst}
 use Rattle.calltext.specs.declared.call.Mode.TheVariants.{Standard, Synchronous, Buffered}
 use Rattle.callorder.specs.declared.calls.Call.{Call}
 use Rattle.callorder.specs.declared.calls.Kind.{Kind}
@@ -8,7 +8,7 @@ use Rattle.callorder.specs.Programs.{MpiProgram, call_at, are_of_one_rank}
 use Rattle.semantics.specs.Machine.{Configuration, partner_of}
 use Rattle.races.specs.Races.{MatchesWithin}
 use Rattle.races.specs.Tells.{Table, knows_at, tells_find, tells_receive, tells_receive_kind, tells_fetch, tells_fetch_by, never_buffers, tells_done, tells_done_call, tells_done_kind, tells_return_call, tells_return_kind, tells_issue, IsJustified}
-use Rattle.knowledge.proofs.Less.{Within}
+use Rattle.knowledge.proofs.Less.{Within, and_more, or_both}
 
 or_left : (a b : Bool) → a ≡ true → (a || b) ≡ true
 or_left true b h = refl
@@ -17,14 +17,6 @@ or_left false b h = absurd (cc)
 or_right : (a b : Bool) → b ≡ true → (a || b) ≡ true
 or_right true b h = refl
 or_right false b h = h
-
-pub or_both : (a b c d : Bool) → (a ≡ true → c ≡ true) → (b ≡ true → d ≡ true) → (a || b) ≡ true → (c || d) ≡ true
-or_both true b c d left right h = or_left c d (left refl)
-or_both false b c d left right h = or_right c d (right h)
-
-and_more : (a b c : Bool) → (b ≡ true → c ≡ true) → (a && b) ≡ true → (a && c) ≡ true
-and_more true b c more h = more h
-and_more false b c more h = h
 
 -- the second may be more than the first
 abbrev StaysIn : Option ℕ → Option ℕ → Type 0

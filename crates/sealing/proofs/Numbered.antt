@@ -6,7 +6,7 @@ use Rattle.std.specs.List.{count_by}
 use Rattle.std.specs.Option.{option_eq, unwrap_or}
 use Rattle.std.proofs.lemmas.Bool.{cases_eq, cases_lt, eqb-true, eq-eqb}
 use Rattle.std.proofs.lemmas.List.{take_more, length-append, get_or_append_left, get_or_push}
-use Rattle.std.proofs.lemmas.List.Sums.{sum_by-append, sum_by-cons}
+use Rattle.std.proofs.lemmas.List.Sums.{sum_by-cons}
 use Rattle.std.proofs.lemmas.Option.{same_Some, slice_get_within, slice_get-get_or, get_or_from_slice_get}
 use Rattle.calltext.proofs.Conjunctions.{and_true, and_both}
 use Rattle.callorder.specs.declared.calls.Call.{Call}
@@ -15,6 +15,7 @@ use Rattle.sealing.specs.declared.sides.Wanted.{Wanted}
 use Rattle.sealing.specs.declared.occurrences.Occurrence.{Occurrence}
 use Rattle.sealing.specs.parts.Sides.{wanted_of, side_of, acts_for, same_side, same_wanted, same_occurrence, occurrence_behind, occurrence_there, occurrence_at, AreCounts, AreOccurrences, ArePlaces, IsAsked, AreAsked}
 use Rattle.sealing.proofs.Acts.{acts_so, side_is, side_with}
+use Rattle.phases.proofs.Traffic.{no_more, one_more}
 
 -- ---- equal sides, and equal occurrences
 
@@ -90,22 +91,6 @@ same_wanted_itself a =
     (and_both (same_option a.tag a.tag) (a.communicator == a.communicator) (same_option_itself a.tag) (eq-eqb a.communicator a.communicator refl)))
 
 -- ---- one more call is counted
-
-one_more : (test : Call → Bool) (calls : List Call) (call : Call) → test call ≡ true → count_by test (calls ++ call ∷ []) ≡ count_by test calls + 1
-one_more test calls call on =
-    let all = sum_by-append (λ (z : Call). cond (test z) 1 0) calls (call ∷ []) in
-    let one = sum_by-cons (λ (z : Call). cond (test z) 1 0) call [] in
-    let last : cond (test call) 1 0 ≡ 1 + 0 = ap (λ (b : Bool). cond b 1 0) on in
-    let none : count_by test [] ≡ 0 = refl in
-    omega (arith, all, one, last, none)
-
-no_more : (test : Call → Bool) (calls : List Call) (call : Call) → test call ≡ false → count_by test (calls ++ call ∷ []) ≡ count_by test calls
-no_more test calls call off =
-    let all = sum_by-append (λ (z : Call). cond (test z) 1 0) calls (call ∷ []) in
-    let one = sum_by-cons (λ (z : Call). cond (test z) 1 0) call [] in
-    let last : cond (test call) 1 0 ≡ 0 + 0 = ap (λ (b : Bool). cond b 1 0) off in
-    let none : count_by test [] ≡ 0 = refl in
-    omega (arith, all, one, last, none)
 
 -- a call of this side
 pub side_counted : (calls : List Call) (call : Call) (old new : Side → Option ℕ) (side : Side) (index : ℕ) → side_of call ≡ Some side
