@@ -27,12 +27,13 @@ use Rattle.formula_from_run.proofs.Ranks.{not_false}
 use Rattle.formula_from_run.proofs.Returns.{condition_holds, returned_is, no_pattern}
 use Rattle.formula_from_run.proofs.Starts.{there_within}
 use Rattle.formula_from_run.proofs.Waits.{names_issued}
-use Rattle.run_from_formula.proofs.Along.{or_only, each_passes, each_of_mapped, kept_at, found_mapped, takers_take, sends_fit}
+use Rattle.run_from_formula.proofs.Along.{or_only, each_passes, kept_at, found_mapped, takers_take, sends_fit}
 use Rattle.run_from_formula.proofs.Consequences.{Hold, Consequences, split_hold, either_of}
 use Rattle.run_from_formula.proofs.Ends.{issued_said, sent_said, received_said}
 use Rattle.run_from_formula.proofs.Returning.{names_standard}
 use Rattle.run_from_formula.proofs.Stages.{IsStage}
 use Rattle.finishing.specs.Formula.{is_met, all_calls_are_issued, last_calls_have_returned, all_ranks_finish}
+use Rattle.formula.proofs.Times.{each_of_map}
 
 module _ (p : MpiProgram) (world : World) (is : IsProgram p) (says : Consequences p world) (m : Configuration) (stage : IsStage p world m []) (finish : Hold world (all_ranks_finish p)) where
   parts : Hold world (all_calls_are_issued p) × Hold world (last_calls_have_returned p)
@@ -41,7 +42,7 @@ module _ (p : MpiProgram) (world : World) (is : IsProgram p) (says : Consequence
   all_issued : (c : ℕ) → c < length p.calls → is_issued p m c ≡ true
   all_issued c below =
       let clause : ℕ → SymbolicClause = λ c. is_true (issued c) ∷ [] in
-      let each = each_of_mapped (λ x. clause_holds world x ≡ true) clause (places p) (each_passes (clause_holds world) (map clause (places p)) parts.0) in
+      let each = each_of_map (λ x. clause_holds world x ≡ true) clause (places p) (each_passes (clause_holds world) (map clause (places p)) parts.0) in
       let said = each_range_at (λ c. clause_holds world (clause c) ≡ true) 0 (length p.calls) each c (omega arith) (omega (arith, below)) in
       issued_said p world is says m stage c below (or_only (world.has (issued c)) said)
 

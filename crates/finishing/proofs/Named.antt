@@ -26,8 +26,9 @@ use Rattle.formula.proofs.Named.{IsVariable, NamesFact, Clauses, issued_named, e
 use Rattle.formula.proofs.NormalForms.{numbered_clauses_mean_symbolic}
 use Rattle.formula_from_run.specs.Worlds.{is_right, clauses_hold, world_of}
 use Rattle.formula_from_run.specs.Laws.{assignment_of}
-use Rattle.run_from_formula.proofs.Along.{each_of_mapped, each_of_made}
+use Rattle.run_from_formula.proofs.Along.{each_of_made}
 use Rattle.finishing.specs.Formula.{is_met, all_calls_are_issued, last_calls_have_returned, all_ranks_finish}
+use Rattle.formula.proofs.Times.{each_of_map}
 
 -- ---- facts that the formula has a variable for
 
@@ -39,14 +40,14 @@ ends_named p is = (end_named p is).1.1.0
 pub unfinished_named : (p : MpiProgram) → IsProgram p → Each (λ c. IsVariable p (fact (unfinished (rank_of p c)))) (last_calls p)
 unfinished_named p is =
     let parts = each_parts (Each (NamesFact p)) (flat_map (λ c. where_returned p c (is_false (unfinished (rank_of p c)))) (last_calls p)) (map (λ c. is_true (unfinished (rank_of p c))) (last_calls p) ∷ []) (ends_named p is) in
-    each_of_mapped (NamesFact p) (λ c. is_true (unfinished (rank_of p c))) (last_calls p) parts.1.0
+    each_of_map (NamesFact p) (λ c. is_true (unfinished (rank_of p c))) (last_calls p) parts.1.0
 
 takers_named : (p : MpiProgram) (c send : ℕ) (x : Statement) → Clauses (NamesFact p) (where_fetched p c send x) → Each (NamesFact p) (map (λ taker. is_true (matched send taker)) (takers_of p send))
 takers_named p c send x h =
     let clause : ℕ → SymbolicClause = λ taker. is_false (issued c) ∷ is_false (matched send taker) ∷ x ∷ unless_issued (receive_on_handle p taker) in
     each_map (NamesFact p) (λ taker. is_true (matched send taker)) (takers_of p send)
     (each_mono (λ taker. Each (NamesFact p) (clause taker)) (λ taker. NamesFact p (is_true (matched send taker))) (λ taker named. named.1.0) (takers_of p send)
-    (each_of_mapped (Each (NamesFact p)) clause (takers_of p send) h))
+    (each_of_map (Each (NamesFact p)) clause (takers_of p send) h))
 
 met_named : (p : MpiProgram) (c : ℕ) (x : Statement) (k : Condition) → Clauses (NamesFact p) (where_returned_under p c x k) → Clauses (NamesFact p) (is_met p k)
 met_named p c x at_once h = tt
@@ -54,7 +55,7 @@ met_named p c x (if_matched taker) h =
     let clause : ℕ → SymbolicClause = λ send. is_false (issued c) ∷ is_false (matched send taker) ∷ x ∷ [] in (
       each_map (NamesFact p) (λ send. is_true (matched send taker)) (sends_of p taker)
           (each_mono (λ send. Each (NamesFact p) (clause send)) (λ send. NamesFact p (is_true (matched send taker))) (λ send named. named.1.0) (sends_of p taker)
-          (each_of_mapped (Each (NamesFact p)) clause (sends_of p taker) h)),
+          (each_of_map (Each (NamesFact p)) clause (sends_of p taker) h)),
       tt,
     )
 met_named p c x (if_fetched send) h = (takers_named p c send x h, tt)

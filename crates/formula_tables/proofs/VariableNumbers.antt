@@ -13,10 +13,9 @@ use Rattle.formula.specs.Families.{events}
 use Rattle.formula.specs.Orders.{clock_size, clock_meanings, pair_meanings, order_meanings, used_pairs, place_of_pair}
 use Rattle.formula.specs.Numbering.{facts, meanings, is_same_fact, is_same_meaning}
 use Rattle.formula.proofs.Elements.{Each, each_mono, each_range, each_from, any_map, any_flat_map, position_within}
-use Rattle.formula.proofs.Numbers.{numbers_of_order, size_positive, clocks_length, any_none, position_in, before_lacks, same_lacks}
+use Rattle.formula.proofs.Numbers.{numbers_of_order, size_positive, clocks_length, any_none, position_in, before_lacks, same_lacks, position_map}
 use Rattle.formula.proofs.Used.{is_pair, each_used}
 use Rattle.formula.proofs.Comparisons.{neither}
-use Rattle.formula_tables.proofs.EventSlots.{position_map}
 use Rattle.formula_tables.proofs.Apart.{not_both, unequal}
 
 -- ---- lists

@@ -17,11 +17,12 @@ use Rattle.semantics.specs.declared.state.Step.{Step}
 use Rattle.semantics.specs.declared.state.Step.TheVariants.{Issue, Match, See}
 use Rattle.semantics.specs.Configurations.{IsConfigurationOf}
 use Rattle.semantics.specs.Machine.{Configuration, opening, after, after_all, CanFind, IsEnabled, IsRun, is_matched}
-use Rattle.semantics.proofs.Lengths.{matched_is, some_set}
+use Rattle.semantics.proofs.Lengths.{matched_is, some_set, configuration_after}
 use Rattle.semantics.proofs.Runs.{IsConfigurationOf-opening}
 use Rattle.phases.specs.Conditions.{goes_to, is_send_to, finds_on, is_taker_at}
-use Rattle.phases.proofs.Parts.{configuration_after, fit_calls_there}
-use Rattle.phases.proofs.Waiting.{unmatched, unseen}
+use Rattle.phases.proofs.Parts.{fit_calls_there}
+use Rattle.phases.proofs.Waiting.{unseen}
+use Rattle.run_laws.proofs.Matched.{is_matched-other}
 
 -- ---- counts of calls that pass a test and are done
 
@@ -250,20 +251,20 @@ module _ (p : MpiProgram) (st kt : Call → Bool) (tests : AreTests p st kt) (m 
         let zero_s : 0 + s ≡ s = omega arith in
         let zero_t : 0 + t ≡ t = omega arith in
         let sends = count_one st (is_matched m) (is_matched (after m (Match s t))) 0 p.calls s a at_s sent (ap (is_matched m) zero_s ∙ can.send_open) (ap (is_matched (after m (Match s t))) zero_s ∙ now.0)
-        (λ j x at_j differ test. sym (unmatched m s t (0 + j) (λ e. differ (e ∙ sym zero_s)) (λ e. no_send_there (ap st (sym (call_is j x b t at_j at_t (let z : 0 + j ≡ j = omega arith in sym z ∙ e))) ∙ test)))) in
+        (λ j x at_j differ test. sym (is_matched-other m s t (0 + j) (λ e. differ (e ∙ sym zero_s)) (λ e. no_send_there (ap st (sym (call_is j x b t at_j at_t (let z : 0 + j ≡ j = omega arith in sym z ∙ e))) ∙ test)))) in
         let takers = count_one kt (is_matched m) (is_matched (after m (Match s t))) 0 p.calls t b at_t (tests.taker s t a b at_s at_t can.fit taker sent) (ap (is_matched m) zero_t ∙ can.finder_open) (ap (is_matched (after m (Match s t))) zero_t ∙ now.1)
-        (λ j x at_j differ test. sym (unmatched m s t (0 + j) (λ e. no_taker_there (ap kt (sym (call_is j x a s at_j at_s (let z : 0 + j ≡ j = omega arith in sym z ∙ e))) ∙ test)) (λ e. differ (e ∙ sym zero_t)))) in
+        (λ j x at_j differ test. sym (is_matched-other m s t (0 + j) (λ e. no_taker_there (ap kt (sym (call_is j x a s at_j at_s (let z : 0 + j ≡ j = omega arith in sym z ∙ e))) ∙ test)) (λ e. differ (e ∙ sym zero_t)))) in
         omega (arith, sends, takers, paired)
 
     paired_match_no : st a ≡ false → ArePaired p st kt (after m (Match s t))
     paired_match_no no_send =
         sym (count_same st (is_matched m) (is_matched (after m (Match s t))) 0 p.calls
-        (λ j x at_j test. sym (unmatched m s t (0 + j)
+        (λ j x at_j test. sym (is_matched-other m s t (0 + j)
         (λ e. two_ways (st a) (ap st (sym (call_is j x a s at_j at_s (let z : 0 + j ≡ j = omega arith in sym z ∙ e))) ∙ test) no_send)
         (λ e. no_send_there (ap st (sym (call_is j x b t at_j at_t (let z : 0 + j ≡ j = omega arith in sym z ∙ e))) ∙ test)))))
         ∙ paired
         ∙ count_same kt (is_matched m) (is_matched (after m (Match s t))) 0 p.calls
-        (λ j x at_j test. sym (unmatched m s t (0 + j)
+        (λ j x at_j test. sym (is_matched-other m s t (0 + j)
         (λ e. no_taker_there (ap kt (sym (call_is j x a s at_j at_s (let z : 0 + j ≡ j = omega arith in sym z ∙ e))) ∙ test))
         (λ e. two_ways (st a) (tests.send s t a b at_s at_t can.fit (ap kt (sym (call_is j x b t at_j at_t (let z : 0 + j ≡ j = omega arith in sym z ∙ e))) ∙ test)) no_send)))
       where

@@ -20,9 +20,10 @@ use Rattle.phases.specs.Conditions.{ComesAfter}
 use Rattle.phases.specs.Order.{Envelope, is_addressed, sends_with, is_number, is_named, takes_with, IsExact, AreCounterparts, StandsBehind}
 use Rattle.phases.specs.Laws.{CounterpartsComeFirst, MessagesOrder, OrderedIsTimely}
 use Rattle.phases.proofs.Parts.{fit_calls_there}
-use Rattle.phases.proofs.Waiting.{unmatched, unseen, runs_are_waited}
+use Rattle.phases.proofs.Waiting.{unseen, runs_are_waited}
 use Rattle.phases.proofs.Counting.{done_count, one_if, Each, each_tail, each_head, count_one, none_of, and_on, Fit, fit_parts, no_both, AreTests, tests_are_paired, none_matched}
 use Rattle.phases.proofs.Clean.{issued_below, both_ways}
+use Rattle.run_laws.proofs.Matched.{is_matched-other}
 
 -- ---- more of counts
 
@@ -169,7 +170,7 @@ matched_issued_step p m (Match s t) issued enabled = λ c e. issued_grows p m (M
       | inl is ↦ ap (is_issued p m) is ∙ enabled.1.send_issued
       | inr not_s ↦ elim (cases_eq c t) [
         | inl is ↦ ap (is_issued p m) is ∙ enabled.1.finder_issued
-        | inr not_t ↦ issued c (sym (unmatched m s t c not_s not_t) ∙ e)
+        | inr not_t ↦ issued c (sym (is_matched-other m s t c not_s not_t) ∙ e)
       ]
     ])
 matched_issued_step p m (See s f) issued enabled = λ c e. issued_grows p m (See s f) c (
@@ -216,7 +217,7 @@ in_order_step p h m (Match s f) order enabled = λ t e b d at_t at_e on_t on_e b
                 let same : a ≡ b = same_Some a b (sym at_s ∙ ap (call_at p) (sym is) ∙ at_t) in
                 let v = taken h b on_t in
                 absurd (no_both a.kind fit.message v.pattern fit.sends (ap (λ (z : Call). pattern_of z.kind) same ∙ v.is))
-            | inr not_s ↦ order t e b d at_t at_e on_t on_e below (sym (unmatched m s f t not_s not_f) ∙ matched)
+            | inr not_s ↦ order t e b d at_t at_e on_t on_e below (sym (is_matched-other m s f t not_s not_f) ∙ matched)
           ]
         ]
 in_order_step p h m (See s f) order enabled = λ t e b d at_t at_e on_t on_e below matched.

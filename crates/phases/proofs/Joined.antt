@@ -12,8 +12,8 @@ use Rattle.phases.specs.Cuts.{Cut, IsCut}
 use Rattle.phases.specs.Joining.{IsJoined, cut_between}
 use Rattle.phases.specs.Laws.{JoinedIsCut}
 use Rattle.phases.proofs.Parts.{of_rank, rank_is}
-use Rattle.phases.proofs.Waiting.{lower_before}
 use Rattle.phases.proofs.Clean.{both_ways}
+use Rattle.run_laws.proofs.Issued.{lower_before}
 
 -- ---- the calls of a rank stand from its first one on to the next rank's
 

@@ -18,7 +18,8 @@ use Rattle.run_laws.proofs.Descent.{some_match_or_see_is_enabled}
 use Rattle.phases.specs.CallPlaces.{IsFrom, IsWellFormed, moved_call}
 use Rattle.phases.specs.Cuts.{Cut, IsCut, StayInParts, StaysInPart, AreOfOnePart}
 use Rattle.phases.specs.Laws.{WholeIsNeverStuck}
-use Rattle.phases.proofs.Parts.{of_rank, rank_is, before_to, before_from, IssueParts, issue_parts, issue_made, SamePartner, IsSeen, set_in_both, probe_moved, one_place, same_place, match_written, see_written, before_in_part, find_in_part, open_in_whole, fit_calls_there, of_rank_between, configuration_after, from_rank, may_in_part, may_in_whole, returned_from}
+use Rattle.phases.proofs.Parts.{of_rank, rank_is, before_to, before_from, IssueParts, issue_parts, issue_made, SamePartner, IsSeen, set_in_both, probe_moved, one_place, same_place, match_written, see_written, before_in_part, find_in_part, open_in_whole, fit_calls_there, of_rank_between, from_rank, may_in_part, may_in_whole, returned_from}
+use Rattle.semantics.proofs.Lengths.{configuration_after}
 
 -- ---- numbers
 

@@ -18,7 +18,8 @@ use Rattle.formula_from_run.specs.Worlds.{World, is_right, clause_holds, clauses
 use Rattle.formula_from_run.proofs.Matches.{fit_within}
 use Rattle.run_laws.proofs.Descent.{takes_fit}
 use Rattle.formula_from_run.proofs.Ranks.{true_from_not}
-use Rattle.run_from_formula.proofs.Along.{or_then, or_then_then, or_only, or_first, each_passes, each_of_mapped, each_of_kept, kept_at, each_kept, found_mapped, at_call, at_pair, at_seeing_pair, takers_take, sends_fit}
+use Rattle.run_from_formula.proofs.Along.{or_then, or_then_then, or_only, or_first, each_passes, each_of_kept, kept_at, each_kept, found_mapped, at_call, at_pair, at_seeing_pair, takers_take, sends_fit}
+use Rattle.formula.proofs.Times.{each_of_map}
 
 -- the clauses hold in the world
 abbrev pub Hold : World → List SymbolicClause → Type 0
@@ -148,13 +149,13 @@ no_later_taker : (p : MpiProgram) (world : World) (s t u : ℕ) → Hold world (
 no_later_taker p world s t u h below fit fits m n =
     let within = fit_within p s t (takes_fit p s t fit) in
     let parts = once_parts p world s t (at_pair p (clause_holds world) (without_later_pairs p) h s t within.0 within.1 fit) in
-    let each = each_of_mapped (λ clause. clause_holds world clause ≡ true) (not_with_taker s t) (filter (nat_lt t) (takers_of p s)) (each_passes (clause_holds world) (map (not_with_taker s t) (filter (nat_lt t) (takers_of p s))) parts.0) in
+    let each = each_of_map (λ clause. clause_holds world clause ≡ true) (not_with_taker s t) (filter (nat_lt t) (takers_of p s)) (each_passes (clause_holds world) (map (not_with_taker s t) (filter (nat_lt t) (takers_of p s))) parts.0) in
     let here = kept_twice_at (λ other. clause_holds world (not_with_taker s t other) ≡ true) (takes p s) (nat_lt t) p each u (fit_within p s u (takes_fit p s u fits)).1 fits (grind (arith, nat_tests)) in
     not_both (world.has (matched s t)) (world.has (matched s u)) here m n
 
 no_later_send : (p : MpiProgram) (world : World) (s u t : ℕ) → Hold world (without_later_sends p s t) → s < u → are_fit p u t ≡ true → world.has (matched s t) ≡ true → world.has (matched u t) ≡ true → ⊥
 no_later_send p world s u t h below fits m n =
-    let each = each_of_mapped (λ clause. clause_holds world clause ≡ true) (not_with_send s t) (filter (nat_lt s) (sends_of p t)) (each_passes (clause_holds world) (map (not_with_send s t) (filter (nat_lt s) (sends_of p t))) h) in
+    let each = each_of_map (λ clause. clause_holds world clause ≡ true) (not_with_send s t) (filter (nat_lt s) (sends_of p t)) (each_passes (clause_holds world) (map (not_with_send s t) (filter (nat_lt s) (sends_of p t))) h) in
     let here = kept_twice_at (λ other. clause_holds world (not_with_send s t other) ≡ true) (λ other. are_fit p other t) (nat_lt s) p each u (fit_within p u t fits).0 fits (grind (arith, nat_tests)) in
     not_both (world.has (matched s t)) (world.has (matched u t)) here m n
 
@@ -195,7 +196,7 @@ sent_before p world s t e h m =
     let others = filter (λ other. not (other == t)) (takers_of p e) in
     let statements = map (λ other. is_true (matched e other)) others in
     let parts = and_parts (clause_holds world (is_false (matched s t) ∷ statements)) (clauses_hold world (map (after_other s t e) others)) h in
-    let each = each_of_mapped (λ clause. clause_holds world clause ≡ true) (after_other s t e) others (each_passes (clause_holds world) (map (after_other s t e) others) parts.1) in
+    let each = each_of_map (λ clause. clause_holds world clause ≡ true) (after_other s t e) others (each_passes (clause_holds world) (map (after_other s t e) others) parts.1) in
     let fits = each_kept (λ other. takes p e other ≡ true) (λ other. not (other == t)) (takers_of p e) (takers_take p e) in
     let found = found_mapped (λ other. (clause_holds world (after_other s t e other) ≡ true) × (takes p e other ≡ true)) (is_right world) (λ other. is_true (matched e other)) others (each_both (λ other. clause_holds world (after_other s t e other) ≡ true) (λ other. takes p e other ≡ true) others each fits) (or_then (world.has (matched s t)) _ parts.0 m) in
     record {
@@ -325,7 +326,7 @@ see_says p world s f h =
 taken_before : (p : MpiProgram) (world : World) (s f t : ℕ) → Hold world (seen_before_taken p s f) → takes p s t ≡ true → world.has (matched s f) ≡ true → world.has (matched s t) ≡ true → world.clock (match_of f) < world.clock (match_of t)
 taken_before p world s f t h taken m n =
     let clause = λ (u : ℕ). is_false (matched s f) ∷ is_false (matched s u) ∷ is_earlier (match_of f) (match_of u) ∷ [] in
-    let each = each_of_mapped (λ c. clause_holds world c ≡ true) clause (takers_of p s) (each_passes (clause_holds world) (map clause (takers_of p s)) h) in
+    let each = each_of_map (λ c. clause_holds world c ≡ true) clause (takers_of p s) (each_passes (clause_holds world) (map clause (takers_of p s)) h) in
     let here = kept_at (λ u. clause_holds world (clause u) ≡ true) (takes p s) (length p.calls) each t (fit_within p s t (takes_fit p s t taken)).1 taken in
     ltb-true _ _ (or_only _ (or_then_then (world.has (matched s f)) (world.has (matched s t)) _ here m n))
 

@@ -28,10 +28,11 @@ use Rattle.formula_from_run.proofs.Ranks.{beyond, true_from_not}
 use Rattle.formula_from_run.proofs.Returns.{condition_holds, returned_is, NamesRightly, names_rightly}
 use Rattle.formula_from_run.proofs.Starts.{there_within, one_rank}
 use Rattle.formula_from_run.proofs.Waits.{names_issued}
-use Rattle.run_from_formula.proofs.Along.{or_then, or_then_then, or_only, or_first, each_passes, each_of_mapped, kept_at}
+use Rattle.run_from_formula.proofs.Along.{or_then, or_then_then, or_only, or_first, each_passes, kept_at}
 use Rattle.run_from_formula.proofs.Consequences.{Hold, IsLeft, Consequences}
 use Rattle.run_from_formula.proofs.Returning.{previous_is, names_standard}
 use Rattle.run_from_formula.proofs.Stages.{IsStage, before_first, first_most}
+use Rattle.formula.proofs.Times.{each_of_map}
 
 -- ---- what the end says of the world
 
@@ -47,7 +48,7 @@ some_there (Some u) h = (u, refl)
 clause_at : (world : World) (p : MpiProgram) (clause : ℕ → SymbolicClause) (keep : ℕ → Bool) → Hold world (map clause (filter keep (places p))) → (k : ℕ) → k < length p.calls → keep k ≡ true → clause_holds world (clause k) ≡ true
 clause_at world p clause keep h k below passes =
     kept_at (λ x. clause_holds world (clause x) ≡ true) keep (length p.calls)
-    (each_of_mapped (λ c. clause_holds world c ≡ true) clause (filter keep (places p)) (each_passes (clause_holds world) (map clause (filter keep (places p))) h)) k below passes
+    (each_of_map (λ c. clause_holds world c ≡ true) clause (filter keep (places p)) (each_passes (clause_holds world) (map clause (filter keep (places p))) h)) k below passes
 
 module _ (p : MpiProgram) (world : World) (is : IsProgram p) (says : Consequences p world) (m : Configuration) (stage : IsStage p world m []) where
   issued_end : (c : ℕ) → is_issued p m c ≡ true → world.has (issued c) ≡ true

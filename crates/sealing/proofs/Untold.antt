@@ -17,7 +17,7 @@ use Rattle.run_laws.specs.Laws.{IsInRankOrder}
 use Rattle.races.specs.Races.{MatchesWithin}
 use Rattle.races.specs.Tells.{Table, tells_return_call, IsJustified}
 use Rattle.knowledge.specs.Knowledge.{column_table, with_partners}
-use Rattle.knowledge.proofs.Less.{Within}
+use Rattle.knowledge.proofs.Less.{Within, or_both}
 use Rattle.sealing.specs.declared.loose.Loose.{Loose}
 use Rattle.sealing.specs.declared.ends.Findings.{Findings}
 use Rattle.sealing.specs.declared.finders.Finder.{Finder}
@@ -25,7 +25,7 @@ use Rattle.sealing.specs.Sure.{HasSurePartners}
 use Rattle.sealing.specs.Loose.{IsOfAnySource, IsUntold, IsLoose, AreLoose}
 use Rattle.sealing.specs.parts.Sides.{HasAllSure}
 use Rattle.sealing.specs.parts.Ends.{IsLastCall, AreLasts, AreFindings, tells_end, tells_finish, finder_with, finder_there, finder_at, sent_to, Lists, IsUntoldBelow, Adds, IsLooseBelow, AreLooseBelow}
-use Rattle.sealing.proofs.More.{or_both, return_more, justified_more}
+use Rattle.sealing.proofs.More.{return_more, justified_more}
 use Rattle.sealing.proofs.Numbered.{unless}
 
 -- ---- the last calls
